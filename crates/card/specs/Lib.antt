@@ -1,0 +1,18 @@
+-- A card's bytes, loading, one step, judging; and what each answer means.
+pub mod Mark
+pub mod Rows
+pub mod Layout
+pub mod LayoutLaws
+pub mod Alphabet
+pub mod Load
+pub mod LoadLaws
+pub mod Loads
+pub mod Verdict
+pub mod Allowed
+pub mod Judge
+pub mod JudgeLaws
+pub mod Step
+pub mod Same
+pub mod Write
+pub mod Words
+pub mod Demand

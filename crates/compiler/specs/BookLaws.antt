@@ -1,0 +1,222 @@
+-- Compiled books are right: the kept machine of an accepted book is canonical, accepts exactly the plans of letters that the book allows, and no word
+-- that has a mark.
+use mathlib.Core.Path.{_≡_, refl, sym, _∙_, subst}
+use mathlib.Core.Bool.{Bool, true, false, _&&_}
+use mathlib.Core.Logic.{_↔_}
+use mathlib.Core.List.{List, [], _∷_}
+use Prim.Native.Nat.{ℕ, suc}
+use lib.ListN.{length}
+use lib.Dec.{eqb, ltb}
+use Rattle.automata.specs.Booleans.{choose, and-left, and-right, and-both}
+use Rattle.automata.specs.Automaton.{Over, over-more, accepts}
+use Rattle.automata.specs.Machine.{Machine, automaton, Canonical}
+use Rattle.automata.specs.Stage.{Limits, Made, made, refused, thenMade, Keeps, then-keeps}
+use Rattle.automata.specs.Stages.{both, pairStage}
+use Rattle.language.specs.Cuts.{Word}
+use Rattle.language.specs.Language.{Language, allWords, allWords-sound, allWords-whole, intersection}
+use Rattle.language.specs.Restriction.{restriction}
+use Rattle.language.specs.GivenLaws.{all-recognizes}
+use Rattle.language.specs.Expression.{member}
+use Rattle.language.specs.Environment.{namesOf, known, allKnown}
+use Rattle.language.specs.Evaluate.{compile, compileRule}
+use Rattle.language.specs.Matches.{matches, contextsIn, Rule, obeys, Obeys, obeys-sound, obeys-whole}
+use Rattle.language.specs.ExpressionLaws.{Right, right-same, right-marks, EnvRight, keeps-map, pair-right, expression-right}
+use Rattle.language.specs.RuleLaws.{rule-right}
+use Rattle.book.specs.Text.{Line, linesOf, lineTest, isHead, lettersOf, Form, define, rule, spoiled, formOf}
+use Rattle.compiler.specs.Allows.{onForm, rulesOf, bookLetters, bookRules, allowsLines, allows}
+use Rattle.compiler.specs.Book.{Draft, LineResult, on, off, onMade, compileForm, compileLine, BookResult, done, stopped, afterLine, compileLines, startDraft, compileHead, compileText, compileBook}
+
+-- what holds of an accepted book's letters and draft
+abbrev pub Accepts : (List ℕ → Draft → Type 0) → BookResult → Type 0
+Accepts P (done ls d) = P ls d
+Accepts P (stopped r l) = Unit {0}
+
+-- The machines of the names are right for the languages of the names, and the kept machine for K.
+pub record DraftRight (m : ℕ) (d : Draft) (ys : List (ℕ × Language)) (K : Language) : Type 0 where
+  pub env : EnvRight m (d .env) ys
+  pub kept : Right m (d .kept) K
+
+choose-accepts : (P : List ℕ → Draft → Type 0) (b : Bool) (f g : Unit {0} → BookResult) → (b ≡ true → Accepts P (f tt)) → (b ≡ false → Accepts P (g tt)) → Accepts P (choose b f g)
+choose-accepts P true f g h k = h refl
+choose-accepts P false f g h k = k refl
+
+module _ (lim : Limits) (ls : List ℕ) where
+  abbrev m : ℕ
+  m = length ls
+
+  abbrev all : Language
+  all = allWords (length ls)
+
+  -- The kept machine is right for K with the rules rs.
+  abbrev Final : Language → List Rule → List ℕ → Draft → Type 0
+  Final K rs ls′ d = Right (length ls′) (d .kept) (λ w. K w && obeys rs w)
+
+  abbrev Rest : List Line → ℕ → Type 0
+  Rest rest at = (d : Draft) (ys : List (ℕ × Language)) (K : Language) → DraftRight m d ys K → Accepts (Final K (rulesOf rest ls ys)) (compileLines lim ls rest at d)
+
+  -- a line that is refused, or goes on
+  line-choose : (P : List ℕ → Draft → Type 0) (f : Draft → BookResult) (g : ℕ → BookResult) (b : Bool) (x y : Unit {0} → LineResult)
+      → (b ≡ true → Accepts P (afterLine (x tt) f g)) → (b ≡ false → Accepts P (afterLine (y tt) f g)) → Accepts P (afterLine (choose b x y) f g)
+  line-choose P f g true x y h k = h refl
+  line-choose P f g false x y h k = k refl
+
+  made-line : (P : List ℕ → Draft → Type 0) (Q : Machine → Type 0) (f : Draft → BookResult) (at : ℕ) (r : Made) (c : ℕ → Machine → LineResult) → Keeps Q r
+      → ((peak : ℕ) (M : Machine) → Q M → Accepts P (afterLine (c peak M) f (λ r. stopped r at))) → Accepts P (afterLine (onMade r c) f (λ r. stopped r at))
+  made-line P Q f at (made peak M) c q h = h peak M q
+  made-line P Q f at (refused r) c q h = tt
+
+  and-assoc : (a b c : Bool) → (a && b) && c ≡ a && (b && c)
+  and-assoc true b c = refl
+  and-assoc false b c = refl
+
+  -- K has words of letters only, so that `.*` in it changes nothing
+  meet : (K L : Language) → (M : Machine) → Right m M K → (w : Word) → K w && (all w && L w) ≡ K w && L w
+  meet K L M r w = go (K w) refl
+    where
+      go : (b : Bool) → K w ≡ b → b && (all w && L w) ≡ b && L w
+      go true e = rw (allWords-whole m w (r .letters w e))
+      go false e = refl
+
+  form-right : (rest : List Line) (at : ℕ) (d : Draft) (ys : List (ℕ × Language)) (K : Language) → DraftRight m d ys K → Rest rest (suc at) → (F : Form)
+      → Accepts (Final K (onForm ls ys F (λ env₁. rulesOf rest ls env₁))) (afterLine (compileForm lim ls d F) (λ d₁. compileLines lim ls rest (suc at) d₁) (λ r. stopped r at))
+  unfolding compileForm
+  form-right rest at d ys K h ih spoiled = tt
+  form-right rest at d ys K h ih (define x e) =
+      line-choose goal f g (known ls names e) _ _
+      (λ k. line-choose goal f g (member x names) _ _ (λ t. tt)
+      (λ t. made-line goal (λ M. Right m M (matches ls ys e)) f at (compile lim ls (d .env) e (d .peak)) _
+      (expression-right lim ls names (d .env) ys (h .env) e (d .peak) k)
+      (λ peak M r. ih (record { env = (x, M) ∷ d .env; peak = peak; ruled = d .ruled; kept = d .kept }) ((x, matches ls ys e) ∷ ys) K
+      (record { env = (refl, r, h .env); kept = h .kept }))))
+      (λ k. tt)
+    where
+      names : List ℕ
+      names = namesOf (d .env)
+
+      goal : List ℕ → Draft → Type 0
+      goal = Final K (rulesOf rest ls ((x, matches ls ys e) ∷ ys))
+
+      f : Draft → BookResult
+      f d₁ = compileLines lim ls rest (suc at) d₁
+
+      g : ℕ → BookResult
+      g r = stopped r at
+  form-right rest at d ys K h ih (rule p cs) =
+      line-choose goal f g (known ls names p && allKnown ls names cs) _ _
+      (λ k. made-line goal (λ M. Right m M (λ w. K w && rs w)) f at
+      (thenMade (compileRule lim ls (d .env) p cs (d .peak)) (λ peak R. pairStage lim (suc m) both (d .kept) R peak)) _
+      (then-keeps (λ R. Right m R (intersection all rs)) (λ M. Right m M (λ w. K w && rs w)) (compileRule lim ls (d .env) p cs (d .peak)) _
+      (rule-right lim ls names (d .env) ys (h .env) p cs (d .peak) (and-left (known ls names p) (allKnown ls names cs) k) (and-right (known ls names p) (allKnown ls names cs) k))
+      (λ peak R r. keeps-map (λ M. Right m M (intersection K (intersection all rs))) (λ M. Right m M (λ w. K w && rs w)) (pairStage lim (suc m) both (d .kept) R peak)
+      (λ M q. right-same m M (intersection K (intersection all rs)) (λ w. K w && rs w) (meet K rs (d .kept) (h .kept)) q)
+      (pair-right lim m both (d .kept) R K (intersection all rs) peak (h .kept) r)))
+      (λ peak M r. again (compileLines lim ls rest (suc at) (record { env = d .env; peak = peak; ruled = true; kept = M }))
+      (ih (record { env = d .env; peak = peak; ruled = true; kept = M }) ys (λ w. K w && rs w) (record { env = h .env; kept = r }))))
+      (λ k. tt)
+    where
+      names : List ℕ
+      names = namesOf (d .env)
+
+      rs : Language
+      rs = restriction (matches ls ys p) (contextsIn ls ys cs)
+
+      goal : List ℕ → Draft → Type 0
+      goal = Final K (record { pattern = matches ls ys p; contexts = contextsIn ls ys cs } ∷ rulesOf rest ls ys)
+
+      f : Draft → BookResult
+      f d₁ = compileLines lim ls rest (suc at) d₁
+
+      g : ℕ → BookResult
+      g r = stopped r at
+
+      again : (b : BookResult) → Accepts (Final (λ w. K w && rs w) (rulesOf rest ls ys)) b → Accepts goal b
+      again (done ls′ d′) r = right-same (length ls′) (d′ .kept) (λ w. (K w && rs w) && obeys (rulesOf rest ls ys) w) (λ w. K w && (rs w && obeys (rulesOf rest ls ys) w)) (λ w. and-assoc (K w) (rs w) (obeys (rulesOf rest ls ys) w)) r
+      again (stopped r l) t = tt
+
+  and-true : (b : Bool) → b ≡ b && true
+  and-true true = refl
+  and-true false = refl
+
+  pub lines-right : (lines : List Line) (at : ℕ) → Rest lines at
+  unfolding compileLines compileLine
+  lines-right [] at d ys K h =
+      choose-accepts (Final K []) (d .ruled) (λ _. done ls d) (λ _. stopped 10 0) (λ e. right-same m (d .kept) K (λ w. K w && true) (λ w. and-true (K w)) (h .kept)) (λ e. tt)
+  lines-right (l ∷ rest) at d ys K h =
+      line-choose (Final K (rulesOf (l ∷ rest) ls ys)) (λ d₁. compileLines lim ls rest (suc at) d₁) (λ r. stopped r at) (eqb (lineTest l) 0) _ _
+      (λ e. form-right rest at d ys K h (lines-right rest (suc at)) (formOf (l .bytes))) (λ e. tt)
+
+  -- the letters of an accepted book
+  lines-letters : (lines : List Line) (at : ℕ) (d : Draft) → Accepts (λ ls′ d′. ls′ ≡ ls) (compileLines lim ls lines at d)
+  unfolding compileLines
+  lines-letters [] at d = choose-accepts (λ ls′ d′. ls′ ≡ ls) (d .ruled) (λ _. done ls d) (λ _. stopped 10 0) (λ e. refl) (λ e. tt)
+  lines-letters (l ∷ rest) at d = go (compileLine lim ls d l) (lines-letters rest (suc at))
+    where
+      go : (r : LineResult) → ((d₁ : Draft) → Accepts (λ ls′ d′. ls′ ≡ ls) (compileLines lim ls rest (suc at) d₁))
+          → Accepts (λ ls′ d′. ls′ ≡ ls) (afterLine r (λ d₁. compileLines lim ls rest (suc at) d₁) (λ r. stopped r at))
+      go (on d₁) f = f d₁
+      go (off r) f = tt
+
+pub book-letters : (lim : Limits) (text : List ℕ) → Accepts (λ ls d. ls ≡ bookLetters (linesOf text)) (compileBook lim text)
+unfolding compileBook compileText compileHead
+book-letters lim text = choose-accepts (λ ls d. ls ≡ bookLetters (linesOf text)) (ltb 16384 (length text)) _ _ (λ e. tt) (λ e. lines (linesOf text))
+  where
+    lines : (ts : List Line) → Accepts (λ ls d. ls ≡ bookLetters ts) (compileText lim ts)
+    lines [] = tt
+    lines (l ∷ rest) =
+        choose-accepts (λ ls d. ls ≡ lettersOf l) (eqb (lineTest l) 0) _ _
+        (λ e. choose-accepts (λ ls d. ls ≡ lettersOf l) (isHead (l .bytes)) _ _ (λ e. lines-letters lim (lettersOf l) rest 2 (startDraft (length (lettersOf l)))) (λ e. tt))
+        (λ e. tt)
+
+-- BOOKS. The kept machine of an accepted book is right for the plans that the book allows.
+pub book-right : (lim : Limits) (text : List ℕ) → Accepts (λ ls d. Right (length ls) (d .kept) (allows text)) (compileBook lim text)
+unfolding compileBook compileText compileHead
+book-right lim text = choose-accepts goal (ltb 16384 (length text)) _ _ (λ e. tt) (λ e. lines (linesOf text))
+  where
+    goal : List ℕ → Draft → Type 0
+    goal ls d = Right (length ls) (d .kept) (allows text)
+
+    lines : (ts : List Line) → Accepts (λ ls d. Right (length ls) (d .kept) (allowsLines ts)) (compileText lim ts)
+    lines [] = tt
+    lines (l ∷ rest) =
+        choose-accepts goal′ (eqb (lineTest l) 0) _ _
+        (λ e. choose-accepts goal′ (isHead (l .bytes)) _ _
+        (λ e. lines-right lim (lettersOf l) rest 2 (startDraft n) [] (allWords n) (record { env = tt; kept = record { recognizes = all-recognizes n; letters = allWords-sound n } }))
+        (λ e. tt))
+        (λ e. tt)
+      where
+        n : ℕ
+        n = length (lettersOf l)
+
+        goal′ : List ℕ → Draft → Type 0
+        goal′ ls d = Right (length ls) (d .kept) (allowsLines (l ∷ rest))
+
+-- ---- the same of a text that is accepted
+
+module _ (lim : Limits) (text : List ℕ) (ls : List ℕ) (d : Draft) (e : compileBook lim text ≡ done ls d) where
+  pub accepted-right : Right (length ls) (d .kept) (allows text)
+  accepted-right = subst (Accepts (λ ls d. Right (length ls) (d .kept) (allows text))) e (book-right lim text)
+
+  pub accepted-canonical : Canonical (suc (length ls)) (d .kept)
+  accepted-canonical = accepted-right .recognizes .canonical
+
+  -- A plan of the book's letters is accepted just when the book allows it,
+  pub accepted-exact : (w : Word) → Over (length ls) w → accepts (automaton (d .kept)) w ≡ allows text w
+  accepted-exact w o = accepted-right .recognizes .exact w (over-more (length ls) w o)
+
+  -- and a word that has a mark never.
+  pub accepted-marks : (w : Word) → Over (suc (length ls)) w → (Over (length ls) w → ⊥) → accepts (automaton (d .kept)) w ≡ false
+  accepted-marks w o n = right-marks (length ls) (d .kept) (allows text) accepted-right w o n
+
+  pub accepted-letters : ls ≡ bookLetters (linesOf text)
+  accepted-letters = subst (Accepts (λ ls d. ls ≡ bookLetters (linesOf text))) e (book-letters lim text)
+
+  -- THE DEMAND. A plan of the book's letters is accepted exactly when, for every rule and every cut of the plan into left, middle and right with the
+  -- middle in the rule's pattern, one listed context has both that left and that right.
+  pub accepted-iff : (w : Word) → Over (length ls) w → (accepts (automaton (d .kept)) w ≡ true) ↔ Obeys (bookRules (linesOf text)) w
+  accepted-iff w o = (
+    λ t. obeys-sound (bookRules (linesOf text)) w (and-right (allWords (length (bookLetters (linesOf text))) w) (obeys (bookRules (linesOf text)) w) (sym (accepted-exact w o) ∙ t)),
+    λ h. accepted-exact w o ∙ and-both (allWords (length (bookLetters (linesOf text))) w) (obeys (bookRules (linesOf text)) w) letters (obeys-whole (bookRules (linesOf text)) w h),
+  )
+    where
+      letters : allWords (length (bookLetters (linesOf text))) w ≡ true
+      letters = allWords-whole (length (bookLetters (linesOf text))) w (subst (λ l. Over (length l) w) accepted-letters o)

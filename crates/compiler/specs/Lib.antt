@@ -1,0 +1,6 @@
+-- A book compiled: its lines in order, its refusals, what it allows, and that the kept machine is right.
+pub mod Allows
+pub mod Book
+pub mod BookLaws
+pub mod Bounds
+pub mod Consequences

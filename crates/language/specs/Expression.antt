@@ -1,0 +1,24 @@
+-- Expressions, and the reader of a choice: choice, blend, chain, item and atom call each other. A byte is its number; spaces are gone already.
+use Prim.Native.Nat.{ℕ}
+use mathlib.Core.Bool.{Bool}
+use mathlib.Core.List.{List}
+use lib.Dec.{ltb}
+use lib.ListN.{length}
+use Rattle.automata.specs.Basics.{nat-test, find}
+use Rattle.automata.specs.Stages.{Pairing}
+
+-- `every` is the `.*` that the paper puts in: "`!A` is `.*-A`".
+pub data Expr : Type 0 where
+  letter : ℕ → Expr
+  name : ℕ → Expr
+  dot : Expr
+  empty : Expr
+  every : Expr
+  pair : Pairing → Expr → Expr → Expr
+  join : Expr → Expr → Expr
+  star : Expr → Expr
+  plus : Expr → Expr
+
+-- x stands in the list
+abbrev pub member : ℕ → List ℕ → Bool
+member x l = ltb (find nat-test x l) (length l)

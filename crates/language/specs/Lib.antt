@@ -1,0 +1,14 @@
+-- Sets of plans: expressions, the context restriction, the marked construction, and what each stage, expression and rule accepts.
+pub mod Cuts
+pub mod Language
+pub mod Restriction
+pub mod Marked
+pub mod Recognizes
+pub mod GivenLaws
+pub mod StageLaws
+pub mod Expression
+pub mod Environment
+pub mod Evaluate
+pub mod Matches
+pub mod ExpressionLaws
+pub mod RuleLaws
