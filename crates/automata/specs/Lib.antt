@@ -21,6 +21,7 @@ pub mod NumberingTest
 pub mod Scan
 pub mod ReducedTest
 pub mod Refinement
+pub mod Format
 pub mod Stage
 pub mod Given
 pub mod Stages

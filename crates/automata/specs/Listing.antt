@@ -304,8 +304,8 @@ module _ {S : Type 0} (E : Test S) (A : Automaton S) (k : ℕ) where
       (λ i m hi hm e. listed j .distinct i m hi hm (apart _ _ (listed j .reached i hi) (listed j .reached m hm) e))
 
   -- More than n entries: n + 1 distinct reached states.
-  pub listing-crowd : (j n : ℕ) → n < length (listing E A k j) → (f : ℕ → S) × ((i : ℕ) → i < suc n → Reachable k A (f i)) × Inj (suc n) f
-  listing-crowd j n h =
+  pub listing-more : (j n : ℕ) → n < length (listing E A k j) → (f : ℕ → S) × ((i : ℕ) → i < suc n → Reachable k A (f i)) × Inj (suc n) f
+  listing-more j n h =
       (λ i. getD (listing E A k j) i (A .start), λ i b. listed j .reached i (le-trans b h), λ i m hi hm e. listed j .distinct i m (le-trans hi h) (le-trans hm h) e)
 
   -- A whole listing is the longest: there are no more distinct reached states than it has entries.

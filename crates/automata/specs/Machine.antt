@@ -1,4 +1,4 @@
--- Machines of numbered states; canonical ones: well formed, numbered by first arrival, without twins. A canonical machine is the only one that
+-- Machines of numbered states; canonical ones: well formed, numbered by first arrival, no two states equivalent. A canonical machine is the only one that
 -- accepts its words (`unique`), and no complete deterministic machine that does has fewer states (`minimal`).
 use mathlib.Core.Path.{_≡_, refl, sym, ap, _∙_, subst}
 use mathlib.Core.Bool.{Bool, false}
@@ -53,13 +53,13 @@ Numbered k M = listing nat-test (automaton M) k (size M) ≡ range (size M)
 abbrev pub Equivalent : ℕ → Machine → ℕ → ℕ → Type 0
 Equivalent k M p q = Agree k (automaton M) (automaton M) p q
 
-abbrev pub NoTwins : ℕ → Machine → Type 0
-NoTwins k M = (p q : ℕ) → p < size M → q < size M → Equivalent k M p q → p ≡ q
+abbrev pub Reduced : ℕ → Machine → Type 0
+Reduced k M = (p q : ℕ) → p < size M → q < size M → Equivalent k M p q → p ≡ q
 
 pub record Canonical (k : ℕ) (M : Machine) : Type 0 where
   pub formed : WellFormed k M
   pub numbered : Numbered k M
-  pub apart : NoTwins k M
+  pub apart : Reduced k M
 
 pub run-inside : (k : ℕ) (M : Machine) → WellFormed k M → (p : ℕ) (w : List ℕ) → p < size M → Over k w → run (automaton M) p w < size M
 run-inside k M f p [] h o = h

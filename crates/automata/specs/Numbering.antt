@@ -1,5 +1,5 @@
--- What a reader of a card can test with two counters: the numbering (each move leads to a state seen before, or to the next new one). And twins
--- by the classes.
+-- What a reader of a card can test with two counters: the numbering (each move leads to a state seen before, or to the next new one). And equivalent
+-- states by the classes.
 use mathlib.Core.Path.{_≡_, refl, sym, ap, _∙_}
 use mathlib.Core.Logic.{_⊎_, inl, inr}
 use mathlib.Core.List.{List, [], _∷_, _++_}
@@ -11,7 +11,7 @@ use lib.Seq.{ext-getD, getD-append-seam}
 use Rattle.automata.specs.Basics.{LtCases, nat-test, lt-cases, find, find-at, find-least, tab, range, length-tab, getD-tab}
 use Rattle.automata.specs.Automaton.{Automaton}
 use Rattle.automata.specs.Listing.{Extends, extends-refl, extends-trans, add, add-cases, add-extends, addTo, turn, turn-cases, listing, listing-extends, listing-stays}
-use Rattle.automata.specs.Machine.{Machine, size, automaton, WellFormed, Numbered, NoTwins}
+use Rattle.automata.specs.Machine.{Machine, size, automaton, WellFormed, Numbered, Reduced}
 use Rattle.automata.specs.Partition.{classes, classes-whole, classes-low, classes-equivalent, classes-length}
 
 pub tab-snoc : {A : Type 0} (f : ℕ → A) (n : ℕ) → tab f n ++ (f n ∷ []) ≡ tab f (suc n)
@@ -165,15 +165,15 @@ module _ (k : ℕ) (M : Machine) where
       let u = upto N (size M) (le-refl (size M)) in
       record { before = u .before; next = u .next; all = sym (length-range (seen k M (size M))) ∙ ap length (sym (u .list) ∙ N) ∙ length-range (size M) }
 
--- ---- twins
+-- ---- equivalent states
 
--- There are no twins just when each state stands for its own class.
-pub apart-classes : (k : ℕ) (M : Machine) → WellFormed k M → NoTwins k M → classes k M ≡ range (size M)
+-- No two states are equivalent just when each state stands for its own class.
+pub apart-classes : (k : ℕ) (M : Machine) → WellFormed k M → Reduced k M → classes k M ≡ range (size M)
 apart-classes k M F a =
     ext-getD zero (classes k M) (range (size M)) (classes-length k M F ∙ sym (length-range (size M))) λ p b.
     let h : p < size M = rw (classes-length k M F) at b in
     a (getD (classes k M) p zero) p (le-trans (suc-le-suc (classes-low k M F p h)) h) h (classes-equivalent k M F p h) ∙ sym (range-at (size M) p h)
 
-pub classes-apart : (k : ℕ) (M : Machine) → WellFormed k M → classes k M ≡ range (size M) → NoTwins k M
+pub classes-apart : (k : ℕ) (M : Machine) → WellFormed k M → classes k M ≡ range (size M) → Reduced k M
 classes-apart k M F e p q hp hq a =
     sym (ap (λ l. getD l p zero) e ∙ range-at (size M) p hp) ∙ classes-whole k M F p q hp hq a ∙ ap (λ l. getD l q zero) e ∙ range-at (size M) q hq

@@ -11,7 +11,7 @@ use Rattle.automata.specs.Booleans.{not-true}
 use Rattle.automata.specs.Basics.{LtCases, lt-cases, nat-test}
 use Rattle.automata.specs.Automaton.{Over, over-append, run, run-append, accepts, Reachable, over-more}
 use Rattle.automata.specs.Listing.{listing, listed, listing-bound}
-use Rattle.automata.specs.Machine.{Machine, size, automaton, WellFormed, Numbered, NoTwins, Canonical, Agree, SameWords, run-inside}
+use Rattle.automata.specs.Machine.{Machine, size, automaton, WellFormed, Numbered, Reduced, Canonical, Agree, SameWords, run-inside}
 use Rattle.automata.specs.Smallest.{tabulated, tabulated-size, tabulated-formed, tabulated-numbered, tabulated-words, tabulated-agree}
 
 -- The machine over its first m columns: the states that words of these reach, numbered by first arrival.
@@ -83,7 +83,7 @@ module _ (m : ℕ) (M : Machine) (C : Canonical (suc m) M) (U : Unmarked m M) wh
       up : (i : ℕ) → i < length L → Agree m (automaton M) (automaton (tabulated nat-test (automaton M) m L)) (getD L i zero) i
       up i h = tabulated-agree nat-test (automaton M) m (size M) (bound m M (C .formed)) i h
 
-      apart : NoTwins m (tabulated nat-test (automaton M) m L)
+      apart : Reduced m (tabulated nat-test (automaton M) m L)
       apart i j hi hj a = listed nat-test (automaton M) m (size M) .distinct i j (inn i hi) (inn j hj)
           (C .apart (getD L i zero) (getD L j zero) (low i (inn i hi)) (low j (inn j hj)) λ w o. at w o (over-dec m w))
         where

@@ -13,7 +13,7 @@ use Rattle.automata.specs.Automaton.{Automaton, run, Reachable}
 use Rattle.automata.specs.Basics.{LtCases, lt-cases, Inj, pigeonhole, Test, same-iff, nat-test, find, find-at, tab, range, length-tab, getD-tab}
 use Rattle.automata.specs.Listing.{listing, listed, find-in, listing-turns, listing-bound}
 use Rattle.automata.specs.Simulation.{Both, both-length, both-getD, both-listing, both-run}
-use Rattle.automata.specs.Machine.{Machine, size, automaton, WellFormed, Numbered, Equivalent, NoTwins, Canonical, Agree, SameWords, unique}
+use Rattle.automata.specs.Machine.{Machine, size, automaton, WellFormed, Numbered, Equivalent, Reduced, Canonical, Agree, SameWords, unique}
 use Rattle.automata.specs.Partition.{getD-map, classes, classes-whole, classes-low, classes-again, classes-equivalent}
 
 -- ---- the machine of a listing
@@ -166,7 +166,7 @@ module _ (k : ℕ) (M : Machine) (F : WellFormed k M) where
   unfolding smallest smallestBy
   smallest-words w o = quotient-agree zero zero for-start w o ∙ tabulated-words nat-test Q k (size M) quotient-bound w o
 
-  smallest-apart : NoTwins k (smallest k M)
+  smallest-apart : Reduced k (smallest k M)
   unfolding smallest smallestBy For
   smallest-apart i j hi hj a =
       listed nat-test Q k (size M) .distinct i j (inn i hi) (inn j hj)

@@ -1,8 +1,8 @@
 -- A stage: "it makes sets, then the smallest machine". Its limits, its sets counted, what it keeps, and its two refusals.
 use mathlib.Core.Path.{_≡_, refl, sym, ap, _∙_}
 use mathlib.Core.Logic.{inl, inr, _↔_}
-use mathlib.Core.List.{List}
-use Prim.Native.Nat.{ℕ, zero, suc, _≤_, _<_, max}
+use mathlib.Core.List.{List, [], _∷_, _++_}
+use Prim.Native.Nat.{ℕ, zero, suc, _≤_, _<_}
 use native.Mathlib.Nat.{le-refl, le-trans}
 use native.Mathlib.Omega.{arith}
 use lib.ListN.{length, getD}
@@ -10,36 +10,39 @@ use lib.Dec.{ltb}
 use Rattle.automata.specs.Booleans.{choose}
 use Rattle.automata.specs.Basics.{Test, LtCases, lt-cases, Inj, pigeonhole}
 use Rattle.automata.specs.Automaton.{Automaton, Reachable}
-use Rattle.automata.specs.Listing.{listing, listed, explore, explore-listing, listing-has, listing-crowd, listing-distinct}
+use Rattle.automata.specs.Listing.{listing, listed, explore, explore-listing, listing-has, listing-more, listing-distinct}
 use Rattle.automata.specs.Machine.{Machine, size, automaton, Canonical, SameWords, unique}
+use Rattle.automata.specs.Format.{Format}
 use Rattle.automata.specs.Smallest.{tabulated, smallest, smallestOf-canonical, smallestOf-words, smallestOf}
 
--- "A stage may make 512 sets; a kept machine may have 120 states."
-pub record Limits : Type 0 where
-  pub sets : ℕ
-  pub states : ℕ
-
-abbrev pub cardLimits : Limits
-cardLimits = record { sets = 512; states = 120 }
-
--- The peak so far with the machine that is kept, or the number of a refusal.
+-- What was made: the number of sets of each stage, in their order, with the machine that is kept; or the number of a refusal.
 pub data Made : Type 0 where
-  made : ℕ → Machine → Made
+  made : List ℕ → Machine → Made
   refused : ℕ → Made
 
-abbrev pub thenMade : Made → (ℕ → Machine → Made) → Made
-thenMade (made peak M) f = f peak M
+-- the same, behind stages that were made before
+abbrev pub after : List ℕ → Made → Made
+after counts (made more M) = made (counts ++ more) M
+after counts (refused r) = refused r
+
+-- What f makes of the kept machine, behind it.
+abbrev pub thenMade : Made → (Machine → Made) → Made
+thenMade (made counts M) f = after counts (f M)
 thenMade (refused r) f = refused r
 
--- 9: "its smallest machine has over 120 states". "The peak is the most sets that one stage of this book made."
-unfoldable pub keep : Limits → ℕ → ℕ → Machine → Made
-keep lim peak n M = choose (ltb (lim .states) (size M)) (λ _. refused 9) (λ _. made (max peak n) M)
+-- a machine that makes no sets: "these are given and make no sets"
+abbrev pub present : Machine → Made
+present M = made [] M
+
+-- 9: "its smallest machine has over 120 states"
+unfoldable pub keep : Format → ℕ → Machine → Made
+keep fmt n M = choose (ltb (fmt .mostStates) (size M)) (λ _. refused 9) (λ _. made (n ∷ []) M)
 
 -- 8: "a stage needs over 512 sets"; "8 before 9 in one stage". The sets over k columns are listed as far as one more than the limit.
-unfoldable pub stage : {S : Type 0} → Test S → Limits → ℕ → Automaton S → ℕ → Made
-stage E lim k A peak =
-    let L = explore E A k (suc (lim .sets)) in
-    choose (ltb (lim .sets) (length L)) (λ _. refused 8) (λ _. keep lim peak (length L) (smallest k (tabulated E A k L)))
+unfoldable pub stage : {S : Type 0} → Test S → Format → ℕ → Automaton S → Made
+stage E fmt k A =
+    let L = explore E A k (suc (fmt .mostSets)) in
+    choose (ltb (fmt .mostSets) (length L)) (λ _. refused 8) (λ _. keep fmt (length L) (smallest k (tabulated E A k L)))
 
 -- ---- what a stage does
 
@@ -59,16 +62,16 @@ pub record Smallest {S : Type 0} (k : ℕ) (A : Automaton S) (M : Machine) : Typ
   pub canonical : Canonical k M
   pub words : SameWords k A (automaton M)
 
-pub data StageResult {S : Type 0} (lim : Limits) (k : ℕ) (A : Automaton S) (peak : ℕ) : Made → Type 0 where
-  kept-one : (n : ℕ) (M : Machine) → Counts k A n → n ≤ lim .sets → Smallest k A M → size M ≤ lim .states → StageResult lim k A peak (made (max peak n) M)
-  crowded : MoreThan k A (lim .sets) → StageResult lim k A peak (refused 8)
-  oversize : (n : ℕ) (M : Machine) → Counts k A n → n ≤ lim .sets → Smallest k A M → lim .states < size M → StageResult lim k A peak (refused 9)
+pub data StageResult {S : Type 0} (fmt : Format) (k : ℕ) (A : Automaton S) : Made → Type 0 where
+  kept-one : (n : ℕ) (M : Machine) → Counts k A n → n ≤ fmt .mostSets → Smallest k A M → size M ≤ fmt .mostStates → StageResult fmt k A (made (n ∷ []) M)
+  too-many-sets : MoreThan k A (fmt .mostSets) → StageResult fmt k A (refused 8)
+  too-many-states : (n : ℕ) (M : Machine) → Counts k A n → n ≤ fmt .mostSets → Smallest k A M → fmt .mostStates < size M → StageResult fmt k A (refused 9)
 
-module _ {S : Type 0} (E : Test S) (lim : Limits) (k : ℕ) (A : Automaton S) (peak : ℕ) where
+module _ {S : Type 0} (E : Test S) (fmt : Format) (k : ℕ) (A : Automaton S) where
   turns : ℕ
-  turns = suc (lim .sets)
+  turns = suc (fmt .mostSets)
 
-  whole : length (listing E A k turns) ≤ lim .sets → Counts k A (length (listing E A k turns))
+  whole : length (listing E A k turns) ≤ fmt .mostSets → Counts k A (length (listing E A k turns))
   unfolding turns
   whole h = record {
     state = λ i. getD (listing E A k turns) i (A .start);
@@ -77,9 +80,9 @@ module _ {S : Type 0} (E : Test S) (lim : Limits) (k : ℕ) (A : Automaton S) (p
     all = λ s r. listing-has E A k turns (omega arith) s r;
   }
 
-  pub stage-result : StageResult lim k A peak (stage E lim k A peak)
+  pub stage-result : StageResult fmt k A (stage E fmt k A)
   unfolding stage keep turns smallestOf
-  stage-result = rw (explore-listing E A k (suc (lim .sets))) (go (lt-cases (lim .sets) (length L)))
+  stage-result = rw (explore-listing E A k (suc (fmt .mostSets))) (go (lt-cases (fmt .mostSets) (length L)))
     where
       L : List S
       L = listing E A k turns
@@ -87,17 +90,17 @@ module _ {S : Type 0} (E : Test S) (lim : Limits) (k : ℕ) (A : Automaton S) (p
       M : Machine
       M = smallest k (tabulated E A k L)
 
-      smallest-of : length L ≤ lim .sets → Smallest k A M
+      smallest-of : length L ≤ fmt .mostSets → Smallest k A M
       smallest-of h = record { canonical = smallestOf-canonical E A k turns (omega arith); words = smallestOf-words E A k turns (omega arith) }
 
-      sized : length L ≤ lim .sets → LtCases (lim .states) (size M) → StageResult lim k A peak (choose (ltb (lim .states) (size M)) (λ _. refused 9) (λ _. made (max peak (length L)) M))
-      sized h (inl p) = rw (p .1) (oversize (length L) M (whole h) h (smallest-of h) (p .0))
+      sized : length L ≤ fmt .mostSets → LtCases (fmt .mostStates) (size M) → StageResult fmt k A (choose (ltb (fmt .mostStates) (size M)) (λ _. refused 9) (λ _. made (length L ∷ []) M))
+      sized h (inl p) = rw (p .1) (too-many-states (length L) M (whole h) h (smallest-of h) (p .0))
       sized h (inr p) = rw (p .1) (kept-one (length L) M (whole h) h (smallest-of h) (p .0))
 
-      go : LtCases (lim .sets) (length L)
-          → StageResult lim k A peak (choose (ltb (lim .sets) (length L)) (λ _. refused 8) (λ _. choose (ltb (lim .states) (size M)) (λ _. refused 9) (λ _. made (max peak (length L)) M)))
-      go (inl p) = rw (p .1) (crowded (listing-crowd E A k turns (lim .sets) (p .0)))
-      go (inr p) = rw (p .1) (sized (p .0) (lt-cases (lim .states) (size M)))
+      go : LtCases (fmt .mostSets) (length L)
+          → StageResult fmt k A (choose (ltb (fmt .mostSets) (length L)) (λ _. refused 8) (λ _. choose (ltb (fmt .mostStates) (size M)) (λ _. refused 9) (λ _. made (length L ∷ []) M)))
+      go (inl p) = rw (p .1) (too-many-sets (listing-more E A k turns (fmt .mostSets) (p .0)))
+      go (inr p) = rw (p .1) (sized (p .0) (lt-cases (fmt .mostStates) (size M)))
 
 -- There are not n reachable states and more than n.
 pub counts-most : {S : Type 0} (k : ℕ) (A : Automaton S) (n m : ℕ) → Counts k A n → n ≤ m → MoreThan k A m → ⊥
@@ -134,56 +137,60 @@ counts-unique k A n m C D = go (lt-cases n m) (lt-cases m n)
     go (inr p) (inl q) = absurd (counts-most k A m m D (le-refl m) (more m n C (q .0)))
     go (inr p) (inr q) = omega arith
 
--- CROWDED exactly when more sets than the limit can be reached.
-pub stage-crowded : {S : Type 0} (E : Test S) (lim : Limits) (k : ℕ) (A : Automaton S) (peak : ℕ) → (stage E lim k A peak ≡ refused 8) ↔ MoreThan k A (lim .sets)
-stage-crowded {S} E lim k A peak = (λ e. to (stage E lim k A peak) e (stage-result E lim k A peak), λ c. back (stage E lim k A peak) c (stage-result E lim k A peak))
+-- 8 exactly when more sets than the limit can be reached.
+pub stage-too-many-sets : {S : Type 0} (E : Test S) (fmt : Format) (k : ℕ) (A : Automaton S) → (stage E fmt k A ≡ refused 8) ↔ MoreThan k A (fmt .mostSets)
+stage-too-many-sets {S} E fmt k A = (λ e. to (stage E fmt k A) e (stage-result E fmt k A), λ c. back (stage E fmt k A) c (stage-result E fmt k A))
   where
-    to : (r : Made) → r ≡ refused 8 → StageResult lim k A peak r → MoreThan k A (lim .sets)
+    to : (r : Made) → r ≡ refused 8 → StageResult fmt k A r → MoreThan k A (fmt .mostSets)
     to r e (kept-one n M C h s b) = let z : _≡_ {A = ℕ} 0 1 = cc in absurd (omega arith)
-    to r e (crowded c) = c
-    to r e (oversize n M C h s b) = let z : _≡_ {A = ℕ} 9 8 = cc in absurd (omega arith)
+    to r e (too-many-sets c) = c
+    to r e (too-many-states n M C h s b) = let z : _≡_ {A = ℕ} 9 8 = cc in absurd (omega arith)
 
-    back : (r : Made) → MoreThan k A (lim .sets) → StageResult lim k A peak r → r ≡ refused 8
-    back r c (kept-one n M C h s b) = absurd (counts-most k A n (lim .sets) C h c)
-    back r c (crowded c′) = refl
-    back r c (oversize n M C h s b) = absurd (counts-most k A n (lim .sets) C h c)
+    back : (r : Made) → MoreThan k A (fmt .mostSets) → StageResult fmt k A r → r ≡ refused 8
+    back r c (kept-one n M C h s b) = absurd (counts-most k A n (fmt .mostSets) C h c)
+    back r c (too-many-sets c′) = refl
+    back r c (too-many-states n M C h s b) = absurd (counts-most k A n (fmt .mostSets) C h c)
 
 -- The smallest machine of an automaton is one machine.
 pub smallest-one : {S : Type 0} (k : ℕ) (A : Automaton S) (M N : Machine) → Smallest k A M → Smallest k A N → M ≡ N
 smallest-one k A M N s t = unique k M N (s .canonical) (t .canonical) (λ w o. sym (s .words w o) ∙ t .words w o)
 
--- OVERSIZE exactly when it is not crowded and its smallest machine has more states than the limit.
-pub stage-oversize : {S : Type 0} (E : Test S) (lim : Limits) (k : ℕ) (A : Automaton S) (peak : ℕ)
-    → (stage E lim k A peak ≡ refused 9) ↔ ((n : ℕ) × (M : Machine) × Counts k A n × (n ≤ lim .sets) × Smallest k A M × (lim .states < size M))
-stage-oversize {S} E lim k A peak = (λ e. to (stage E lim k A peak) e (stage-result E lim k A peak), λ c. back (stage E lim k A peak) c (stage-result E lim k A peak))
+-- 9 exactly when no more sets than the limit can be reached and its smallest machine has more states than the limit.
+pub stage-too-many-states : {S : Type 0} (E : Test S) (fmt : Format) (k : ℕ) (A : Automaton S)
+    → (stage E fmt k A ≡ refused 9) ↔ ((n : ℕ) × (M : Machine) × Counts k A n × (n ≤ fmt .mostSets) × Smallest k A M × (fmt .mostStates < size M))
+stage-too-many-states {S} E fmt k A = (λ e. to (stage E fmt k A) e (stage-result E fmt k A), λ c. back (stage E fmt k A) c (stage-result E fmt k A))
   where
     Over-size : Type 0
-    Over-size = (n : ℕ) × (M : Machine) × Counts k A n × (n ≤ lim .sets) × Smallest k A M × (lim .states < size M)
+    Over-size = (n : ℕ) × (M : Machine) × Counts k A n × (n ≤ fmt .mostSets) × Smallest k A M × (fmt .mostStates < size M)
 
-    to : (r : Made) → r ≡ refused 9 → StageResult lim k A peak r → Over-size
+    to : (r : Made) → r ≡ refused 9 → StageResult fmt k A r → Over-size
     to r e (kept-one n M C h s b) = let z : _≡_ {A = ℕ} 0 1 = cc in absurd (omega arith)
-    to r e (crowded c) = let z : _≡_ {A = ℕ} 8 9 = cc in absurd (omega arith)
-    to r e (oversize n M C h s b) = (n, M, C, h, s, b)
+    to r e (too-many-sets c) = let z : _≡_ {A = ℕ} 8 9 = cc in absurd (omega arith)
+    to r e (too-many-states n M C h s b) = (n, M, C, h, s, b)
 
-    back : (r : Made) → Over-size → StageResult lim k A peak r → r ≡ refused 9
+    back : (r : Made) → Over-size → StageResult fmt k A r → r ≡ refused 9
     back r (n, M, C, h, s, b) (kept-one n′ M′ C′ h′ s′ b′) = absurd (omega (arith, ap size (smallest-one k A M M′ s s′)))
-    back r (n, M, C, h, s, b) (crowded c) = absurd (counts-most k A n (lim .sets) C h c)
-    back r (n, M, C, h, s, b) (oversize n′ M′ C′ h′ s′ b′) = refl
+    back r (n, M, C, h, s, b) (too-many-sets c) = absurd (counts-most k A n (fmt .mostSets) C h c)
+    back r (n, M, C, h, s, b) (too-many-states n′ M′ C′ h′ s′ b′) = refl
 
 -- ---- what holds of the kept machine, if one is kept
 
 abbrev pub Keeps : (Machine → Type 0) → Made → Type 0
-Keeps P (made peak M) = P M
+Keeps P (made counts M) = P M
 Keeps P (refused r) = Unit {0}
 
-pub then-keeps : (P Q : Machine → Type 0) (r : Made) (f : ℕ → Machine → Made) → Keeps P r → ((peak : ℕ) (M : Machine) → P M → Keeps Q (f peak M)) → Keeps Q (thenMade r f)
-then-keeps P Q (made peak M) f p g = g peak M p
+pub after-keeps : (Q : Machine → Type 0) (counts : List ℕ) (r : Made) → Keeps Q r → Keeps Q (after counts r)
+after-keeps Q counts (made more M) q = q
+after-keeps Q counts (refused r) q = tt
+
+pub then-keeps : (P Q : Machine → Type 0) (r : Made) (f : Machine → Made) → Keeps P r → ((M : Machine) → P M → Keeps Q (f M)) → Keeps Q (thenMade r f)
+then-keeps P Q (made counts M) f p g = after-keeps Q counts (f M) (g M p)
 then-keeps P Q (refused r) f p g = tt
 
-pub stage-keeps : {S : Type 0} (E : Test S) (lim : Limits) (k : ℕ) (A : Automaton S) (peak : ℕ) (P : Machine → Type 0) → ((M : Machine) → Smallest k A M → P M) → Keeps P (stage E lim k A peak)
-stage-keeps {S} E lim k A peak P f = go (stage E lim k A peak) (stage-result E lim k A peak)
+pub stage-keeps : {S : Type 0} (E : Test S) (fmt : Format) (k : ℕ) (A : Automaton S) (P : Machine → Type 0) → ((M : Machine) → Smallest k A M → P M) → Keeps P (stage E fmt k A)
+stage-keeps {S} E fmt k A P f = go (stage E fmt k A) (stage-result E fmt k A)
   where
-    go : (r : Made) → StageResult lim k A peak r → Keeps P r
+    go : (r : Made) → StageResult fmt k A r → Keeps P r
     go r (kept-one n M C h s b) = f M s
-    go r (crowded c) = tt
-    go r (oversize n M C h s b) = tt
+    go r (too-many-sets c) = tt
+    go r (too-many-states n M C h s b) = tt

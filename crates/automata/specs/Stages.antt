@@ -6,7 +6,8 @@ use Rattle.automata.specs.Machine.{Machine}
 use Rattle.automata.specs.Flags.{flags-test}
 use Rattle.automata.specs.Subset.{subset}
 use Rattle.automata.specs.Operations.{product, pair-test, concatNFA, starNFA, eraseNFA}
-use Rattle.automata.specs.Stage.{Limits, Made, stage}
+use Rattle.automata.specs.Format.{Format}
+use Rattle.automata.specs.Stage.{Made, stage}
 
 -- `|`, `&`, `-`
 pub data Pairing : Type 0 where
@@ -18,20 +19,20 @@ combine both a b = a && b
 combine without a b = a && not b
 
 -- "`|`, `&`, `-`: a set is a pair reached from (0, 0)."
-unfoldable pub pairStage : Limits → ℕ → Pairing → Machine → Machine → ℕ → Made
-pairStage lim k o A B peak = stage pair-test lim k (product (combine o) A B) peak
+unfoldable pub pairStage : Format → ℕ → Pairing → Machine → Machine → Made
+pairStage fmt k o A B = stage pair-test fmt k (product (combine o) A B)
 
 -- "AB: sets of states of A and B together. Start with A's 0; a set with an accepting state of A gains B's 0. Accepting if it holds an accepting state
 -- of B." B's state q is the node size A + q.
-unfoldable pub concatStage : Limits → ℕ → Machine → Machine → ℕ → Made
-concatStage lim k A B peak = stage flags-test lim k (subset (concatNFA A B)) peak
+unfoldable pub concatStage : Format → ℕ → Machine → Machine → Made
+concatStage fmt k A B = stage flags-test fmt k (subset (concatNFA A B))
 
 -- "`A*`: states of A and an extra e without moves. Start with e and 0; a set with an accepting state of A gains e and 0. Accepting if it holds e."
 -- e is the node size A.
-unfoldable pub starStage : Limits → ℕ → Machine → ℕ → Made
-starStage lim k A peak = stage flags-test lim k (subset (starNFA A)) peak
+unfoldable pub starStage : Format → ℕ → Machine → Made
+starStage fmt k A = stage flags-test fmt k (subset (starNFA A))
 
 -- "Erase U: start with 0; a set gains whatever its members reach by one mark or more. Letters move it; a mark leads to the empty set, which stays
 -- itself. Accepting if a member is." The mark is the column m.
-unfoldable pub eraseStage : Limits → ℕ → Machine → ℕ → Made
-eraseStage lim m U peak = stage flags-test lim (suc m) (subset (eraseNFA m U)) peak
+unfoldable pub eraseStage : Format → ℕ → Machine → Made
+eraseStage fmt m U = stage flags-test fmt (suc m) (subset (eraseNFA m U))

@@ -1,4 +1,4 @@
--- The forms of the later lines, as 01 words them, and the theorem that `formOf` finds them: a line is spoiled exactly when it is of neither form.
+-- The forms of the later lines, as 01 words them, and the theorem that `formOf` finds them: a line is malformed exactly when it is of neither form.
 use Prim.Native.Nat.{ℕ, zero, suc, _≤_}
 use mathlib.Core.Path.{_≡_, refl, ap, ap₂, sym, _∙_, subst}
 use mathlib.Core.Bool.{Bool, true, false}
@@ -12,7 +12,7 @@ use Rattle.automata.specs.Basics.{nat-test}
 use Rattle.language.specs.Expression.{Expr}
 use Rattle.book.specs.Reader.{isName, Read, got, bad, readChoice}
 use Rattle.book.specs.Grammar.{Choice, Stops, inChoice, reader-sound, reader-whole}
-use Rattle.book.specs.Text.{Form, define, rule, spoiled, noSpaces, tailAt, onRead, contextsOf, defineAs, defineOf, ruleOf, formOf}
+use Rattle.book.specs.Text.{Form, define, rule, malformed, noSpaces, tailAt, onRead, contextsOf, defineAs, defineOf, ruleOf, formOf}
 
 -- "then per context `/`, a choice, `_`, a choice"
 pub data Contexts : List ℕ → List (Expr × Expr) → Type 0 where
@@ -38,7 +38,7 @@ is b n e = nat-test .sound b n e
 abbrev RuleIs : Expr → List (Expr × Expr) → List ℕ → Form → Type 0
 RuleIs p cs ts (rule p′ cs′) = (ds : List (Expr × Expr)) × (p ≡ p′) × (cs ++ ds ≡ cs′) × Contexts ts ds
 RuleIs p cs ts (define x e) = ⊥
-RuleIs p cs ts spoiled = Unit {0}
+RuleIs p cs ts malformed = Unit {0}
 
 abbrev go-on : ℕ → Expr → List (Expr × Expr) → Expr → List ℕ → Form
 go-on n p cs l us = tailAt 95 us λ vs. onRead (readChoice vs) λ r ws. contextsOf n p (cs ++ ((l, r) ∷ [])) ws
@@ -55,7 +55,7 @@ contexts-sound (suc n) p cs (b ∷ ts) = slash (eqb b 47) refl (λ cs ws. contex
     last : (l r : Expr) (mid mid′ ws : List ℕ) (F : Form) → b ∷ ts ≡ 47 ∷ (mid ++ (95 ∷ (mid′ ++ ws))) → Choice mid l → Choice mid′ r → RuleIs p (cs ++ ((l, r) ∷ [])) ws F → RuleIs p cs (b ∷ ts) F
     last l r mid mid′ ws (rule p′ cs′) q c c′ (ds, e, f, k) = ((l, r) ∷ ds, e, sym (append-assoc cs ((l, r) ∷ []) ds) ∙ f, more c c′ k q)
     last l r mid mid′ ws (define x e) q c c′ k = k
-    last l r mid mid′ ws spoiled q c c′ k = tt
+    last l r mid mid′ ws malformed q c c′ k = tt
 
     right : (l : Expr) (mid vs : List ℕ) → b ∷ ts ≡ 47 ∷ (mid ++ (95 ∷ vs)) → Choice mid l → (R : Read) → readChoice vs ≡ R → Rest
         → RuleIs p cs (b ∷ ts) (onRead R λ r ws. contextsOf n p (cs ++ ((l, r) ∷ [])) ws)
@@ -68,7 +68,7 @@ contexts-sound (suc n) p cs (b ∷ ts) = slash (eqb b 47) refl (λ cs ws. contex
     under l mid [] q c ih = tt
     under l mid (d ∷ vs) q c ih = test (eqb d 95) refl
       where
-        test : (t : Bool) → eqb d 95 ≡ t → RuleIs p cs (b ∷ ts) (choose t (λ _. onRead (readChoice vs) λ r ws. contextsOf n p (cs ++ ((l, r) ∷ [])) ws) (λ _. spoiled))
+        test : (t : Bool) → eqb d 95 ≡ t → RuleIs p cs (b ∷ ts) (choose t (λ _. onRead (readChoice vs) λ r ws. contextsOf n p (cs ++ ((l, r) ∷ [])) ws) (λ _. malformed))
         test true e = right l mid vs (q ∙ ap (λ x. 47 ∷ (mid ++ (x ∷ vs))) (is d 95 e)) c (readChoice vs) refl ih
         test false e = tt
 
@@ -76,7 +76,7 @@ contexts-sound (suc n) p cs (b ∷ ts) = slash (eqb b 47) refl (λ cs ws. contex
     left z (got l us) e ih = let (mid, q, c) = reader-sound ts us l e in under l mid us (ap₂ _∷_ z q) c ih
     left z bad e ih = tt
 
-    slash : (t : Bool) → eqb b 47 ≡ t → Rest → RuleIs p cs (b ∷ ts) (choose t (λ _. onRead (readChoice ts) λ l us. go-on n p cs l us) (λ _. spoiled))
+    slash : (t : Bool) → eqb b 47 ≡ t → Rest → RuleIs p cs (b ∷ ts) (choose t (λ _. onRead (readChoice ts) λ l us. go-on n p cs l us) (λ _. malformed))
     slash true e ih = left (is b 47 e) (readChoice ts) refl ih
     slash false e ih = tt
 
@@ -107,7 +107,7 @@ contexts-whole ts ds (more {ts = xs} {us = ys} {vs = vs} {l = l} {r = r} {cs = e
 abbrev FormIs : List ℕ → Form → Type 0
 FormIs bs (define x e) = LineForm bs (define x e)
 FormIs bs (rule p cs) = LineForm bs (rule p cs)
-FormIs bs spoiled = Unit {0}
+FormIs bs malformed = Unit {0}
 
 choose-form : (bs : List ℕ) (t : Bool) (f g : Unit {0} → Form) → (t ≡ true → FormIs bs (f tt)) → (t ≡ false → FormIs bs (g tt)) → FormIs bs (choose t f g)
 choose-form bs true f g h k = h refl
@@ -131,7 +131,7 @@ rule-sound ts = read (readChoice ts) refl
         put : (mid : List ℕ) → ts ≡ mid ++ us → Choice mid p → (F : Form) → RuleIs p [] us F → FormIs (62 ∷ ts) F
         put mid z c (rule p′ cs′) (ds, e, f, k) = ruling (subst (λ x. Choice mid x) e c) (subst (Contexts us) f k) (ap (λ l. 62 ∷ l) z)
         put mid z c (define x e) k = absurd k
-        put mid z c spoiled k = tt
+        put mid z c malformed k = tt
     read bad r = tt
 
 form-sound : (bs : List ℕ) → FormIs (squeezed bs) (formOf bs)
@@ -144,7 +144,7 @@ form-sound (b ∷ bs) =
 
 define-whole : (x : ℕ) (ts : List ℕ) (e : Expr) → isName x ≡ true → Choice ts e → defineOf (x ∷ ts) ≡ define x e
 define-whole x ts e q c =
-    ap (λ t. choose t (λ _. onRead (readChoice ts) (defineAs x)) (λ _. spoiled)) q
+    ap (λ t. choose t (λ _. onRead (readChoice ts) (defineAs x)) (λ _. malformed)) q
     ∙ ap (λ R. onRead R (defineAs x)) (ap readChoice (sym (append-nil ts)) ∙ reader-whole ts e c [] tt)
 
 rule-whole : (ts us : List ℕ) (p : Expr) (cs : List (Expr × Expr)) → Choice ts p → Contexts us cs → ruleOf (ts ++ us) ≡ rule p cs
@@ -174,17 +174,17 @@ pub rule-exact : (bs : List ℕ) (p : Expr) (cs : List (Expr × Expr)) → (form
 rule-exact bs p cs = (λ q. subst (FormIs (squeezed bs)) q (form-sound bs), λ l. form-whole bs (rule p cs) l)
 
 -- 5: "the line isn't of its form above"
-pub spoiled-exact : (bs : List ℕ) → (formOf bs ≡ spoiled) ↔ ((F : Form) → LineForm (squeezed bs) F → ⊥)
-spoiled-exact bs = (to, back)
+pub malformed-exact : (bs : List ℕ) → (formOf bs ≡ malformed) ↔ ((F : Form) → LineForm (squeezed bs) F → ⊥)
+malformed-exact bs = (to, back)
   where
-    to : formOf bs ≡ spoiled → (F : Form) → LineForm (squeezed bs) F → ⊥
+    to : formOf bs ≡ malformed → (F : Form) → LineForm (squeezed bs) F → ⊥
     to q F (definition {x = x} {e = e} n c z) = let w : _≡_ {A = ℕ} 0 1 = cc (sym (form-whole bs (define x e) (definition n c z)) ∙ q) in omega arith
     to q F (ruling {p = p} {cs = cs} c k z) = let w : _≡_ {A = ℕ} 0 1 = cc (sym (form-whole bs (rule p cs) (ruling c k z)) ∙ q) in omega arith
 
-    back : ((F : Form) → LineForm (squeezed bs) F → ⊥) → formOf bs ≡ spoiled
+    back : ((F : Form) → LineForm (squeezed bs) F → ⊥) → formOf bs ≡ malformed
     back n = go (formOf bs) (form-sound bs)
       where
-        go : (F : Form) → FormIs (squeezed bs) F → F ≡ spoiled
+        go : (F : Form) → FormIs (squeezed bs) F → F ≡ malformed
         go (define x e) l = absurd (n (define x e) l)
         go (rule p cs) l = absurd (n (rule p cs) l)
-        go spoiled l = refl
+        go malformed l = refl

@@ -67,7 +67,7 @@ lettersOf l = behind (l .bytes)
 pub data Form : Type 0 where
   define : ℕ → Expr → Form
   rule : Expr → List (Expr × Expr) → Form
-  spoiled : Form
+  malformed : Form
 
 -- "Spaces (0x20) may stand after a line's first byte, before any other byte or the line end."
 abbrev pub noSpaces : List ℕ → List ℕ
@@ -75,19 +75,19 @@ noSpaces [] = []
 noSpaces (b ∷ bs) = choose (eqb b 32) (λ _. noSpaces bs) (λ _. b ∷ noSpaces bs)
 
 abbrev pub tailAt : ℕ → List ℕ → (List ℕ → Form) → Form
-tailAt x [] f = spoiled
-tailAt x (b ∷ bs) f = choose (eqb b x) (λ _. f bs) (λ _. spoiled)
+tailAt x [] f = malformed
+tailAt x (b ∷ bs) f = choose (eqb b x) (λ _. f bs) (λ _. malformed)
 
 abbrev pub onRead : Read → (Expr → List ℕ → Form) → Form
 onRead (got e ts) f = f e ts
-onRead bad f = spoiled
+onRead bad f = malformed
 
 abbrev pub contextsOf : ℕ → Expr → List (Expr × Expr) → List ℕ → Form
 contextsOf zero p cs [] = rule p cs
-contextsOf zero p cs (b ∷ ts) = spoiled
+contextsOf zero p cs (b ∷ ts) = malformed
 contextsOf (suc n) p cs [] = rule p cs
 contextsOf (suc n) p cs (b ∷ ts) =
-    unless (eqb b 47) (λ _. spoiled) λ _.
+    unless (eqb b 47) (λ _. malformed) λ _.
     onRead (readChoice ts) λ l us.
     tailAt 95 us λ vs.
     onRead (readChoice vs) λ r ws.
@@ -95,18 +95,18 @@ contextsOf (suc n) p cs (b ∷ ts) =
 
 abbrev pub defineAs : ℕ → Expr → List ℕ → Form
 defineAs x e [] = define x e
-defineAs x e (b ∷ ts) = spoiled
+defineAs x e (b ∷ ts) = malformed
 
 abbrev pub defineOf : List ℕ → Form
-defineOf [] = spoiled
-defineOf (x ∷ ts) = choose (isName x) (λ _. onRead (readChoice ts) (defineAs x)) (λ _. spoiled)
+defineOf [] = malformed
+defineOf (x ∷ ts) = choose (isName x) (λ _. onRead (readChoice ts) (defineAs x)) (λ _. malformed)
 
 abbrev pub ruleOf : List ℕ → Form
 ruleOf ts = onRead (readChoice ts) (λ p us. contextsOf (length us) p [] us)
 
 unfoldable pub formOf : List ℕ → Form
-formOf [] = spoiled
+formOf [] = malformed
 formOf (b ∷ bs) =
     choose (eqb b 61) (λ _. defineOf (noSpaces bs)) λ _.
     choose (eqb b 62) (λ _. ruleOf (noSpaces bs)) λ _.
-    spoiled
+    malformed

@@ -13,12 +13,12 @@ use Rattle.automata.specs.Machine.{size, WellFormed, Numbered, Equivalent}
 use Rattle.automata.specs.Decide.{unless, unless-elim, contradict, not-false, all-below, some-fails}
 use Rattle.automata.specs.NumberingTest.{numberedTest, numbered-sound, numbered-whole}
 use Rattle.automata.specs.Scan.{scan, scan-numbered}
-use Rattle.automata.specs.ReducedTest.{noTwinsTest, noTwins-sound, twins-exist}
+use Rattle.automata.specs.ReducedTest.{reducedTest, reduced-sound, equivalent-exist}
 use Rattle.card.specs.Mark.{marks, Mark, marks-sound, marks-only}
 use Rattle.card.specs.Layout.{letterCount, stateCount, markAt, moveAt, lettersOf, movesOf, machineOf, Contents, contentsTest}
 use Rattle.card.specs.LayoutLaws.{contents-sound, contents-whole, moves-length, moves-at, size-is, step-at, machine-formed}
 use Rattle.card.specs.Alphabet.{Alphabet, alphabetTest, alphabet-sound, alphabet-whole}
-use Rattle.card.specs.Load.{rowInside, insideTest, marksTest, loadTest, CardInside, CardMarked, CardNumbered, CardNoTwins, Tested, bad-contents, bad-letters, astray, bad-numbering, bad-marks, twins, loaded}
+use Rattle.card.specs.Load.{rowInside, insideTest, marksTest, loadTest, CardInside, CardMarked, CardNumbered, CardReduced, Tested, bad-contents, bad-alphabet, transition-out-of-range, not-numbered, wrong-marks, equivalent-states, loaded}
 
 -- ---- each test is exact
 
@@ -67,17 +67,17 @@ module _ (c : List ℕ) (r : Contents c) (inside : CardInside c) where
   pub marks-true : CardMarked c → marksTest c ≡ true
   marks-true m = not-false (marksTest c) (λ e. marks-fail e (λ p h f. f (m p h)))
 
-  pub twins-none : noTwinsTest (letterCount c) (machineOf c) ≡ true → CardNoTwins c
-  twins-none e = noTwins-sound (letterCount c) (machineOf c) machine-is-formed e
+  pub reduced-holds : reducedTest (letterCount c) (machineOf c) ≡ true → CardReduced c
+  reduced-holds e = reduced-sound (letterCount c) (machineOf c) machine-is-formed e
 
-  twins-found : noTwinsTest (letterCount c) (machineOf c) ≡ false → {R : Type 0}
+  equivalent-found : reducedTest (letterCount c) (machineOf c) ≡ false → {R : Type 0}
       → ((p q : ℕ) → p < stateCount c → q < stateCount c → p ≢ q → Equivalent (letterCount c) (machineOf c) p q → R) → R
-  twins-found e k =
-      let (p, q, hp, hq, d, a) = twins-exist (letterCount c) (machineOf c) machine-is-formed e in
+  equivalent-found e k =
+      let (p, q, hp, hq, d, a) = equivalent-exist (letterCount c) (machineOf c) machine-is-formed e in
       k p q (rw (size-is c r) at hp) (rw (size-is c r) at hq) d a
 
-  pub noTwins-true : CardNoTwins c → noTwinsTest (letterCount c) (machineOf c) ≡ true
-  noTwins-true x = not-false (noTwinsTest (letterCount c) (machineOf c)) (λ e. twins-found e (λ p q hp hq d a. d (x p q (low p hp) (low q hq) a)))
+  pub reduced-true : CardReduced c → reducedTest (letterCount c) (machineOf c) ≡ true
+  reduced-true x = not-false (reducedTest (letterCount c) (machineOf c)) (λ e. equivalent-found e (λ p q hp hq d a. d (x p q (low p hp) (low q hq) a)))
 
 -- THE LOAD TEST answers what the table says,
 pub tested : (c : List ℕ) → Tested c (loadTest c)
@@ -85,39 +85,39 @@ unfolding loadTest
 tested c =
     unless-elim (Tested c) 21 (contentsTest c) _ (λ e. bad-contents (λ r. contradict (contents-whole c r) e)) λ e₁.
     let r : Contents c = contents-sound c e₁ in
-    unless-elim (Tested c) 22 (alphabetTest (lettersOf c)) _ (λ e. bad-letters r (λ a. contradict (alphabet-whole (lettersOf c) a) e)) λ e₂.
+    unless-elim (Tested c) 22 (alphabetTest (lettersOf c)) _ (λ e. bad-alphabet r (λ a. contradict (alphabet-whole (lettersOf c) a) e)) λ e₂.
     let a : Alphabet (lettersOf c) = alphabet-sound (lettersOf c) e₂ in
-    unless-elim (Tested c) 23 (insideTest c) _ (λ e. inside-fails c e (astray r a)) λ e₃.
+    unless-elim (Tested c) 23 (insideTest c) _ (λ e. inside-fails c e (transition-out-of-range r a)) λ e₃.
     let i : CardInside c = inside-holds c e₃ in
-    unless-elim (Tested c) 24 (numberedTest (letterCount c) (machineOf c)) _ (λ e. bad-numbering r a i (λ n. contradict (numbered-whole (letterCount c) (machineOf c) n) e)) λ e₄.
+    unless-elim (Tested c) 24 (numberedTest (letterCount c) (machineOf c)) _ (λ e. not-numbered r a i (λ n. contradict (numbered-whole (letterCount c) (machineOf c) n) e)) λ e₄.
     let n : CardNumbered c = numbered-sound (letterCount c) (machineOf c) e₄ in
-    unless-elim (Tested c) 25 (marksTest c) _ (λ e. marks-fail c r i e (bad-marks r a i n)) λ e₅.
+    unless-elim (Tested c) 25 (marksTest c) _ (λ e. marks-fail c r i e (wrong-marks r a i n)) λ e₅.
     let m : CardMarked c = marks-hold c r i e₅ in
-    unless-elim (Tested c) 26 (noTwinsTest (letterCount c) (machineOf c)) _ (λ e. twins-found c r i e (twins r a i n m)) λ e₆.
-    loaded r a i n m (twins-none c r i e₆)
+    unless-elim (Tested c) 26 (reducedTest (letterCount c) (machineOf c)) _ (λ e. equivalent-found c r i e (equivalent-states r a i n m)) λ e₆.
+    loaded r a i n m (reduced-holds c r i e₆)
 
 -- and nothing else: one answer only is right.
 pub tested-only : (c : List ℕ) (v : ℕ) → Tested c v → loadTest c ≡ v
 unfolding loadTest unless
 tested-only c v (bad-contents f) = rw (not-true (contentsTest c) (λ e. f (contents-sound c e)))
-tested-only c v (bad-letters r f) = rw (contents-whole c r, not-true (alphabetTest (lettersOf c)) (λ e. f (alphabet-sound (lettersOf c) e)))
-tested-only c v (astray r a p i h b x) =
+tested-only c v (bad-alphabet r f) = rw (contents-whole c r, not-true (alphabetTest (lettersOf c)) (λ e. f (alphabet-sound (lettersOf c) e)))
+tested-only c v (transition-out-of-range r a p i h b x) =
     rw (contents-whole c r, alphabet-whole (lettersOf c) a, not-true (insideTest c) (λ e. let z = inside-holds c e p i h b in omega arith))
-tested-only c v (bad-numbering r a i f) =
+tested-only c v (not-numbered r a i f) =
     rw (contents-whole c r, alphabet-whole (lettersOf c) a, inside-true c i, not-true (numberedTest (letterCount c) (machineOf c)) (λ e. f (numbered-sound (letterCount c) (machineOf c) e)))
-tested-only c v (bad-marks r a i n p h f) =
+tested-only c v (wrong-marks r a i n p h f) =
     rw (contents-whole c r, alphabet-whole (lettersOf c) a, inside-true c i, numbered-whole (letterCount c) (machineOf c) n, not-true (marksTest c) (λ e. f (marks-hold c r i e p h)))
-tested-only c v (twins r a i n m p q hp hq d k) =
+tested-only c v (equivalent-states r a i n m p q hp hq d k) =
     rw (
       contents-whole c r,
       alphabet-whole (lettersOf c) a,
       inside-true c i,
       numbered-whole (letterCount c) (machineOf c) n,
       marks-true c r i m,
-      not-true (noTwinsTest (letterCount c) (machineOf c)) (λ e. d (twins-none c r i e p q (low c r i p hp) (low c r i q hq) k)),
+      not-true (reducedTest (letterCount c) (machineOf c)) (λ e. d (reduced-holds c r i e p q (low c r i p hp) (low c r i q hq) k)),
     )
 tested-only c v (loaded r a i n m x) =
-    rw (contents-whole c r, alphabet-whole (lettersOf c) a, inside-true c i, numbered-whole (letterCount c) (machineOf c) n, marks-true c r i m, noTwins-true c r i x)
+    rw (contents-whole c r, alphabet-whole (lettersOf c) a, inside-true c i, numbered-whole (letterCount c) (machineOf c) n, marks-true c r i m, reduced-true c r i x)
 
 -- For code: the numbering of a card's moves by one loop over them.
 pub scan-card : (c : List ℕ) → Contents c → CardInside c → (scan (letterCount c) (movesOf c) 0 1 ≡ stateCount c) ↔ CardNumbered c

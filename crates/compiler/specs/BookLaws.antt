@@ -3,14 +3,15 @@
 use mathlib.Core.Path.{_≡_, refl, sym, _∙_, subst}
 use mathlib.Core.Bool.{Bool, true, false, _&&_}
 use mathlib.Core.Logic.{_↔_}
-use mathlib.Core.List.{List, [], _∷_}
+use mathlib.Core.List.{List, [], _∷_, _++_}
 use Prim.Native.Nat.{ℕ, suc}
 use lib.ListN.{length}
 use lib.Dec.{eqb, ltb}
+use Rattle.automata.specs.Format.{Format}
 use Rattle.automata.specs.Booleans.{choose, and-left, and-right, and-both}
 use Rattle.automata.specs.Automaton.{Over, over-more, accepts}
 use Rattle.automata.specs.Machine.{Machine, automaton, Canonical}
-use Rattle.automata.specs.Stage.{Limits, Made, made, refused, thenMade, Keeps, then-keeps}
+use Rattle.automata.specs.Stage.{Made, made, refused, thenMade, Keeps, then-keeps}
 use Rattle.automata.specs.Stages.{both, pairStage}
 use Rattle.language.specs.Cuts.{Word}
 use Rattle.language.specs.Language.{Language, allWords, allWords-sound, allWords-whole, intersection}
@@ -18,11 +19,11 @@ use Rattle.language.specs.Restriction.{restriction}
 use Rattle.language.specs.GivenLaws.{all-recognizes}
 use Rattle.language.specs.Expression.{member}
 use Rattle.language.specs.Environment.{namesOf, known, allKnown}
-use Rattle.language.specs.Evaluate.{compile, compileRule}
+use Rattle.language.specs.Evaluate.{evaluate, evaluateRule}
 use Rattle.language.specs.Matches.{matches, contextsIn, Rule, obeys, Obeys, obeys-sound, obeys-whole}
 use Rattle.language.specs.ExpressionLaws.{Right, right-same, right-marks, EnvRight, keeps-map, pair-right, expression-right}
 use Rattle.language.specs.RuleLaws.{rule-right}
-use Rattle.book.specs.Text.{Line, linesOf, lineTest, isHead, lettersOf, Form, define, rule, spoiled, formOf}
+use Rattle.book.specs.Text.{Line, linesOf, lineTest, isHead, lettersOf, Form, define, rule, malformed, formOf}
 use Rattle.compiler.specs.Allows.{onForm, rulesOf, bookLetters, bookRules, allowsLines, allows}
 use Rattle.compiler.specs.Book.{Draft, LineResult, on, off, onMade, compileForm, compileLine, BookResult, done, stopped, afterLine, compileLines, startDraft, compileHead, compileText, compileBook}
 
@@ -40,7 +41,7 @@ choose-accepts : (P : List ℕ → Draft → Type 0) (b : Bool) (f g : Unit {0} 
 choose-accepts P true f g h k = h refl
 choose-accepts P false f g h k = k refl
 
-module _ (lim : Limits) (ls : List ℕ) where
+module _ (fmt : Format) (ls : List ℕ) where
   abbrev m : ℕ
   m = length ls
 
@@ -52,7 +53,7 @@ module _ (lim : Limits) (ls : List ℕ) where
   Final K rs ls′ d = Right (length ls′) (d .kept) (λ w. K w && obeys rs w)
 
   abbrev Rest : List Line → ℕ → Type 0
-  Rest rest at = (d : Draft) (ys : List (ℕ × Language)) (K : Language) → DraftRight m d ys K → Accepts (Final K (rulesOf rest ls ys)) (compileLines lim ls rest at d)
+  Rest rest at = (d : Draft) (ys : List (ℕ × Language)) (K : Language) → DraftRight m d ys K → Accepts (Final K (rulesOf rest ls ys)) (compileLines fmt ls rest at d)
 
   -- a line that is refused, or goes on
   line-choose : (P : List ℕ → Draft → Type 0) (f : Draft → BookResult) (g : ℕ → BookResult) (b : Bool) (x y : Unit {0} → LineResult)
@@ -60,9 +61,9 @@ module _ (lim : Limits) (ls : List ℕ) where
   line-choose P f g true x y h k = h refl
   line-choose P f g false x y h k = k refl
 
-  made-line : (P : List ℕ → Draft → Type 0) (Q : Machine → Type 0) (f : Draft → BookResult) (at : ℕ) (r : Made) (c : ℕ → Machine → LineResult) → Keeps Q r
-      → ((peak : ℕ) (M : Machine) → Q M → Accepts P (afterLine (c peak M) f (λ r. stopped r at))) → Accepts P (afterLine (onMade r c) f (λ r. stopped r at))
-  made-line P Q f at (made peak M) c q h = h peak M q
+  made-line : (P : List ℕ → Draft → Type 0) (Q : Machine → Type 0) (f : Draft → BookResult) (at : ℕ) (r : Made) (c : List ℕ → Machine → LineResult) → Keeps Q r
+      → ((counts : List ℕ) (M : Machine) → Q M → Accepts P (afterLine (c counts M) f (λ r. stopped r at))) → Accepts P (afterLine (onMade r c) f (λ r. stopped r at))
+  made-line P Q f at (made counts M) c q h = h counts M q
   made-line P Q f at (refused r) c q h = tt
 
   and-assoc : (a b c : Bool) → (a && b) && c ≡ a && (b && c)
@@ -78,15 +79,15 @@ module _ (lim : Limits) (ls : List ℕ) where
       go false e = refl
 
   form-right : (rest : List Line) (at : ℕ) (d : Draft) (ys : List (ℕ × Language)) (K : Language) → DraftRight m d ys K → Rest rest (suc at) → (F : Form)
-      → Accepts (Final K (onForm ls ys F (λ env₁. rulesOf rest ls env₁))) (afterLine (compileForm lim ls d F) (λ d₁. compileLines lim ls rest (suc at) d₁) (λ r. stopped r at))
+      → Accepts (Final K (onForm ls ys F (λ env₁. rulesOf rest ls env₁))) (afterLine (compileForm fmt ls d F) (λ d₁. compileLines fmt ls rest (suc at) d₁) (λ r. stopped r at))
   unfolding compileForm
-  form-right rest at d ys K h ih spoiled = tt
+  form-right rest at d ys K h ih malformed = tt
   form-right rest at d ys K h ih (define x e) =
       line-choose goal f g (known ls names e) _ _
       (λ k. line-choose goal f g (member x names) _ _ (λ t. tt)
-      (λ t. made-line goal (λ M. Right m M (matches ls ys e)) f at (compile lim ls (d .env) e (d .peak)) _
-      (expression-right lim ls names (d .env) ys (h .env) e (d .peak) k)
-      (λ peak M r. ih (record { env = (x, M) ∷ d .env; peak = peak; ruled = d .ruled; kept = d .kept }) ((x, matches ls ys e) ∷ ys) K
+      (λ t. made-line goal (λ M. Right m M (matches ls ys e)) f at (evaluate fmt ls (d .env) e) _
+      (expression-right fmt ls names (d .env) ys (h .env) e k)
+      (λ counts M r. ih (record { env = (x, M) ∷ d .env; counts = d .counts ++ counts; ruled = d .ruled; kept = d .kept }) ((x, matches ls ys e) ∷ ys) K
       (record { env = (refl, r, h .env); kept = h .kept }))))
       (λ k. tt)
     where
@@ -97,21 +98,21 @@ module _ (lim : Limits) (ls : List ℕ) where
       goal = Final K (rulesOf rest ls ((x, matches ls ys e) ∷ ys))
 
       f : Draft → BookResult
-      f d₁ = compileLines lim ls rest (suc at) d₁
+      f d₁ = compileLines fmt ls rest (suc at) d₁
 
       g : ℕ → BookResult
       g r = stopped r at
   form-right rest at d ys K h ih (rule p cs) =
       line-choose goal f g (known ls names p && allKnown ls names cs) _ _
       (λ k. made-line goal (λ M. Right m M (λ w. K w && rs w)) f at
-      (thenMade (compileRule lim ls (d .env) p cs (d .peak)) (λ peak R. pairStage lim (suc m) both (d .kept) R peak)) _
-      (then-keeps (λ R. Right m R (intersection all rs)) (λ M. Right m M (λ w. K w && rs w)) (compileRule lim ls (d .env) p cs (d .peak)) _
-      (rule-right lim ls names (d .env) ys (h .env) p cs (d .peak) (and-left (known ls names p) (allKnown ls names cs) k) (and-right (known ls names p) (allKnown ls names cs) k))
-      (λ peak R r. keeps-map (λ M. Right m M (intersection K (intersection all rs))) (λ M. Right m M (λ w. K w && rs w)) (pairStage lim (suc m) both (d .kept) R peak)
+      (thenMade (evaluateRule fmt ls (d .env) p cs) (λ R. pairStage fmt (suc m) both (d .kept) R)) _
+      (then-keeps (λ R. Right m R (intersection all rs)) (λ M. Right m M (λ w. K w && rs w)) (evaluateRule fmt ls (d .env) p cs) _
+      (rule-right fmt ls names (d .env) ys (h .env) p cs (and-left (known ls names p) (allKnown ls names cs) k) (and-right (known ls names p) (allKnown ls names cs) k))
+      (λ R r. keeps-map (λ M. Right m M (intersection K (intersection all rs))) (λ M. Right m M (λ w. K w && rs w)) (pairStage fmt (suc m) both (d .kept) R)
       (λ M q. right-same m M (intersection K (intersection all rs)) (λ w. K w && rs w) (meet K rs (d .kept) (h .kept)) q)
-      (pair-right lim m both (d .kept) R K (intersection all rs) peak (h .kept) r)))
-      (λ peak M r. again (compileLines lim ls rest (suc at) (record { env = d .env; peak = peak; ruled = true; kept = M }))
-      (ih (record { env = d .env; peak = peak; ruled = true; kept = M }) ys (λ w. K w && rs w) (record { env = h .env; kept = r }))))
+      (pair-right fmt m both (d .kept) R K (intersection all rs) (h .kept) r)))
+      (λ counts M r. again (compileLines fmt ls rest (suc at) (record { env = d .env; counts = d .counts ++ counts; ruled = true; kept = M }))
+      (ih (record { env = d .env; counts = d .counts ++ counts; ruled = true; kept = M }) ys (λ w. K w && rs w) (record { env = h .env; kept = r }))))
       (λ k. tt)
     where
       names : List ℕ
@@ -124,7 +125,7 @@ module _ (lim : Limits) (ls : List ℕ) where
       goal = Final K (record { pattern = matches ls ys p; contexts = contextsIn ls ys cs } ∷ rulesOf rest ls ys)
 
       f : Draft → BookResult
-      f d₁ = compileLines lim ls rest (suc at) d₁
+      f d₁ = compileLines fmt ls rest (suc at) d₁
 
       g : ℕ → BookResult
       g r = stopped r at
@@ -142,45 +143,45 @@ module _ (lim : Limits) (ls : List ℕ) where
   lines-right [] at d ys K h =
       choose-accepts (Final K []) (d .ruled) (λ _. done ls d) (λ _. stopped 10 0) (λ e. right-same m (d .kept) K (λ w. K w && true) (λ w. and-true (K w)) (h .kept)) (λ e. tt)
   lines-right (l ∷ rest) at d ys K h =
-      line-choose (Final K (rulesOf (l ∷ rest) ls ys)) (λ d₁. compileLines lim ls rest (suc at) d₁) (λ r. stopped r at) (eqb (lineTest l) 0) _ _
+      line-choose (Final K (rulesOf (l ∷ rest) ls ys)) (λ d₁. compileLines fmt ls rest (suc at) d₁) (λ r. stopped r at) (eqb (lineTest l) 0) _ _
       (λ e. form-right rest at d ys K h (lines-right rest (suc at)) (formOf (l .bytes))) (λ e. tt)
 
   -- the letters of an accepted book
-  lines-letters : (lines : List Line) (at : ℕ) (d : Draft) → Accepts (λ ls′ d′. ls′ ≡ ls) (compileLines lim ls lines at d)
+  lines-letters : (lines : List Line) (at : ℕ) (d : Draft) → Accepts (λ ls′ d′. ls′ ≡ ls) (compileLines fmt ls lines at d)
   unfolding compileLines
   lines-letters [] at d = choose-accepts (λ ls′ d′. ls′ ≡ ls) (d .ruled) (λ _. done ls d) (λ _. stopped 10 0) (λ e. refl) (λ e. tt)
-  lines-letters (l ∷ rest) at d = go (compileLine lim ls d l) (lines-letters rest (suc at))
+  lines-letters (l ∷ rest) at d = go (compileLine fmt ls d l) (lines-letters rest (suc at))
     where
-      go : (r : LineResult) → ((d₁ : Draft) → Accepts (λ ls′ d′. ls′ ≡ ls) (compileLines lim ls rest (suc at) d₁))
-          → Accepts (λ ls′ d′. ls′ ≡ ls) (afterLine r (λ d₁. compileLines lim ls rest (suc at) d₁) (λ r. stopped r at))
+      go : (r : LineResult) → ((d₁ : Draft) → Accepts (λ ls′ d′. ls′ ≡ ls) (compileLines fmt ls rest (suc at) d₁))
+          → Accepts (λ ls′ d′. ls′ ≡ ls) (afterLine r (λ d₁. compileLines fmt ls rest (suc at) d₁) (λ r. stopped r at))
       go (on d₁) f = f d₁
       go (off r) f = tt
 
-pub book-letters : (lim : Limits) (text : List ℕ) → Accepts (λ ls d. ls ≡ bookLetters (linesOf text)) (compileBook lim text)
+pub book-letters : (fmt : Format) (text : List ℕ) → Accepts (λ ls d. ls ≡ bookLetters (linesOf text)) (compileBook fmt text)
 unfolding compileBook compileText compileHead
-book-letters lim text = choose-accepts (λ ls d. ls ≡ bookLetters (linesOf text)) (ltb 16384 (length text)) _ _ (λ e. tt) (λ e. lines (linesOf text))
+book-letters fmt text = choose-accepts (λ ls d. ls ≡ bookLetters (linesOf text)) (ltb 16384 (length text)) _ _ (λ e. tt) (λ e. lines (linesOf text))
   where
-    lines : (ts : List Line) → Accepts (λ ls d. ls ≡ bookLetters ts) (compileText lim ts)
+    lines : (ts : List Line) → Accepts (λ ls d. ls ≡ bookLetters ts) (compileText fmt ts)
     lines [] = tt
     lines (l ∷ rest) =
         choose-accepts (λ ls d. ls ≡ lettersOf l) (eqb (lineTest l) 0) _ _
-        (λ e. choose-accepts (λ ls d. ls ≡ lettersOf l) (isHead (l .bytes)) _ _ (λ e. lines-letters lim (lettersOf l) rest 2 (startDraft (length (lettersOf l)))) (λ e. tt))
+        (λ e. choose-accepts (λ ls d. ls ≡ lettersOf l) (isHead (l .bytes)) _ _ (λ e. lines-letters fmt (lettersOf l) rest 2 (startDraft (length (lettersOf l)))) (λ e. tt))
         (λ e. tt)
 
 -- BOOKS. The kept machine of an accepted book is right for the plans that the book allows.
-pub book-right : (lim : Limits) (text : List ℕ) → Accepts (λ ls d. Right (length ls) (d .kept) (allows text)) (compileBook lim text)
+pub book-right : (fmt : Format) (text : List ℕ) → Accepts (λ ls d. Right (length ls) (d .kept) (allows text)) (compileBook fmt text)
 unfolding compileBook compileText compileHead
-book-right lim text = choose-accepts goal (ltb 16384 (length text)) _ _ (λ e. tt) (λ e. lines (linesOf text))
+book-right fmt text = choose-accepts goal (ltb 16384 (length text)) _ _ (λ e. tt) (λ e. lines (linesOf text))
   where
     goal : List ℕ → Draft → Type 0
     goal ls d = Right (length ls) (d .kept) (allows text)
 
-    lines : (ts : List Line) → Accepts (λ ls d. Right (length ls) (d .kept) (allowsLines ts)) (compileText lim ts)
+    lines : (ts : List Line) → Accepts (λ ls d. Right (length ls) (d .kept) (allowsLines ts)) (compileText fmt ts)
     lines [] = tt
     lines (l ∷ rest) =
         choose-accepts goal′ (eqb (lineTest l) 0) _ _
         (λ e. choose-accepts goal′ (isHead (l .bytes)) _ _
-        (λ e. lines-right lim (lettersOf l) rest 2 (startDraft n) [] (allWords n) (record { env = tt; kept = record { recognizes = all-recognizes n; letters = allWords-sound n } }))
+        (λ e. lines-right fmt (lettersOf l) rest 2 (startDraft n) [] (allWords n) (record { env = tt; kept = record { recognizes = all-recognizes n; letters = allWords-sound n } }))
         (λ e. tt))
         (λ e. tt)
       where
@@ -192,9 +193,9 @@ book-right lim text = choose-accepts goal (ltb 16384 (length text)) _ _ (λ e. t
 
 -- ---- the same of a text that is accepted
 
-module _ (lim : Limits) (text : List ℕ) (ls : List ℕ) (d : Draft) (e : compileBook lim text ≡ done ls d) where
+module _ (fmt : Format) (text : List ℕ) (ls : List ℕ) (d : Draft) (e : compileBook fmt text ≡ done ls d) where
   pub accepted-right : Right (length ls) (d .kept) (allows text)
-  accepted-right = subst (Accepts (λ ls d. Right (length ls) (d .kept) (allows text))) e (book-right lim text)
+  accepted-right = subst (Accepts (λ ls d. Right (length ls) (d .kept) (allows text))) e (book-right fmt text)
 
   pub accepted-canonical : Canonical (suc (length ls)) (d .kept)
   accepted-canonical = accepted-right .recognizes .canonical
@@ -208,7 +209,7 @@ module _ (lim : Limits) (text : List ℕ) (ls : List ℕ) (d : Draft) (e : compi
   accepted-marks w o n = right-marks (length ls) (d .kept) (allows text) accepted-right w o n
 
   pub accepted-letters : ls ≡ bookLetters (linesOf text)
-  accepted-letters = subst (Accepts (λ ls d. ls ≡ bookLetters (linesOf text))) e (book-letters lim text)
+  accepted-letters = subst (Accepts (λ ls d. ls ≡ bookLetters (linesOf text))) e (book-letters fmt text)
 
   -- THE DEMAND. A plan of the book's letters is accepted exactly when, for every rule and every cut of the plan into left, middle and right with the
   -- middle in the rule's pattern, one listed context has both that left and that right.

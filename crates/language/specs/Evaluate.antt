@@ -2,9 +2,10 @@
 use Prim.Native.Nat.{ℕ, suc}
 use mathlib.Core.List.{List, [], _∷_}
 use lib.ListN.{length}
+use Rattle.automata.specs.Format.{Format}
 use Rattle.automata.specs.Basics.{nat-test, find}
 use Rattle.automata.specs.Machine.{Machine}
-use Rattle.automata.specs.Stage.{Limits, Made, made, thenMade}
+use Rattle.automata.specs.Stage.{Made, present, thenMade}
 use Rattle.automata.specs.Given.{letterMachine, dotMachine, emptyMachine, allMachine, markMachine}
 use Rattle.automata.specs.Stages.{without, pairStage, concatStage, starStage, eraseStage}
 use Rattle.language.specs.Expression.{Expr, letter, name, dot, empty, every, pair, join, star, plus}
@@ -14,57 +15,57 @@ use Rattle.language.specs.Environment.{lookup}
 abbrev pub column : List ℕ → ℕ → ℕ
 column letters b = find nat-test b letters
 
--- The limits, the letters, the machines of the names above; the expression; the peak so far. (A name that stands for nothing is refused before, by 6.)
-unfoldable pub compile : Limits → List ℕ → List (ℕ × Machine) → Expr → ℕ → Made
-compile lim ls env (letter b) peak = made peak (letterMachine (length ls) (column ls b))
-compile lim ls env (name b) peak = made peak (lookup b (emptyMachine (length ls)) env)
-compile lim ls env dot peak = made peak (dotMachine (length ls))
-compile lim ls env empty peak = made peak (emptyMachine (length ls))
-compile lim ls env every peak = made peak (allMachine (length ls))
-compile lim ls env (pair o e f) peak =
-    thenMade (compile lim ls env e peak) λ peak₁ A.
-    thenMade (compile lim ls env f peak₁) λ peak₂ B.
-    pairStage lim (suc (length ls)) o A B peak₂
-compile lim ls env (join e f) peak =
-    thenMade (compile lim ls env e peak) λ peak₁ A.
-    thenMade (compile lim ls env f peak₁) λ peak₂ B.
-    concatStage lim (suc (length ls)) A B peak₂
-compile lim ls env (star e) peak =
-    thenMade (compile lim ls env e peak) λ peak₁ A.
-    starStage lim (suc (length ls)) A peak₁
-compile lim ls env (plus e) peak =  -- "`A+` is A then `A*`"
-    thenMade (compile lim ls env e peak) λ peak₁ A.
-    thenMade (starStage lim (suc (length ls)) A peak₁) λ peak₂ B.
-    concatStage lim (suc (length ls)) A B peak₂
+-- The limits, the letters, the machines of the names above; the expression. (A name that stands for nothing is refused before, by 6.)
+unfoldable pub evaluate : Format → List ℕ → List (ℕ × Machine) → Expr → Made
+evaluate fmt ls env (letter b) = present (letterMachine (length ls) (column ls b))
+evaluate fmt ls env (name b) = present (lookup b (emptyMachine (length ls)) env)
+evaluate fmt ls env dot = present (dotMachine (length ls))
+evaluate fmt ls env empty = present (emptyMachine (length ls))
+evaluate fmt ls env every = present (allMachine (length ls))
+evaluate fmt ls env (pair o e f) =
+    thenMade (evaluate fmt ls env e) λ A.
+    thenMade (evaluate fmt ls env f) λ B.
+    pairStage fmt (suc (length ls)) o A B
+evaluate fmt ls env (join e f) =
+    thenMade (evaluate fmt ls env e) λ A.
+    thenMade (evaluate fmt ls env f) λ B.
+    concatStage fmt (suc (length ls)) A B
+evaluate fmt ls env (star e) =
+    thenMade (evaluate fmt ls env e) λ A.
+    starStage fmt (suc (length ls)) A
+evaluate fmt ls env (plus e) =  -- "`A+` is A then `A*`"
+    thenMade (evaluate fmt ls env e) λ A.
+    thenMade (starStage fmt (suc (length ls)) A) λ B.
+    concatStage fmt (suc (length ls)) A B
 
 -- L M P M R, "joined left to right"
-unfoldable pub markedStages : Limits → ℕ → Machine → Machine → Machine → ℕ → Made
-markedStages lim m L P R peak =
-    thenMade (concatStage lim (suc m) L (markMachine m) peak) λ peak₁ A.
-    thenMade (concatStage lim (suc m) A P peak₁) λ peak₂ B.
-    thenMade (concatStage lim (suc m) B (markMachine m) peak₂) λ peak₃ C.
-    concatStage lim (suc m) C R peak₃
+unfoldable pub markedStages : Format → ℕ → Machine → Machine → Machine → Made
+markedStages fmt m L P R =
+    thenMade (concatStage fmt (suc m) L (markMachine m)) λ A.
+    thenMade (concatStage fmt (suc m) A P) λ B.
+    thenMade (concatStage fmt (suc m) B (markMachine m)) λ C.
+    concatStage fmt (suc m) C R
 
 -- "for each context l, r, then l M p M r joined left to right, then X becomes X minus it"
-unfoldable pub minusContexts : Limits → List ℕ → List (ℕ × Machine) → Machine → List (Expr × Expr) → Machine → ℕ → Made
-minusContexts lim ls env P [] X peak = made peak X
-minusContexts lim ls env P (c ∷ cs) X peak =
-    thenMade (compile lim ls env (c .0) peak) λ peak₁ L.
-    thenMade (compile lim ls env (c .1) peak₁) λ peak₂ R.
-    thenMade (markedStages lim (length ls) L P R peak₂) λ peak₃ C.
-    thenMade (pairStage lim (suc (length ls)) without X C peak₃) λ peak₄ Y.
-    minusContexts lim ls env P cs Y peak₄
+unfoldable pub minusContexts : Format → List ℕ → List (ℕ × Machine) → Machine → List (Expr × Expr) → Machine → Made
+minusContexts fmt ls env P [] X = present X
+minusContexts fmt ls env P (c ∷ cs) X =
+    thenMade (evaluate fmt ls env (c .0)) λ L.
+    thenMade (evaluate fmt ls env (c .1)) λ R.
+    thenMade (markedStages fmt (length ls) L P R) λ C.
+    thenMade (pairStage fmt (suc (length ls)) without X C) λ Y.
+    minusContexts fmt ls env P cs Y
 
 -- "then E = erase X; then `.*-E`", for whichever marked set X
-unfoldable pub eraseAndExclude : Limits → ℕ → Machine → ℕ → Made
-eraseAndExclude lim m X peak =
-    thenMade (eraseStage lim m X peak) λ peak₁ E.
-    pairStage lim (suc m) without (allMachine m) E peak₁
+unfoldable pub eraseAndExclude : Format → ℕ → Machine → Made
+eraseAndExclude fmt m X =
+    thenMade (eraseStage fmt m X) λ E.
+    pairStage fmt (suc m) without (allMachine m) E
 
 -- "For a rule: p; X = `.*` M p M `.*`, joined left to right; for each context .."
-unfoldable pub compileRule : Limits → List ℕ → List (ℕ × Machine) → Expr → List (Expr × Expr) → ℕ → Made
-compileRule lim ls env p cs peak =
-    thenMade (compile lim ls env p peak) λ peak₁ P.
-    thenMade (markedStages lim (length ls) (allMachine (length ls)) P (allMachine (length ls)) peak₁) λ peak₂ X.
-    thenMade (minusContexts lim ls env P cs X peak₂) λ peak₃ Y.
-    eraseAndExclude lim (length ls) Y peak₃
+unfoldable pub evaluateRule : Format → List ℕ → List (ℕ × Machine) → Expr → List (Expr × Expr) → Made
+evaluateRule fmt ls env p cs =
+    thenMade (evaluate fmt ls env p) λ P.
+    thenMade (markedStages fmt (length ls) (allMachine (length ls)) P (allMachine (length ls))) λ X.
+    thenMade (minusContexts fmt ls env P cs X) λ Y.
+    eraseAndExclude fmt (length ls) Y

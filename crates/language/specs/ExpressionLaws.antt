@@ -6,11 +6,12 @@ use mathlib.Core.List.{List, [], _∷_}
 use Prim.Native.Nat.{ℕ, suc}
 use lib.ListN.{length}
 use lib.Dec.{eqb, ltb}
+use Rattle.automata.specs.Format.{Format}
 use Rattle.automata.specs.Booleans.{choose, not-true, and-left, and-right}
 use Rattle.automata.specs.Basics.{nat-test, ltb-lt}
 use Rattle.automata.specs.Automaton.{Over, accepts}
 use Rattle.automata.specs.Machine.{Machine, automaton}
-use Rattle.automata.specs.Stage.{Limits, Made, made, refused, Keeps, then-keeps}
+use Rattle.automata.specs.Stage.{Made, made, refused, Keeps, then-keeps}
 use Rattle.automata.specs.Given.{emptyMachine}
 use Rattle.automata.specs.Stages.{Pairing, either, both, without, pairStage, concatStage, starStage}
 use Rattle.language.specs.Cuts.{Word}
@@ -20,7 +21,7 @@ use Rattle.language.specs.GivenLaws.{letter-recognizes, dot-recognizes, 
 use Rattle.language.specs.StageLaws.{combined, pair-stage, concat-stage, star-stage}
 use Rattle.language.specs.Expression.{Expr, letter, name, dot, empty, every, pair, join, star, plus}
 use Rattle.language.specs.Environment.{lookup, known}
-use Rattle.language.specs.Evaluate.{column, compile}
+use Rattle.language.specs.Evaluate.{column, evaluate}
 use Rattle.language.specs.Matches.{matches}
 
 -- The machine M, over m letters and the mark, is right for the set of plans L.
@@ -62,62 +63,62 @@ combined-letters m both A B a b = intersection-letters m A B a
 combined-letters m without A B a b = difference-letters m A B a
 
 pub keeps-map : (P Q : Machine → Type 0) (r : Made) → ((M : Machine) → P M → Q M) → Keeps P r → Keeps Q r
-keeps-map P Q (made peak M) f p = f M p
+keeps-map P Q (made counts M) f p = f M p
 keeps-map P Q (refused r) f p = tt
 
-module _ (lim : Limits) (m : ℕ) where
-  pub pair-right : (o : Pairing) (A B : Machine) (L L′ : Language) (peak : ℕ) → Right m A L → Right m B L′ → Keeps (λ M. Right m M (combined o L L′)) (pairStage lim (suc m) o A B peak)
-  pair-right o A B L L′ peak a b =
-      keeps-map (λ M. Recognizes (suc m) M (combined o L L′)) (λ M. Right m M (combined o L L′)) (pairStage lim (suc m) o A B peak)
+module _ (fmt : Format) (m : ℕ) where
+  pub pair-right : (o : Pairing) (A B : Machine) (L L′ : Language) → Right m A L → Right m B L′ → Keeps (λ M. Right m M (combined o L L′)) (pairStage fmt (suc m) o A B)
+  pair-right o A B L L′ a b =
+      keeps-map (λ M. Recognizes (suc m) M (combined o L L′)) (λ M. Right m M (combined o L L′)) (pairStage fmt (suc m) o A B)
       (λ M r. record { recognizes = r; letters = combined-letters m o L L′ (a .letters) (b .letters) })
-      (pair-stage lim (suc m) o A B L L′ peak (a .recognizes) (b .recognizes))
+      (pair-stage fmt (suc m) o A B L L′ (a .recognizes) (b .recognizes))
 
-  concat-right : (A B : Machine) (L L′ : Language) (peak : ℕ) → Right m A L → Right m B L′ → Keeps (λ M. Right m M (concatenation L L′)) (concatStage lim (suc m) A B peak)
-  concat-right A B L L′ peak a b =
-      keeps-map (λ M. Recognizes (suc m) M (concatenation L L′)) (λ M. Right m M (concatenation L L′)) (concatStage lim (suc m) A B peak)
+  concat-right : (A B : Machine) (L L′ : Language) → Right m A L → Right m B L′ → Keeps (λ M. Right m M (concatenation L L′)) (concatStage fmt (suc m) A B)
+  concat-right A B L L′ a b =
+      keeps-map (λ M. Recognizes (suc m) M (concatenation L L′)) (λ M. Right m M (concatenation L L′)) (concatStage fmt (suc m) A B)
       (λ M r. record { recognizes = r; letters = concatenation-letters m L L′ (a .letters) (b .letters) })
-      (concat-stage lim (suc m) A B L L′ peak (a .recognizes) (b .recognizes))
+      (concat-stage fmt (suc m) A B L L′ (a .recognizes) (b .recognizes))
 
-  star-right : (A : Machine) (L : Language) (peak : ℕ) → Right m A L → Keeps (λ M. Right m M (starOf L)) (starStage lim (suc m) A peak)
-  star-right A L peak a =
-      keeps-map (λ M. Recognizes (suc m) M (starOf L)) (λ M. Right m M (starOf L)) (starStage lim (suc m) A peak)
+  star-right : (A : Machine) (L : Language) → Right m A L → Keeps (λ M. Right m M (starOf L)) (starStage fmt (suc m) A)
+  star-right A L a =
+      keeps-map (λ M. Recognizes (suc m) M (starOf L)) (λ M. Right m M (starOf L)) (starStage fmt (suc m) A)
       (λ M r. record { recognizes = r; letters = star-letters m L (a .letters) })
-      (star-stage lim (suc m) A L peak (a .recognizes))
+      (star-stage fmt (suc m) A L (a .recognizes))
 
 -- EXPRESSIONS. Where the letters and names are known, the machine that is kept is right for what the expression means.
-module _ (lim : Limits) (ls : List ℕ) (names : List ℕ) (xs : List (ℕ × Machine)) (ys : List (ℕ × Language)) (env : EnvRight (length ls) xs ys) where
+module _ (fmt : Format) (ls : List ℕ) (names : List ℕ) (xs : List (ℕ × Machine)) (ys : List (ℕ × Language)) (env : EnvRight (length ls) xs ys) where
   abbrev m : ℕ
   m = length ls
 
-  pub expression-right : (e : Expr) (peak : ℕ) → known ls names e ≡ true → Keeps (λ M. Right m M (matches ls ys e)) (compile lim ls xs e peak)
-  unfolding compile
-  expression-right (letter b) peak k = record {
+  pub expression-right : (e : Expr) → known ls names e ≡ true → Keeps (λ M. Right m M (matches ls ys e)) (evaluate fmt ls xs e)
+  unfolding evaluate
+  expression-right (letter b) k = record {
     recognizes = letter-recognizes m (column ls b);
     letters = symbol-letters m (eqb (column ls b)) (λ c t. rw (← nat-test .sound (column ls b) c t) (ltb-lt (column ls b) m k));
   }
-  expression-right (name b) peak k = lookup-right m b xs ys env
-  expression-right dot peak k = record { recognizes = dot-recognizes m; letters = symbol-letters m (λ c. ltb c m) (λ c t. ltb-lt c m t) }
-  expression-right empty peak k = empty-right m
-  expression-right every peak k = record { recognizes = all-recognizes m; letters = allWords-sound m }
-  expression-right (pair o e f) peak k =
-      then-keeps (λ M. Right m M (matches ls ys e)) (λ M. Right m M (matches ls ys (pair o e f))) (compile lim ls xs e peak) _
-      (expression-right e peak (and-left (known ls names e) (known ls names f) k)) λ peak₁ A a.
-      then-keeps (λ M. Right m M (matches ls ys f)) (λ M. Right m M (matches ls ys (pair o e f))) (compile lim ls xs f peak₁) _
-      (expression-right f peak₁ (and-right (known ls names e) (known ls names f) k)) λ peak₂ B b.
-      pair-right lim m o A B (matches ls ys e) (matches ls ys f) peak₂ a b
-  expression-right (join e f) peak k =
-      then-keeps (λ M. Right m M (matches ls ys e)) (λ M. Right m M (matches ls ys (join e f))) (compile lim ls xs e peak) _
-      (expression-right e peak (and-left (known ls names e) (known ls names f) k)) λ peak₁ A a.
-      then-keeps (λ M. Right m M (matches ls ys f)) (λ M. Right m M (matches ls ys (join e f))) (compile lim ls xs f peak₁) _
-      (expression-right f peak₁ (and-right (known ls names e) (known ls names f) k)) λ peak₂ B b.
-      concat-right lim m A B (matches ls ys e) (matches ls ys f) peak₂ a b
-  expression-right (star e) peak k =
-      then-keeps (λ M. Right m M (matches ls ys e)) (λ M. Right m M (matches ls ys (star e))) (compile lim ls xs e peak) _
-      (expression-right e peak k) λ peak₁ A a.
-      star-right lim m A (matches ls ys e) peak₁ a
-  expression-right (plus e) peak k =
-      then-keeps (λ M. Right m M (matches ls ys e)) (λ M. Right m M (matches ls ys (plus e))) (compile lim ls xs e peak) _
-      (expression-right e peak k) λ peak₁ A a.
-      then-keeps (λ M. Right m M (starOf (matches ls ys e))) (λ M. Right m M (matches ls ys (plus e))) (starStage lim (suc m) A peak₁) _
-      (star-right lim m A (matches ls ys e) peak₁ a) λ peak₂ B b.
-      concat-right lim m A B (matches ls ys e) (starOf (matches ls ys e)) peak₂ a b
+  expression-right (name b) k = lookup-right m b xs ys env
+  expression-right dot k = record { recognizes = dot-recognizes m; letters = symbol-letters m (λ c. ltb c m) (λ c t. ltb-lt c m t) }
+  expression-right empty k = empty-right m
+  expression-right every k = record { recognizes = all-recognizes m; letters = allWords-sound m }
+  expression-right (pair o e f) k =
+      then-keeps (λ M. Right m M (matches ls ys e)) (λ M. Right m M (matches ls ys (pair o e f))) (evaluate fmt ls xs e) _
+      (expression-right e (and-left (known ls names e) (known ls names f) k)) λ A a.
+      then-keeps (λ M. Right m M (matches ls ys f)) (λ M. Right m M (matches ls ys (pair o e f))) (evaluate fmt ls xs f) _
+      (expression-right f (and-right (known ls names e) (known ls names f) k)) λ B b.
+      pair-right fmt m o A B (matches ls ys e) (matches ls ys f) a b
+  expression-right (join e f) k =
+      then-keeps (λ M. Right m M (matches ls ys e)) (λ M. Right m M (matches ls ys (join e f))) (evaluate fmt ls xs e) _
+      (expression-right e (and-left (known ls names e) (known ls names f) k)) λ A a.
+      then-keeps (λ M. Right m M (matches ls ys f)) (λ M. Right m M (matches ls ys (join e f))) (evaluate fmt ls xs f) _
+      (expression-right f (and-right (known ls names e) (known ls names f) k)) λ B b.
+      concat-right fmt m A B (matches ls ys e) (matches ls ys f) a b
+  expression-right (star e) k =
+      then-keeps (λ M. Right m M (matches ls ys e)) (λ M. Right m M (matches ls ys (star e))) (evaluate fmt ls xs e) _
+      (expression-right e k) λ A a.
+      star-right fmt m A (matches ls ys e) a
+  expression-right (plus e) k =
+      then-keeps (λ M. Right m M (matches ls ys e)) (λ M. Right m M (matches ls ys (plus e))) (evaluate fmt ls xs e) _
+      (expression-right e k) λ A a.
+      then-keeps (λ M. Right m M (starOf (matches ls ys e))) (λ M. Right m M (matches ls ys (plus e))) (starStage fmt (suc m) A) _
+      (star-right fmt m A (matches ls ys e) a) λ B b.
+      concat-right fmt m A B (matches ls ys e) (starOf (matches ls ys e)) a b

@@ -4,13 +4,14 @@ use mathlib.Core.Bool.{true}
 use mathlib.Core.Logic.{_↔_}
 use mathlib.Core.List.{List, [], _∷_, _++_}
 use Prim.Native.Nat.{ℕ, suc}
+use Rattle.automata.specs.Format.{Format}
 use Rattle.automata.specs.Booleans.{bool-iff}
 use Rattle.automata.specs.Automaton.{Over, over-parts, over-more, accepts}
 use Rattle.automata.specs.Machine.{Machine, automaton, Canonical}
 use Rattle.automata.specs.Flags.{flags-test}
 use Rattle.automata.specs.Subset.{subset}
 use Rattle.automata.specs.Operations.{product, product-accept, pair-test, concatNFA, concat-accept, starNFA, star-accept, Each as EachOf, eraseNFA, erase-accept, erase-letters}
-use Rattle.automata.specs.Stage.{Limits, Smallest, Keeps, stage-keeps}
+use Rattle.automata.specs.Stage.{Smallest, Keeps, stage-keeps}
 use Rattle.automata.specs.Stages.{Pairing, either, both, without, combine, pairStage, concatStage, starStage, eraseStage}
 use Rattle.language.specs.Cuts.{Word}
 use Rattle.language.specs.Language.{Language, union, intersection, difference, concatenation, concatenation-sound, concatenation-whole, star, star-sound, star-whole, inRow, Each}
@@ -25,17 +26,17 @@ combined without A B = difference A B
 
 -- ---- what the kept machines accept
 
-module _ (lim : Limits) (k : ℕ) where
+module _ (fmt : Format) (k : ℕ) where
   combine-combined : (o : Pairing) (A B : Language) (w : Word) → combine o (A w) (B w) ≡ combined o A B w
   combine-combined either A B w = refl
   combine-combined both A B w = refl
   combine-combined without A B w = refl
 
-  pub pair-stage : (o : Pairing) (A B : Machine) (L L′ : Language) (peak : ℕ) → Recognizes k A L → Recognizes k B L′
-      → Keeps (λ M. Recognizes k M (combined o L L′)) (pairStage lim k o A B peak)
+  pub pair-stage : (o : Pairing) (A B : Machine) (L L′ : Language) → Recognizes k A L → Recognizes k B L′
+      → Keeps (λ M. Recognizes k M (combined o L L′)) (pairStage fmt k o A B)
   unfolding pairStage
-  pair-stage o A B L L′ peak r r′ =
-      stage-keeps pair-test lim k (product (combine o) A B) peak (λ M. Recognizes k M (combined o L L′))
+  pair-stage o A B L L′ r r′ =
+      stage-keeps pair-test fmt k (product (combine o) A B) (λ M. Recognizes k M (combined o L L′))
       (λ M s. smallest-recognizes k (product (combine o) A B) M (combined o L L′)
       (λ w v. product-accept (combine o) A B w ∙ ap₂ (combine o) (r .exact w v) (r′ .exact w v) ∙ combine-combined o L L′ w) s)
 
@@ -54,11 +55,11 @@ module _ (lim : Limits) (k : ℕ) where
           let (a, b) = over-parts k u v (rw q at o) in
           concat-accept k A B (r .canonical .formed) (r′ .canonical .formed) w o .1 (u, v, q, r .exact u a ∙ s, r′ .exact v b ∙ t)
 
-  pub concat-stage : (A B : Machine) (L L′ : Language) (peak : ℕ) → Recognizes k A L → Recognizes k B L′
-      → Keeps (λ M. Recognizes k M (concatenation L L′)) (concatStage lim k A B peak)
+  pub concat-stage : (A B : Machine) (L L′ : Language) → Recognizes k A L → Recognizes k B L′
+      → Keeps (λ M. Recognizes k M (concatenation L L′)) (concatStage fmt k A B)
   unfolding concatStage
-  concat-stage A B L L′ peak r r′ =
-      stage-keeps flags-test lim k (subset (concatNFA A B)) peak (λ M. Recognizes k M (concatenation L L′))
+  concat-stage A B L L′ r r′ =
+      stage-keeps flags-test fmt k (subset (concatNFA A B)) (λ M. Recognizes k M (concatenation L L′))
       (λ M s. smallest-recognizes k (subset (concatNFA A B)) M (concatenation L L′) (concat-accepts A B L L′ r r′) s)
 
   star-accepts : (A : Machine) (L : Language) → Recognizes k A L → (w : Word) → Over k w → accepts (subset (starNFA A)) w ≡ star L w
@@ -87,10 +88,10 @@ module _ (lim : Limits) (k : ℕ) where
           let (us, q, a) = star-sound L w e in
           star-accept k A (r .canonical .formed) w o .1 (us, q ∙ sym (rows us), each′ us (rw q at o) a)
 
-  pub star-stage : (A : Machine) (L : Language) (peak : ℕ) → Recognizes k A L → Keeps (λ M. Recognizes k M (star L)) (starStage lim k A peak)
+  pub star-stage : (A : Machine) (L : Language) → Recognizes k A L → Keeps (λ M. Recognizes k M (star L)) (starStage fmt k A)
   unfolding starStage
-  star-stage A L peak r =
-      stage-keeps flags-test lim k (subset (starNFA A)) peak (λ M. Recognizes k M (star L))
+  star-stage A L r =
+      stage-keeps flags-test fmt k (subset (starNFA A)) (λ M. Recognizes k M (star L))
       (λ M s. smallest-recognizes k (subset (starNFA A)) M (star L) (star-accepts A L r) s)
 
 -- A machine that accepts the words of letters that are U's, less their marks, and no word with a mark.
@@ -99,10 +100,10 @@ pub record Erases (m : ℕ) (E : Machine) (U : Language) : Type 0 where
   pub letters : (w : Word) → Over (suc m) w → accepts (automaton E) w ≡ true → Over m w
   pub exact : (w : Word) → Over m w → (accepts (automaton E) w ≡ true) ↔ Erased m U w
 
-module _ (lim : Limits) (m : ℕ) where
-  pub erase-stage : (A : Machine) (U : Language) (peak : ℕ) → Recognizes (suc m) A U → Keeps (λ E. Erases m E U) (eraseStage lim m A peak)
+module _ (fmt : Format) (m : ℕ) where
+  pub erase-stage : (A : Machine) (U : Language) → Recognizes (suc m) A U → Keeps (λ E. Erases m E U) (eraseStage fmt m A)
   unfolding eraseStage
-  erase-stage A U peak r = stage-keeps flags-test lim (suc m) (subset (eraseNFA m A)) peak (λ E. Erases m E U) erases
+  erase-stage A U r = stage-keeps flags-test fmt (suc m) (subset (eraseNFA m A)) (λ E. Erases m E U) erases
     where
       erases : (E : Machine) → Smallest (suc m) (subset (eraseNFA m A)) E → Erases m E U
       erases E s = record {

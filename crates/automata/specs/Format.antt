@@ -1,0 +1,17 @@
+-- The numbers of 01 that bound a book and a card, in one place: the definitions, laws and contracts of stages, cards, loading and compiling take
+-- them as a record, so that another kind of card needs new numbers and no new proofs.
+use Prim.Native.Nat.{ℕ}
+
+pub record Format : Type 0 where
+  pub leastLetters : ℕ
+  pub mostLetters : ℕ
+  pub mostStates : ℕ
+  pub mostSets : ℕ
+  pub mostNames : ℕ
+  pub numberBytes : ℕ
+  pub moveBytes : ℕ
+
+-- "length m (1 to 26)", "length n (1 to 120 states)", "A stage may make 512 sets; a kept machine may have 120 states", "a name (one byte A to Z)",
+-- "a two-byte offset and a two-byte length", moves of "one byte each".
+abbrev pub narrow : Format
+narrow = record { leastLetters = 1; mostLetters = 26; mostStates = 120; mostSets = 512; mostNames = 26; numberBytes = 2; moveBytes = 1 }
