@@ -21,6 +21,8 @@ pub mod NumberingTest
 pub mod Scan
 pub mod ReducedTest
 pub mod Refinement
+pub mod Rows
+pub mod Table
 pub mod Format
 pub mod Stage
 pub mod Given

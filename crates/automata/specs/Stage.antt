@@ -1,5 +1,5 @@
 -- A stage: "it makes sets, then the smallest machine". Its limits, its sets counted, what it keeps, and its two refusals.
-use mathlib.Core.Path.{_≡_, refl, sym, ap, _∙_}
+use mathlib.Core.Path.{_≡_, refl, sym, ap, ap₂, _∙_}
 use mathlib.Core.Logic.{inl, inr, _↔_}
 use mathlib.Core.List.{List, [], _∷_, _++_}
 use Prim.Native.Nat.{ℕ, zero, suc, _≤_, _<_}
@@ -154,6 +154,24 @@ stage-too-many-sets {S} E fmt k A = (λ e. to (stage E fmt k A) e (stage-result 
 -- The smallest machine of an automaton is one machine.
 pub smallest-one : {S : Type 0} (k : ℕ) (A : Automaton S) (M N : Machine) → Smallest k A M → Smallest k A N → M ≡ N
 smallest-one k A M N s t = unique k M N (s .canonical) (t .canonical) (λ w o. sym (s .words w o) ∙ t .words w o)
+
+-- One answer only is right: whatever way the sets are found and the machine is made, the stage's answer is known by what it says.
+pub stage-only : {S : Type 0} (E : Test S) (fmt : Format) (k : ℕ) (A : Automaton S) (r : Made) → StageResult fmt k A r → stage E fmt k A ≡ r
+stage-only {S} E fmt k A r s = go (stage E fmt k A) r (stage-result E fmt k A) s
+  where
+    one : (n n′ : ℕ) (M M′ : Machine) → Counts k A n → Counts k A n′ → Smallest k A M → Smallest k A M′ → _≡_ {A = Made} (made (n ∷ []) M) (made (n′ ∷ []) M′)
+    one n n′ M M′ C C′ s s′ = ap₂ (λ n M. made (n ∷ []) M) (counts-unique k A n n′ C C′) (smallest-one k A M M′ s s′)
+
+    go : (q r : Made) → StageResult fmt k A q → StageResult fmt k A r → q ≡ r
+    go q r (kept-one n M C h s b) (kept-one n′ M′ C′ h′ s′ b′) = one n n′ M M′ C C′ s s′
+    go q r (kept-one n M C h s b) (too-many-sets c) = absurd (counts-most k A n (fmt .mostSets) C h c)
+    go q r (kept-one n M C h s b) (too-many-states n′ M′ C′ h′ s′ b′) = absurd (omega (arith, ap size (smallest-one k A M M′ s s′)))
+    go q r (too-many-sets c) (kept-one n M C h s b) = absurd (counts-most k A n (fmt .mostSets) C h c)
+    go q r (too-many-sets c) (too-many-sets c′) = refl
+    go q r (too-many-sets c) (too-many-states n M C h s b) = absurd (counts-most k A n (fmt .mostSets) C h c)
+    go q r (too-many-states n M C h s b) (kept-one n′ M′ C′ h′ s′ b′) = absurd (omega (arith, ap size (smallest-one k A M M′ s s′)))
+    go q r (too-many-states n M C h s b) (too-many-sets c) = absurd (counts-most k A n (fmt .mostSets) C h c)
+    go q r (too-many-states n M C h s b) (too-many-states n′ M′ C′ h′ s′ b′) = refl
 
 -- 9 exactly when no more sets than the limit can be reached and its smallest machine has more states than the limit.
 pub stage-too-many-states : {S : Type 0} (E : Test S) (fmt : Format) (k : ℕ) (A : Automaton S)

@@ -1,6 +1,5 @@
 -- A card's bytes, loading, one step, judging; and what each answer means.
 pub mod Mark
-pub mod Rows
 pub mod Layout
 pub mod LayoutLaws
 pub mod Alphabet
