@@ -11,6 +11,7 @@ use Rattle.automata.specs.Machine.{Machine}
 use Rattle.automata.specs.Stage.{Made, made, refused, thenMade}
 use Rattle.automata.specs.Given.{allMachine}
 use Rattle.automata.specs.Stages.{both, pairStage}
+use Rattle.language.specs.Restriction.{RuleKind, restricts}
 use Rattle.language.specs.Expression.{member}
 use Rattle.language.specs.Environment.{namesOf, known, allKnown}
 use Rattle.language.specs.Evaluate.{evaluate, evaluateRule}
@@ -39,7 +40,7 @@ compileForm fmt ls d (define x e) =
     choose (member x (namesOf (d .env))) (λ _. off 7) λ _.
     onMade (evaluate fmt ls (d .env) e) λ counts M.
     on (record { env = (x, M) ∷ d .env; counts = d .counts ++ counts; ruled = d .ruled; kept = d .kept })
-compileForm fmt ls d (rule p cs) =
+compileForm fmt ls d (rule restricts p cs) =
     unless (known ls (namesOf (d .env)) p && allKnown ls (namesOf (d .env)) cs) (λ _. off 6) λ _.
     onMade (thenMade (evaluateRule fmt ls (d .env) p cs) λ R. pairStage fmt (suc (length ls)) both (d .kept) R) λ counts M.
     on (record { env = d .env; counts = d .counts ++ counts; ruled = true; kept = M })
@@ -69,7 +70,7 @@ startDraft m = record { env = []; counts = []; ruled = false; kept = allMachine 
 unfoldable pub compileHead : Format → Line → List Line → BookResult
 compileHead fmt l rest =
     unless (eqb (lineTest l) 0) (λ _. stopped (lineTest l) 1) λ _.
-    unless (isHead (l .bytes)) (λ _. stopped 5 1) λ _.
+    unless (isHead fmt (l .bytes)) (λ _. stopped 5 1) λ _.
     compileLines fmt (lettersOf l) rest 2 (startDraft (length (lettersOf l)))
 
 -- 5: "or the text has no bytes (then line 1)"

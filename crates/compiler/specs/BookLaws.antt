@@ -13,6 +13,7 @@ use Rattle.automata.specs.Automaton.{Over, over-more, accepts}
 use Rattle.automata.specs.Machine.{Machine, automaton, Canonical}
 use Rattle.automata.specs.Stage.{Made, made, refused, thenMade, Keeps, then-keeps}
 use Rattle.automata.specs.Stages.{both, pairStage}
+use Rattle.language.specs.Restriction.{RuleKind, restricts}
 use Rattle.language.specs.Cuts.{Word}
 use Rattle.language.specs.Language.{Language, allWords, allWords-sound, allWords-whole, intersection}
 use Rattle.language.specs.Restriction.{restriction}
@@ -102,7 +103,7 @@ module _ (fmt : Format) (ls : List ℕ) where
 
       g : ℕ → BookResult
       g r = stopped r at
-  form-right rest at d ys K h ih (rule p cs) =
+  form-right rest at d ys K h ih (rule restricts p cs) =
       line-choose goal f g (known ls names p && allKnown ls names cs) _ _
       (λ k. made-line goal (λ M. Right m M (λ w. K w && rs w)) f at
       (thenMade (evaluateRule fmt ls (d .env) p cs) (λ R. pairStage fmt (suc m) both (d .kept) R)) _
@@ -122,7 +123,7 @@ module _ (fmt : Format) (ls : List ℕ) where
       rs = restriction (matches ls ys p) (contextsIn ls ys cs)
 
       goal : List ℕ → Draft → Type 0
-      goal = Final K (record { pattern = matches ls ys p; contexts = contextsIn ls ys cs } ∷ rulesOf rest ls ys)
+      goal = Final K (record { kind = restricts; pattern = matches ls ys p; contexts = contextsIn ls ys cs } ∷ rulesOf rest ls ys)
 
       f : Draft → BookResult
       f d₁ = compileLines fmt ls rest (suc at) d₁
@@ -165,7 +166,7 @@ book-letters fmt text = choose-accepts (λ ls d. ls ≡ bookLetters (linesOf tex
     lines [] = tt
     lines (l ∷ rest) =
         choose-accepts (λ ls d. ls ≡ lettersOf l) (eqb (lineTest l) 0) _ _
-        (λ e. choose-accepts (λ ls d. ls ≡ lettersOf l) (isHead (l .bytes)) _ _ (λ e. lines-letters fmt (lettersOf l) rest 2 (startDraft (length (lettersOf l)))) (λ e. tt))
+        (λ e. choose-accepts (λ ls d. ls ≡ lettersOf l) (isHead fmt (l .bytes)) _ _ (λ e. lines-letters fmt (lettersOf l) rest 2 (startDraft (length (lettersOf l)))) (λ e. tt))
         (λ e. tt)
 
 -- BOOKS. The kept machine of an accepted book is right for the plans that the book allows.
@@ -180,7 +181,7 @@ book-right fmt text = choose-accepts goal (ltb 16384 (length text)) _ _ (λ e. t
     lines [] = tt
     lines (l ∷ rest) =
         choose-accepts goal′ (eqb (lineTest l) 0) _ _
-        (λ e. choose-accepts goal′ (isHead (l .bytes)) _ _
+        (λ e. choose-accepts goal′ (isHead fmt (l .bytes)) _ _
         (λ e. lines-right fmt (lettersOf l) rest 2 (startDraft n) [] (allWords n) (record { env = tt; kept = record { recognizes = all-recognizes n; letters = allWords-sound n } }))
         (λ e. tt))
         (λ e. tt)

@@ -12,10 +12,11 @@ use Rattle.automata.specs.Basics.{Test}
 use Rattle.automata.specs.Automaton.{Automaton}
 use Rattle.automata.specs.Machine.{Machine, size}
 use Rattle.automata.specs.Stage.{Made, made, refused, after, thenMade, stage, StageResult, kept-one, too-many-sets, too-many-states, stage-result}
-use Rattle.automata.specs.Given.{allMachine, markMachine}
-use Rattle.automata.specs.Stages.{Pairing, both, without, pairStage, concatStage, starStage, eraseStage}
+use Rattle.automata.specs.Given.{emptyMachine, allMachine, markMachine}
+use Rattle.automata.specs.Stages.{Pairing, either, both, without, pairStage, concatStage, starStage, eraseStage}
+use Rattle.language.specs.Restriction.{RuleKind, restricts}
 use Rattle.language.specs.GivenLaws.{all-size}
-use Rattle.language.specs.Expression.{Expr, letter, name, dot, empty, every, pair, join, star, plus, member}
+use Rattle.language.specs.Expression.{Expr, letter, name, dot, empty, pair, join, star, plus, option, complement, member}
 use Rattle.language.specs.Environment.{namesOf, known, allKnown}
 use Rattle.language.specs.Evaluate.{evaluate, markedStages, minusContexts, eraseAndExclude, evaluateRule}
 use Rattle.book.specs.Text.{Line, linesOf, lineTest, isHead, lettersOf, Form, define, rule, malformed, formOf}
@@ -99,7 +100,6 @@ module _ (fmt : Format) where
     evaluate-within (name b) = tt
     evaluate-within dot = tt
     evaluate-within empty = tt
-    evaluate-within every = tt
     evaluate-within (pair o e f) =
         then-within (evaluate fmt ls xs e) _ (evaluate-within e) λ A.
         then-within (evaluate fmt ls xs f) _ (evaluate-within f) λ B.
@@ -113,6 +113,8 @@ module _ (fmt : Format) where
         then-within (evaluate fmt ls xs e) _ (evaluate-within e) λ A.
         then-within (starStage fmt k A) _ (star-within k A) λ B.
         concat-within k A B
+    evaluate-within (option e) = then-within (evaluate fmt ls xs e) _ (evaluate-within e) λ A. pair-within k either (emptyMachine (length ls)) A
+    evaluate-within (complement e) = then-within (evaluate fmt ls xs e) _ (evaluate-within e) λ A. pair-within k without (allMachine (length ls)) A
 
     marked-within : (A P B : Machine) → Within (markedStages fmt (length ls) A P B)
     unfolding markedStages
@@ -164,7 +166,7 @@ module _ (fmt : Format) where
       go : (r : Made) → Within r → LineWithin (onMade r λ counts M. on (record { env = (x, M) ∷ d .env; counts = d .counts ++ counts; ruled = d .ruled; kept = d .kept }))
       go (made counts M) w = record { counts = each-append (fmt .mostSets) (d .counts) counts (h .counts) w; states = h .states }
       go (refused r) w = tt
-  form-within ls d h (rule p cs) =
+  form-within ls d h (rule restricts p cs) =
       choose-line (known ls (namesOf (d .env)) p && allKnown ls (namesOf (d .env)) cs) _ _
       (go (thenMade (evaluateRule fmt ls (d .env) p cs) (λ R. pairStage fmt (suc (length ls)) both (d .kept) R))
       (then-small (evaluateRule fmt ls (d .env) p cs) _ (rule-within ls (d .env) p cs) (λ R. pair-small (suc (length ls)) both (d .kept) R)))
@@ -199,7 +201,7 @@ module _ (fmt : Format) where
       lines [] = tt
       lines (l ∷ rest) =
           choose-book (eqb (lineTest l) 0) _ _
-          (choose-book (isHead (l .bytes)) _ _
+          (choose-book (isHead fmt (l .bytes)) _ _
           (lines-within (lettersOf l) rest 2 (startDraft (length (lettersOf l))) (record { counts = tt; states = omega (arith, all-size (length (lettersOf l))) })) tt)
           tt
 
