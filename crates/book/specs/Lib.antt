@@ -7,3 +7,5 @@ pub mod Text
 pub mod LineGrammar
 pub mod Program
 pub mod Line
+pub mod LineLaws
+pub mod HeadLaws

@@ -154,7 +154,8 @@ rule-whole ts us p cs c k =
 cons-parts : (b c : ℕ) (s t : List ℕ) → b ∷ s ≡ c ∷ t → (b ≡ c) × (s ≡ t)
 cons-parts b c s t e = (mathlib.Core.List.head-eq-of-cons-eq e, mathlib.Core.List.tail-eq-of-cons-eq e)
 
-form-whole : (bs : List ℕ) (F : Form) → LineForm (squeezed bs) F → formOf bs ≡ F
+-- at most one form is that of a line
+pub form-whole : (bs : List ℕ) (F : Form) → LineForm (squeezed bs) F → formOf bs ≡ F
 unfolding formOf
 form-whole [] F (definition q c z) = absurd (omega (arith, ap length z))
 form-whole [] F (ruling c k z) = absurd (omega (arith, ap length z))
