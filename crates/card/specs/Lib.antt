@@ -1,4 +1,5 @@
 -- A card's bytes, loading, one step, judging; and what each answer means.
+pub mod Number
 pub mod Mark
 pub mod Layout
 pub mod LayoutLaws
@@ -13,5 +14,4 @@ pub mod JudgeLaws
 pub mod Step
 pub mod Same
 pub mod Write
-pub mod Words
 pub mod Demand
