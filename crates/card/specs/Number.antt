@@ -183,5 +183,10 @@ bytesOf-at w xs rest h q b = sym (numbersOf-at w (length xs) (bytesOf w xs ++ re
 pub number-one : (bs : List ℕ) (i : ℕ) → numberAt 1 bs i ≡ getD bs i 0
 number-one bs i = omega arith
 
+pub numbersOf-one : (n : ℕ) (bs : List ℕ) → n ≤ length bs → numbersOf 1 n bs ≡ take n bs
+numbersOf-one zero bs h = refl
+numbersOf-one (suc n) [] h = absurd (not-suc-le-zero h)
+numbersOf-one (suc n) (b ∷ bs) h = ap₂ _∷_ (number-one (b ∷ bs) 0) (numbersOf-one n bs (omega arith))
+
 pub number-two : (bs : List ℕ) (i : ℕ) → numberAt 2 bs i ≡ getD bs i 0 + 256 * getD bs (suc i) 0
 number-two bs i = omega arith
