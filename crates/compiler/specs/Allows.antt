@@ -3,7 +3,7 @@ use Prim.Native.Nat.{ℕ}
 use mathlib.Core.Bool.{_&&_}
 use mathlib.Core.List.{List, [], _∷_}
 use lib.ListN.{length}
-use Rattle.language.specs.Restriction.{RuleKind, restricts}
+use Rattle.language.specs.Restriction.{restricts}
 use Rattle.language.specs.Language.{Language, allWords}
 use Rattle.language.specs.Matches.{matches, Rule, contextsIn, obeys}
 use Rattle.book.specs.Text.{Line, linesOf, lettersOf, Form, define, rule, malformed, formOf}

@@ -1,9 +1,8 @@
--- A book, compiled: the kept machine with its peak, or the first refusal with its line. "1 and 2 come first; then line by line 3 to 9, stages in their
--- order, 8 before 9 in one stage; then 10, 11." (2 and 11 are of the buffers lent, and stand with the card.)
+-- A book, compiled: the kept machine with the counts of its stages, or the first refusal with its line. "1 and 2 come first; then line by line 3 to 9, stages in their
+-- order, 8 before 9 in one stage; then 10, 11." (1, 2 and 11 stand in Outcome.)
 use Prim.Native.Nat.{ℕ, suc}
 use mathlib.Core.Bool.{Bool, true, false}
 use mathlib.Core.List.{List, [], _∷_, _++_}
-use lib.Dec.{ltb}
 use lib.ListN.{length}
 use Rattle.automata.specs.Format.{Format}
 use Rattle.automata.specs.Booleans.{choose}
@@ -79,6 +78,6 @@ unfoldable pub compileText : Format → List Line → BookResult
 compileText fmt [] = stopped 5 1
 compileText fmt (l ∷ rest) = compileHead fmt l rest
 
--- 1: "text over 16,384 bytes"
+-- A text of any length (1 is tested before, by `outcome`).
 unfoldable pub compileBook : Format → List ℕ → BookResult
-compileBook fmt text = choose (ltb 16384 (length text)) (λ _. stopped 1 0) (λ _. compileText fmt (linesOf text))
+compileBook fmt text = compileText fmt (linesOf text)

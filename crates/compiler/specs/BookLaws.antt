@@ -6,7 +6,6 @@ use mathlib.Core.Logic.{_↔_}
 use mathlib.Core.List.{List, [], _∷_, _++_}
 use Prim.Native.Nat.{ℕ, suc}
 use lib.ListN.{length}
-use lib.Dec.{ltb}
 use Rattle.automata.specs.Format.{Format}
 use Rattle.automata.specs.Booleans.{choose, and-left, and-right, and-both}
 use Rattle.automata.specs.Automaton.{Over, over-more, accepts}
@@ -161,7 +160,7 @@ module _ (fmt : Format) (ls : List ℕ) where
 
 pub book-letters : (fmt : Format) (text : List ℕ) → Accepts (λ ls d. (ls ≡ bookLetters (linesOf text)) × Letters fmt ls) (compileBook fmt text)
 unfolding compileBook compileText compileHead
-book-letters fmt text = choose-accepts (λ ls d. (ls ≡ bookLetters (linesOf text)) × Letters fmt ls) (ltb 16384 (length text)) _ _ (λ e. tt) (λ e. lines (linesOf text))
+book-letters fmt text = lines (linesOf text)
   where
     lines : (ts : List Line) → Accepts (λ ls d. (ls ≡ bookLetters ts) × Letters fmt ls) (compileText fmt ts)
     lines [] = tt
@@ -176,11 +175,8 @@ book-letters fmt text = choose-accepts (λ ls d. (ls ≡ bookLetters (linesOf te
 -- BOOKS. The kept machine of an accepted book is right for the plans that the book allows.
 pub book-right : (fmt : Format) (text : List ℕ) → Accepts (λ ls d. Right (length ls) (d .kept) (allows text)) (compileBook fmt text)
 unfolding compileBook compileText compileHead
-book-right fmt text = choose-accepts goal (ltb 16384 (length text)) _ _ (λ e. tt) (λ e. lines (linesOf text))
+book-right fmt text = lines (linesOf text)
   where
-    goal : List ℕ → Draft → Type 0
-    goal ls d = Right (length ls) (d .kept) (allows text)
-
     lines : (ts : List Line) → Accepts (λ ls d. Right (length ls) (d .kept) (allowsLines ts)) (compileText fmt ts)
     lines [] = tt
     lines (l ∷ rest) =

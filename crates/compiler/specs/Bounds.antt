@@ -5,7 +5,6 @@ use mathlib.Core.List.{List, [], _∷_, _++_}
 use Prim.Native.Nat.{ℕ, suc, _≤_}
 use native.Mathlib.Omega.{arith}
 use lib.ListN.{length}
-use lib.Dec.{ltb}
 use Rattle.automata.specs.Format.{Format}
 use Rattle.automata.specs.Booleans.{choose}
 use Rattle.automata.specs.Basics.{Test}
@@ -192,7 +191,7 @@ module _ (fmt : Format) where
   -- An accepted book keeps to the limits, where these let `.*` be kept.
   pub book-within : 2 ≤ fmt .mostStates → (text : List ℕ) → Accepts (λ ls d. DraftWithin d) (compileBook fmt text)
   unfolding compileBook compileText compileHead
-  book-within two text = choose-book (ltb 16384 (length text)) _ _ tt (lines (linesOf text))
+  book-within two text = lines (linesOf text)
     where
       head : (r : HeadRead) (rest : List Line) → Accepts (λ ls d. DraftWithin d) (afterHead r (λ ls. compileLines fmt ls rest 2 (startDraft (length ls))))
       head (letters ls) rest = lines-within ls rest 2 (startDraft (length ls)) (record { counts = tt; states = omega (arith, all-size (length ls)) })
