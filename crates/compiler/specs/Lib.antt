@@ -6,3 +6,4 @@ pub mod Bounds
 pub mod Consequences
 pub mod Outcome
 pub mod Table
+pub mod Peak
