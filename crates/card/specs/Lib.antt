@@ -12,6 +12,7 @@ pub mod Allowed
 pub mod Judge
 pub mod JudgeLaws
 pub mod Step
+pub mod Run
 pub mod Answer
 pub mod Same
 pub mod Write

@@ -1,0 +1,203 @@
+-- Judging in parts, for a plan that comes in pieces: what is kept between two pieces, the start, one letter, a piece, and the reply at the end. Taking
+-- pieces one after the other is taking the whole (`run-append`), and the reply after the whole plan is the reply of judging (`judge-run`). Assumes nothing.
+use mathlib.Core.Path.{_≡_, refl, sym, ap, _∙_}
+use mathlib.Core.Bool.{true, false}
+use mathlib.Core.Logic.{_⊎_, inl, inr}
+use mathlib.Core.List.{List, [], _∷_, _++_}
+use Prim.Native.Nat.{ℕ, zero, suc, _+_, _≤_, _<_}
+use native.Mathlib.Nat.{not-suc-le-zero, zero-lt-suc}
+use native.Mathlib.Omega.{arith}
+use lib.ListN.{length, getD}
+use lib.Dec.{eqb, ltb}
+use Rattle.automata.specs.Booleans.{bool-cases, choose, not-true}
+use Rattle.automata.specs.Basics.{LtCases, lt-cases, lt-ltb, nat-test}
+use Rattle.automata.specs.Automaton.{run}
+use Rattle.automata.specs.Machine.{size, automaton}
+use Rattle.automata.specs.Decide.{unless}
+use Rattle.automata.specs.Format.{Format}
+use Rattle.card.specs.Mark.{Mark, is-accepting, is-dead, is-live, marks, marks-only}
+use Rattle.card.specs.Layout.{letterCount, stateCount, markAt, moveAt, lettersOf, machineOf}
+use Rattle.card.specs.LayoutLaws.{letters-length, size-is, step-at}
+use Rattle.card.specs.Alphabet.{column, columns, Known, knownCount, Counted, counted, all-known, first-unknown}
+use Rattle.card.specs.Load.{loadTest}
+use Rattle.card.specs.Loads.{Loaded, loaded-formed}
+use Rattle.card.specs.Verdict.{Verdict, allowed, unfinished, hopeless}
+use Rattle.card.specs.Allowed.{known-count}
+use Rattle.card.specs.Judge.{verdictFrom, Reply, verdict, refused, judge}
+
+-- ---- what is kept
+
+-- a place that may not have come yet
+pub data Place : Type 0 where
+  none : Place
+  found : ℕ → Place
+
+abbrev pub byPlace : {A : Type 0} → Place → (ℕ → A) → (Unit {0} → A) → A
+byPlace (found k) f g = f k
+byPlace none f g = g tt
+
+-- the state; how many letters were taken; the least number of letters after which the state is dead; how many letters precede the first that is not on
+-- the card, after which nothing changes
+pub record Run : Type 0 where
+  pub state : ℕ
+  pub letters : ℕ
+  pub dead : Place
+  pub unknown : Place
+
+-- ---- start, letter, piece, reply
+
+-- the place k where state p is dead
+abbrev pub deadAt : Format → List ℕ → ℕ → ℕ → Place
+deadAt fmt c p k = choose (eqb (markAt fmt c p) 2) (λ _. found k) (λ _. none)
+
+-- state p after k letters, all of them on the card
+abbrev pub going : ℕ → ℕ → Place → Run
+going p k d = record { state = p; letters = k; dead = d; unknown = none }
+
+-- the same where the letter after j letters is not on the card
+abbrev pub halted : ℕ → ℕ → Place → ℕ → Run
+halted p k d j = record { state = p; letters = k; dead = d; unknown = found j }
+
+abbrev pub runStart : Format → List ℕ → Run
+runStart fmt c = going 0 0 (deadAt fmt c 0 0)
+
+-- one letter more, which leads to q
+abbrev pub taken : Format → List ℕ → Run → ℕ → Run
+taken fmt c r q = going q (suc (r .letters)) (byPlace (r .dead) found (λ _. deadAt fmt c q (suc (r .letters))))
+
+abbrev pub runLetter : Format → List ℕ → Run → ℕ → Run
+runLetter fmt c r l =
+    byPlace (r .unknown) (λ _. r) λ _.
+    choose (ltb (column (lettersOf fmt c) l) (length (lettersOf fmt c)))
+    (λ _. taken fmt c r (moveAt fmt c (r .state) (column (lettersOf fmt c) l)))
+    (λ _. halted (r .state) (r .letters) (r .dead) (r .letters))
+
+abbrev pub runOn : Format → List ℕ → Run → List ℕ → Run
+runOn fmt c r [] = r
+runOn fmt c r (l ∷ plan) = runOn fmt c (runLetter fmt c r l) plan
+
+abbrev pub verdictAt : Format → List ℕ → ℕ → Verdict
+verdictAt fmt c p = choose (eqb (markAt fmt c p) 1) (λ _. allowed) (λ _. unfinished)
+
+abbrev pub runVerdict : Format → List ℕ → Run → Verdict
+runVerdict fmt c r = byPlace (r .dead) hopeless (λ _. verdictAt fmt c (r .state))
+
+abbrev pub runReply : Format → List ℕ → Run → Reply
+runReply fmt c r = byPlace (r .unknown) (refused 27) (λ _. verdict (runVerdict fmt c r))
+
+-- ---- laws
+
+module _ (fmt : Format) (c : List ℕ) where
+  abbrev ls : List ℕ
+  ls = lettersOf fmt c
+
+  -- PIECES one after the other are the whole.
+  pub run-append : (r : Run) (p q : List ℕ) → runOn fmt c r (p ++ q) ≡ runOn fmt c (runOn fmt c r p) q
+  run-append r [] q = refl
+  run-append r (l ∷ p) q = run-append (runLetter fmt c r l) p q
+
+  -- After an unknown letter nothing changes.
+  pub run-halted : (p k : ℕ) (d : Place) (j : ℕ) (plan : List ℕ) → runOn fmt c (halted p k d j) plan ≡ halted p k d j
+  run-halted p k d j [] = refl
+  run-halted p k d j (l ∷ plan) = run-halted p k d j plan
+
+  -- one letter, on the card or not
+  pub letter-known : (p k : ℕ) (d : Place) (l : ℕ) → column ls l < length ls → runLetter fmt c (going p k d) l ≡ taken fmt c (going p k d) (moveAt fmt c p (column ls l))
+  letter-known p k d l h = rw (lt-ltb (column ls l) (length ls) h)
+
+  pub letter-unknown : (p k : ℕ) (d : Place) (l : ℕ) → length ls ≤ column ls l → runLetter fmt c (going p k d) l ≡ halted p k d k
+  letter-unknown p k d l h = go (lt-cases (column ls l) (length ls))
+    where
+      go : LtCases (column ls l) (length ls) → runLetter fmt c (going p k d) l ≡ halted p k d k
+      go (inl y) = absurd (omega (arith, y .0))
+      go (inr y) = rw (y .1)
+
+  -- the verdict where the state so far is not dead
+  abbrev onward : List ℕ → ℕ → ℕ → Verdict
+  onward [] p k = verdictAt fmt c p
+  onward (l ∷ plan) p k = verdictFrom fmt c plan (moveAt fmt c p (column ls l)) (suc k)
+
+  dead-verdict : (plan : List ℕ) (p k : ℕ) → byPlace (deadAt fmt c p k) hopeless (λ _. onward plan p k) ≡ verdictFrom fmt c plan p k
+  dead-verdict plan p k = go plan (bool-cases (eqb (markAt fmt c p) 2))
+    where
+      go : (plan : List ℕ) → (eqb (markAt fmt c p) 2 ≡ true) ⊎ (eqb (markAt fmt c p) 2 ≡ false) → byPlace (deadAt fmt c p k) hopeless (λ _. onward plan p k) ≡ verdictFrom fmt c plan p k
+      go [] (inl e) = rw e
+      go [] (inr e) = rw e
+      go (l ∷ plan) (inl e) = rw e
+      go (l ∷ plan) (inr e) = rw e
+
+  -- A plan of the card's letters:
+  run-known : (plan : List ℕ) (p k : ℕ) (d : Place) → Known ls plan → runReply fmt c (runOn fmt c (going p k d) plan) ≡ verdict (byPlace d hopeless (λ _. onward plan p k))
+  run-known [] p k d o = refl
+  run-known (l ∷ plan) p k d o =
+      ap (λ r. runReply fmt c (runOn fmt c r plan)) (letter-known p k d l (o .0))
+      ∙ run-known plan q (suc k) (byPlace d found (λ _. deadAt fmt c q (suc k))) (o .1)
+      ∙ ap verdict (go d)
+    where
+      q : ℕ
+      q = moveAt fmt c p (column ls l)
+
+      go : (d : Place) → byPlace (byPlace d found (λ _. deadAt fmt c q (suc k))) hopeless (λ _. onward plan q (suc k)) ≡ byPlace d hopeless (λ _. verdictFrom fmt c plan q (suc k))
+      go (found j) = refl
+      go none = dead-verdict plan q (suc k)
+
+  -- and one with an unknown letter.
+  run-unknown : (plan : List ℕ) (p k : ℕ) (d : Place) (j : ℕ) → j < length plan → ((i : ℕ) → i < j → column ls (getD plan i 0) < length ls)
+      → length ls ≤ column ls (getD plan j 0) → runReply fmt c (runOn fmt c (going p k d) plan) ≡ refused 27 (k + j)
+  run-unknown [] p k d j b f x = absurd (not-suc-le-zero b)
+  run-unknown (l ∷ plan) p k d zero b f x =
+      let z : k ≡ k + zero = omega arith in
+      ap (λ r. runReply fmt c (runOn fmt c r plan)) (letter-unknown p k d l x) ∙ ap (runReply fmt c) (run-halted p k d k plan) ∙ ap (refused 27) z
+  run-unknown (l ∷ plan) p k d (suc j) b f x =
+      let z : suc k + j ≡ k + suc j = omega arith in
+      ap (λ r. runReply fmt c (runOn fmt c r plan)) (letter-known p k d l (f zero (zero-lt-suc j)))
+      ∙ run-unknown plan (moveAt fmt c p (column ls l)) (suc k) (byPlace d found (λ _. deadAt fmt c (moveAt fmt c p (column ls l)) (suc k))) j (omega arith) (λ i v. f (suc i) (omega arith)) x
+      ∙ ap (refused 27) z
+
+  -- JUDGING a plan on a card that loads is the reply of the run over the whole plan.
+  pub judge-run : loadTest fmt c ≡ 0 → (plan : List ℕ) → judge fmt c plan ≡ runReply fmt c (runOn fmt c (runStart fmt c) plan)
+  unfolding judge unless
+  judge-run e plan = rw e (go (knownCount ls plan) refl (counted ls plan))
+    where
+      go : (n : ℕ) → knownCount ls plan ≡ n → Counted ls plan n
+          → unless (refused 27 (knownCount ls plan)) (eqb (knownCount ls plan) (length plan)) (λ _. verdict (verdictFrom fmt c plan 0 0)) ≡ runReply fmt c (runOn fmt c (runStart fmt c) plan)
+      go n z (all-known o) =
+          rw (known-count ls plan o, nat-test .whole (length plan))
+          (ap verdict (sym (dead-verdict plan 0 0)) ∙ sym (run-known plan 0 0 (deadAt fmt c 0 0) o))
+      go n z (first-unknown j b f x) =
+          let y : 0 + j ≡ j = omega arith in
+          rw (z, not-true (eqb j (length plan)) (λ e. let w = nat-test .sound j (length plan) e in omega arith))
+          (ap (refused 27) (sym y) ∙ sym (run-unknown plan 0 0 (deadAt fmt c 0 0) j b f x))
+
+  -- ---- on a card that loads
+
+  -- the state after a plan is the machine's
+  pub run-state : Loaded fmt c → (plan : List ℕ) (p k : ℕ) (d : Place) → p < stateCount fmt c → Known ls plan
+      → runOn fmt c (going p k d) plan .state ≡ run (automaton (machineOf fmt c)) p (columns ls plan)
+  run-state l [] p k d h o = refl
+  run-state l (x ∷ plan) p k d h o =
+      let b : column ls x < letterCount fmt c = rw (letters-length fmt c (l .contents)) at (o .0) in
+      ap (λ r. runOn fmt c r plan .state) (letter-known p k d x (o .0))
+      ∙ run-state l plan (moveAt fmt c p (column ls x)) (suc k) (byPlace d found (λ _. deadAt fmt c (moveAt fmt c p (column ls x)) (suc k))) (l .inside p (column ls x) h b) (o .1)
+      ∙ ap (λ q. run (automaton (machineOf fmt c)) q (columns ls plan)) (sym (step-at fmt c p (column ls x) h b))
+
+  -- a dead state leads to dead states only
+  pub dead-stays : Loaded fmt c → (p i : ℕ) → p < stateCount fmt c → i < letterCount fmt c → markAt fmt c p ≡ 2 → markAt fmt c (moveAt fmt c p i) ≡ 2
+  dead-stays l p i h b e = go (markAt fmt c p) e (l .marked p h)
+    where
+      q : ℕ
+      q = moveAt fmt c p i
+
+      hq : q < stateCount fmt c
+      hq = l .inside p i h b
+
+      low : q < size (machineOf fmt c)
+      low = rw (size-is fmt c (l .contents)) hq
+
+      right : (v : ℕ) → Mark (letterCount fmt c) (machineOf fmt c) q v → v ≡ getD (marks (letterCount fmt c) (machineOf fmt c)) q 0
+      right v m = marks-only (letterCount fmt c) (machineOf fmt c) (loaded-formed fmt c l) q low v m
+
+      go : (v : ℕ) → v ≡ 2 → Mark (letterCount fmt c) (machineOf fmt c) p v → markAt fmt c q ≡ 2
+      go v z (is-accepting a) = absurd (omega arith)
+      go v z (is-live a w o t) = absurd (omega arith)
+      go v z (is-dead d) = right (markAt fmt c q) (l .marked q hq) ∙ sym (right 2 (is-dead (rw (← step-at fmt c p i h b) (λ w o. d (i ∷ w) (b, o)))))
