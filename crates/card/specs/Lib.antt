@@ -17,3 +17,4 @@ pub mod Answer
 pub mod Same
 pub mod Write
 pub mod Demand
+pub mod Examples
