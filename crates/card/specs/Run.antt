@@ -21,20 +21,11 @@ use Rattle.card.specs.LayoutLaws.{letters-length, size-is, step-at}
 use Rattle.card.specs.Alphabet.{column, columns, Known, knownCount, Counted, counted, all-known, first-unknown}
 use Rattle.card.specs.Load.{loadTest}
 use Rattle.card.specs.Loads.{Loaded, loaded-formed}
-use Rattle.card.specs.Verdict.{Verdict, allowed, unfinished, hopeless}
+use Rattle.card.specs.Verdict.{Verdict, hopeless}
 use Rattle.card.specs.Allowed.{known-count}
-use Rattle.card.specs.Judge.{verdictFrom, Reply, verdict, refused, judge}
+use Rattle.card.specs.Judge.{Place, none, found, byPlace, stateAfter, firstDead, verdictAt, planVerdict, Reply, verdict, refused, judge}
 
 -- ---- what is kept
-
--- a place that may not have come yet
-pub data Place : Type 0 where
-  none : Place
-  found : ℕ → Place
-
-abbrev pub byPlace : {A : Type 0} → Place → (ℕ → A) → (Unit {0} → A) → A
-byPlace (found k) f g = f k
-byPlace none f g = g tt
 
 -- the state; how many letters were taken; the least number of letters after which the state is dead; how many letters precede the first that is not on
 -- the card, after which nothing changes
@@ -76,9 +67,6 @@ abbrev pub runOn : Format → List ℕ → Run → List ℕ → Run
 runOn fmt c r [] = r
 runOn fmt c r (l ∷ plan) = runOn fmt c (runLetter fmt c r l) plan
 
-abbrev pub verdictAt : Format → List ℕ → ℕ → Verdict
-verdictAt fmt c p = choose (eqb (markAt fmt c p) 1) (λ _. allowed) (λ _. unfinished)
-
 abbrev pub runVerdict : Format → List ℕ → Run → Verdict
 runVerdict fmt c r = byPlace (r .dead) hopeless (λ _. verdictAt fmt c (r .state))
 
@@ -112,36 +100,52 @@ module _ (fmt : Format) (c : List ℕ) where
       go (inl y) = absurd (omega (arith, y .0))
       go (inr y) = rw (y .1)
 
-  -- the verdict where the state so far is not dead
-  abbrev onward : List ℕ → ℕ → ℕ → Verdict
-  onward [] p k = verdictAt fmt c p
-  onward (l ∷ plan) p k = verdictFrom fmt c plan (moveAt fmt c p (column ls l)) (suc k)
+  -- the first dead place after this state
+  abbrev laterDead : List ℕ → ℕ → ℕ → Place
+  laterDead [] p k = none
+  laterDead (l ∷ plan) p k = firstDead fmt c plan (moveAt fmt c p (column ls l)) (suc k)
 
-  dead-verdict : (plan : List ℕ) (p k : ℕ) → byPlace (deadAt fmt c p k) hopeless (λ _. onward plan p k) ≡ verdictFrom fmt c plan p k
-  dead-verdict plan p k = go plan (bool-cases (eqb (markAt fmt c p) 2))
+  here-or-later : (plan : List ℕ) (p k : ℕ) → byPlace (deadAt fmt c p k) found (λ _. laterDead plan p k) ≡ firstDead fmt c plan p k
+  here-or-later plan p k = go plan (bool-cases (eqb (markAt fmt c p) 2))
     where
-      go : (plan : List ℕ) → (eqb (markAt fmt c p) 2 ≡ true) ⊎ (eqb (markAt fmt c p) 2 ≡ false) → byPlace (deadAt fmt c p k) hopeless (λ _. onward plan p k) ≡ verdictFrom fmt c plan p k
+      go : (plan : List ℕ) → (eqb (markAt fmt c p) 2 ≡ true) ⊎ (eqb (markAt fmt c p) 2 ≡ false) → byPlace (deadAt fmt c p k) found (λ _. laterDead plan p k) ≡ firstDead fmt c plan p k
       go [] (inl e) = rw e
       go [] (inr e) = rw e
       go (l ∷ plan) (inl e) = rw e
       go (l ∷ plan) (inr e) = rw e
 
-  -- A plan of the card's letters:
-  run-known : (plan : List ℕ) (p k : ℕ) (d : Place) → Known ls plan → runReply fmt c (runOn fmt c (going p k d) plan) ≡ verdict (byPlace d hopeless (λ _. onward plan p k))
-  run-known [] p k d o = refl
-  run-known (l ∷ plan) p k d o =
-      ap (λ r. runReply fmt c (runOn fmt c r plan)) (letter-known p k d l (o .0))
-      ∙ run-known plan q (suc k) (byPlace d found (λ _. deadAt fmt c q (suc k))) (o .1)
-      ∙ ap verdict (go d)
+  run-going : (plan : List ℕ) (p k : ℕ) (d : Place) → Known ls plan
+      → runOn fmt c (going p k d) plan ≡ going (stateAfter fmt c plan p) (k + length plan) (byPlace d found (λ _. laterDead plan p k))
+  run-going [] p k d o = λ t. going p (sym (plus k) t) (same d t)
+    where
+      plus : (k : ℕ) → k + 0 ≡ k
+      plus k = omega arith
+
+      same : (d : Place) → d ≡ byPlace d found (λ _. none)
+      same (found j) = refl
+      same none = refl
+  run-going (l ∷ plan) p k d o =
+      ap (λ r. runOn fmt c r plan) (letter-known p k d l (o .0))
+      ∙ run-going plan q (suc k) (byPlace d found (λ _. deadAt fmt c q (suc k))) (o .1)
+      ∙ (λ t. going (stateAfter fmt c plan q) (count t) (dead d t))
     where
       q : ℕ
       q = moveAt fmt c p (column ls l)
 
-      go : (d : Place) → byPlace (byPlace d found (λ _. deadAt fmt c q (suc k))) hopeless (λ _. onward plan q (suc k)) ≡ byPlace d hopeless (λ _. verdictFrom fmt c plan q (suc k))
-      go (found j) = refl
-      go none = dead-verdict plan q (suc k)
+      count : suc k + length plan ≡ k + suc (length plan)
+      count = omega arith
 
-  -- and one with an unknown letter.
+      dead : (d : Place) → byPlace (byPlace d found (λ _. deadAt fmt c q (suc k))) found (λ _. laterDead plan q (suc k)) ≡ byPlace d found (λ _. firstDead fmt c plan q (suc k))
+      dead (found j) = refl
+      dead none = here-or-later plan q (suc k)
+
+  -- A PLAN OF THE CARD'S LETTERS from the start: its last state, its length and its first dead place.
+  pub run-known : (plan : List ℕ) → Known ls plan → runOn fmt c (runStart fmt c) plan ≡ going (stateAfter fmt c plan 0) (length plan) (firstDead fmt c plan 0 0)
+  run-known plan o =
+      let z : 0 + length plan ≡ length plan = omega arith in
+      run-going plan 0 0 (deadAt fmt c 0 0) o ∙ (λ t. going (stateAfter fmt c plan 0) (z t) (here-or-later plan 0 0 t))
+
+  -- A plan with an unknown letter:
   run-unknown : (plan : List ℕ) (p k : ℕ) (d : Place) (j : ℕ) → j < length plan → ((i : ℕ) → i < j → column ls (getD plan i 0) < length ls)
       → length ls ≤ column ls (getD plan j 0) → runReply fmt c (runOn fmt c (going p k d) plan) ≡ refused 27 (k + j)
   run-unknown [] p k d j b f x = absurd (not-suc-le-zero b)
@@ -160,10 +164,10 @@ module _ (fmt : Format) (c : List ℕ) where
   judge-run e plan = rw e (go (knownCount ls plan) refl (counted ls plan))
     where
       go : (n : ℕ) → knownCount ls plan ≡ n → Counted ls plan n
-          → unless (refused 27 (knownCount ls plan)) (eqb (knownCount ls plan) (length plan)) (λ _. verdict (verdictFrom fmt c plan 0 0)) ≡ runReply fmt c (runOn fmt c (runStart fmt c) plan)
+          → unless (refused 27 (knownCount ls plan)) (eqb (knownCount ls plan) (length plan)) (λ _. verdict (planVerdict fmt c plan)) ≡ runReply fmt c (runOn fmt c (runStart fmt c) plan)
       go n z (all-known o) =
           rw (known-count ls plan o, nat-test .whole (length plan))
-          (ap verdict (sym (dead-verdict plan 0 0)) ∙ sym (run-known plan 0 0 (deadAt fmt c 0 0) o))
+          (ap (runReply fmt c) (sym (run-known plan o)))
       go n z (first-unknown j b f x) =
           let y : 0 + j ≡ j = omega arith in
           rw (z, not-true (eqb j (length plan)) (λ e. let w = nat-test .sound j (length plan) e in omega arith))
@@ -172,13 +176,11 @@ module _ (fmt : Format) (c : List ℕ) where
   -- ---- on a card that loads
 
   -- the state after a plan is the machine's
-  pub run-state : Loaded fmt c → (plan : List ℕ) (p k : ℕ) (d : Place) → p < stateCount fmt c → Known ls plan
-      → runOn fmt c (going p k d) plan .state ≡ run (automaton (machineOf fmt c)) p (columns ls plan)
-  run-state l [] p k d h o = refl
-  run-state l (x ∷ plan) p k d h o =
+  pub state-machine : Loaded fmt c → (plan : List ℕ) (p : ℕ) → p < stateCount fmt c → Known ls plan → stateAfter fmt c plan p ≡ run (automaton (machineOf fmt c)) p (columns ls plan)
+  state-machine l [] p h o = refl
+  state-machine l (x ∷ plan) p h o =
       let b : column ls x < letterCount fmt c = rw (letters-length fmt c (l .contents)) at (o .0) in
-      ap (λ r. runOn fmt c r plan .state) (letter-known p k d x (o .0))
-      ∙ run-state l plan (moveAt fmt c p (column ls x)) (suc k) (byPlace d found (λ _. deadAt fmt c (moveAt fmt c p (column ls x)) (suc k))) (l .inside p (column ls x) h b) (o .1)
+      state-machine l plan (moveAt fmt c p (column ls x)) (l .inside p (column ls x) h b) (o .1)
       ∙ ap (λ q. run (automaton (machineOf fmt c)) q (columns ls plan)) (sym (step-at fmt c p (column ls x) h b))
 
   -- a dead state leads to dead states only
