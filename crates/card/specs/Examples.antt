@@ -20,7 +20,7 @@ use Rattle.card.specs.Mark.{marks}
 use Rattle.card.specs.Layout.{Sound, encode, lettersOf, marksOf, movesOf, machineOf, contentsTest}
 use Rattle.card.specs.Alphabet.{alphabetTest}
 use Rattle.card.specs.Load.{loadTest, rowInside, insideTest, marksTest}
-use Rattle.card.specs.Verdict.{allowed, unfinished, hopeless}
+use Rattle.card.specs.Verdict.{allowed, hopeless}
 use Rattle.card.specs.Judge.{judge, verdict, refused}
 use Rattle.card.specs.Step.{stepOn, moved, stopped}
 use Rattle.card.specs.Answer.{load, holds, rejected}

@@ -13,6 +13,7 @@ pub mod Judge
 pub mod JudgeLaws
 pub mod Step
 pub mod Run
+pub mod RunLaws
 pub mod Answer
 pub mod Same
 pub mod Write
