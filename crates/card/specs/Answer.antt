@@ -10,7 +10,7 @@ use Rattle.automata.specs.Format.{Format}
 use Rattle.card.specs.Layout.{letterCount, stateCount}
 use Rattle.card.specs.Load.{loadTest}
 use Rattle.card.specs.Step.{Stepped, moved, stopped}
-use Rattle.card.specs.Verdict.{Verdict, allowed, unfinished, hopeless}
+use Rattle.card.specs.Verdict.{allowed, unfinished, hopeless}
 use Rattle.card.specs.Judge.{Reply, verdict, refused}
 
 -- ---- loading

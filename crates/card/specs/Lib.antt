@@ -12,7 +12,10 @@ pub mod Allowed
 pub mod Judge
 pub mod JudgeLaws
 pub mod Step
+pub mod Run
+pub mod RunLaws
 pub mod Answer
 pub mod Same
 pub mod Write
 pub mod Demand
+pub mod Examples

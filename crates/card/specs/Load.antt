@@ -1,5 +1,5 @@
--- The load test: 21 to 26 in their order. Each test keeps at most a few small arrays: the numbering two counters, the marks one array of
--- Booleans, the equivalent states two arrays of classes. `tested` says exactly what each answer means. Assumes nothing.
+-- The load test, 21 to 26 in their order, and what each answer means (`Tested`); LoadLaws.antt shows that the test gives the one right answer.
+-- Assumes nothing.
 use mathlib.Core.Bool.{Bool}
 use mathlib.Core.Logic.{_≢_}
 use mathlib.Core.List.{List}
@@ -43,15 +43,19 @@ loadTest fmt c =
 
 -- ---- what each answer means
 
+-- Not 23: no move is "to n or above".
 abbrev pub CardInside : Format → List ℕ → Type 0
 CardInside fmt c = (p i : ℕ) → p < stateCount fmt c → i < letterCount fmt c → moveAt fmt c p i < stateCount fmt c
 
+-- Not 25: each marks byte is "0, 1, 2 as defined".
 abbrev pub CardMarked : Format → List ℕ → Type 0
 CardMarked fmt c = (p : ℕ) → p < stateCount fmt c → Mark (letterCount fmt c) (machineOf fmt c) p (markAt fmt c p)
 
+-- Not 24: the states are numbered "by first arrival", and each is reached.
 abbrev pub CardNumbered : Format → List ℕ → Type 0
 CardNumbered fmt c = Numbered (letterCount fmt c) (machineOf fmt c)
 
+-- Not 26: no two states "allow the same continuations".
 abbrev pub CardReduced : Format → List ℕ → Type 0
 CardReduced fmt c = Reduced (letterCount fmt c) (machineOf fmt c)
 

@@ -108,9 +108,6 @@ number-drop w n bs i = number-same w (drop n bs) bs i (n + i) λ k h.
     let z : n + i + k ≡ n + (i + k) = omega arith in
     rw z (getD-drop n bs (i + k) 0)
 
-pub number-left : (w : ℕ) (a b : List ℕ) (i : ℕ) → i + w ≤ length a → numberAt w (a ++ b) i ≡ numberAt w a i
-number-left w a b i h = number-same w (a ++ b) a i i λ k v. List·getD-append a b 0 (i + k) (omega arith)
-
 -- DECODING AFTER ENCODING, for each width.
 pub number-little : (w x : ℕ) (rest : List ℕ) → x < capacity w → numberAt w (littleEndian w x ++ rest) 0 ≡ x
 number-little zero x rest h = omega arith
