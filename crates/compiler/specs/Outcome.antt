@@ -3,7 +3,9 @@ use Prim.Native.Nat.{ℕ, max}
 use mathlib.Core.Bool.{Bool, true, false, _&&_}
 use mathlib.Core.List.{List, [], _∷_, _++_}
 use lib.Dec.{leb, ltb}
-use lib.ListN.{length, drop}
+use mathlib.Core.Path.{_≡_, refl}
+use lib.ListN.{length, take, drop}
+use lib.Seq.{take-at, drop-at}
 use Rattle.automata.specs.Format.{Format}
 use Rattle.automata.specs.Booleans.{choose}
 use Rattle.card.specs.Same.{cardOf}
@@ -57,3 +59,16 @@ answer (stop r at) = record { number = r; line = at; length = 0; peak = 0 }
 abbrev pub bufferAfter : Outcome → List ℕ → List ℕ
 bufferAfter (card c peak) old = c ++ drop (length c) old
 bufferAfter (stop r at) old = old
+
+-- ---- the card buffer
+
+-- A refusal leaves it as it was,
+pub refusal-keeps : (r at : ℕ) (old : List ℕ) → bufferAfter (stop r at) old ≡ old
+refusal-keeps r at old = refl
+
+-- and a card stands in front, with the old bytes behind it.
+pub card-stands : (c : List ℕ) (peak : ℕ) (old : List ℕ) → take (length c) (bufferAfter (card c peak) old) ≡ c
+card-stands c peak old = take-at c (drop (length c) old) (length c) refl
+
+pub rest-keeps : (c : List ℕ) (peak : ℕ) (old : List ℕ) → drop (length c) (bufferAfter (card c peak) old) ≡ drop (length c) old
+rest-keeps c peak old = drop-at c (drop (length c) old) (length c) refl
