@@ -1,0 +1,4 @@
+-- What the proofs of several functions use.
+pub mod EntryLaws
+pub mod RoundLaws
+pub mod RefineLaws

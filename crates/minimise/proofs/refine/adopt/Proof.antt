@@ -1,0 +1,88 @@
+use borrow.Author.Needs.{needs}
+use mathlib.Core.Path.{_≡_, refl, _∙_}
+use Prim.Native.Nat.{ℕ, _+_, _-_, _≤_, _<_}
+use native.Mathlib.Omega.{arith}
+use native.Mathlib.Nat.{not-suc-le-zero}
+use lib.ListN.{length, getD, length-set}
+use Rattle.minimise.proofs.RefineLaws.{filled-more, filled-past}
+use Rattle.minimise.proofs.refine.adopt.Statement.{statement}
+use Rattle.minimise.proofs.refine.adopt.Tie as tie
+use Rattle.minimise.proofs.refine.adopt.Reads as reads
+use Rattle.minimise.proofs.refine.adopt.Lts as lts
+
+abbrev Inv-loop : tie.InvT-loop
+Inv-loop n work₀ i₀ work i =
+    (i ≤ n)
+    × (length work ≡ length work₀)
+    × ((p : ℕ) → p < i → getD work p 0 ≡ getD work₀ (n + p) 0)
+    × ((q : ℕ) → n ≤ q → getD work q 0 ≡ getD work₀ q 0)
+
+abbrev μ-loop : tie.MeasureT-loop
+μ-loop n work₀ i₀ work i = n - i
+
+-- src/refine.rt:97:5
+loop-holds : tie.Need-loop-holds Inv-loop μ-loop
+loop-holds c = (omega arith, refl, λ p h. absurd (not-suc-le-zero h), λ q h. refl)
+
+-- src/refine.rt:98:22
+add-x : tie.Need-add-x Inv-loop μ-loop
+add-x c = search needs
+
+-- src/refine.rt:98:17
+mul-x : tie.Need-mul-x Inv-loop μ-loop
+mul-x c = search needs
+
+-- src/refine.rt:98:17
+slice-read-x : tie.Need-slice-read-x Inv-loop μ-loop
+slice-read-x c = search needs
+
+-- src/refine.rt:99:9
+mul-work : tie.Need-mul-work Inv-loop μ-loop
+mul-work c = search needs
+
+-- src/refine.rt:99:9
+slice-write-work : tie.Need-slice-write-work Inv-loop μ-loop
+slice-write-work c = search needs
+
+-- src/refine.rt:100:9
+add-i : tie.Need-add-i Inv-loop μ-loop
+add-i c = search needs
+
+-- src/refine.rt:97:5
+loop-less : tie.Need-loop-less Inv-loop μ-loop
+loop-less c = search needs
+
+-- src/refine.rt:97:5
+loop-again : tie.Need-loop-again Inv-loop μ-loop
+loop-again c = (
+  omega arith,
+  length-set (c .before .before .loop .work) _ _ ∙ c .before .before .loop .inv .1,
+  filled-more (c .before .before .loop .work) _ _ _ (λ p. getD (c .before .before .before .args .work .now) (c .before .before .before .args .n + p) 0) refl (omega arith) (c .before .before .loop .inv .2) (c .before .before .loop .inv .3 _ (omega arith)),
+  filled-past (c .before .before .loop .work) _ _ _ _ (λ q. getD (c .before .before .before .args .work .now) q 0) refl (c .before .loop-test .taken) (c .before .before .loop .inv .3),
+)
+
+-- src/refine.rt:92:1
+same-length : tie.Need-same-length Inv-loop μ-loop
+same-length c = search needs
+
+-- src/refine.rt:92:1
+returns : tie.Need-returns Inv-loop μ-loop
+returns c = λ p h. c .before .loop .inv .2 p (omega arith)
+
+pub adopt-spec : {M : Type 1} → statement M
+adopt-spec =
+    tie.close
+    (tie.spec
+    Inv-loop
+    μ-loop
+    loop-holds
+    add-x
+    mul-x
+    slice-read-x
+    mul-work
+    slice-write-work
+    add-i
+    loop-less
+    loop-again
+    same-length
+    returns)
