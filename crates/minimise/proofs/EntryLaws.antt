@@ -2,14 +2,13 @@
 use mathlib.Core.Path.{_≡_, refl, sym, _∙_}
 use mathlib.Core.Bool.{Bool, true, false}
 use mathlib.Core.List.{List}
-use Prim.Native.Nat.{ℕ, _+_, _*_, _≤_, _<_}
+use Prim.Native.Nat.{ℕ, _+_, _*_, _<_}
 use native.Mathlib.Omega.{arith}
 use lib.ListN.{length, getD}
 use borrow.Author.Tests.{ne-eqb}
-use Rattle.automata.specs.Machine.{automaton}
 use Rattle.automata.specs.Partition.{bit}
 use Rattle.automata.specs.Rows.{cell-below}
-use Rattle.automata.specs.Table.{flagOf, tableMachine, ClosedTable, table-step}
+use Rattle.automata.specs.Table.{flagOf, ClosedTable, table-step}
 use Rattle.minimise.specs.Refine.{Target}
 
 pub bit-none : (x : ℕ) → x ≡ 0 → 0 ≡ bit (flagOf x)

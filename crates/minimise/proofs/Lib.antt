@@ -2,3 +2,6 @@
 pub mod EntryLaws
 pub mod RoundLaws
 pub mod RefineLaws
+pub mod ArriveLaws
+pub mod RowLaws
+pub mod NumberLaws

@@ -1,23 +1,22 @@
 -- Laws of the rounds of partition refinement: a whole round, and that a round which parts no class leaves the classes of equivalent states. Assumes nothing.
 use mathlib.Core.Path.{_≡_, refl, sym, ap, _∙_}
-use mathlib.Core.Bool.{Bool, true, false}
+use mathlib.Core.Bool.{true, false}
 use mathlib.Core.Logic.{_⊎_, inl, inr, _≢_}
 use mathlib.Core.List.{List, [], _∷_}
 use Prim.Native.Nat.{ℕ, zero, suc, _+_, _-_, _≤_, _<_, zero-le}
-use native.Mathlib.Nat.{le-refl, le-trans, not-suc-le-zero}
+use native.Mathlib.Nat.{le-refl, not-suc-le-zero}
 use native.Mathlib.Numerals.{add-one}
 use native.Mathlib.Omega.{arith}
 use lib.ListN.{length, getD, take, set}
 use lib.Seq.{getD-take, getD-set-same, getD-set-other, length-take-le, ext-getD}
 use lib.Dec.{eqb}
-use borrow.Author.Tests.{eq-eqb, ne-eqb, eqb-true, eqb-false}
 use Rattle.automata.specs.Booleans.{bool-cases}
 use Rattle.automata.specs.Basics.{LtCases, SameCases, lt-cases, same-cases, nat-test}
-use Rattle.automata.specs.Machine.{Machine, size, automaton, WellFormed, Equivalent}
+use Rattle.automata.specs.Machine.{Machine, size, automaton, WellFormed}
 use Rattle.automata.specs.Partition.{classes, classes-whole, classes-low, classes-length, classes-equivalent}
 use Rattle.automata.specs.Refinement.{SameSignature, Coarse, Settled, settled-equivalent}
-use Rattle.automata.specs.Table.{tableMachine, ClosedTable, table-size, table-formed}
-use Rattle.minimise.specs.Refine.{classOf, next, link, Led, leaders, Together, Placed, Linked, Partial, Sized, Begun, Under, Placing, Rounded}
+use Rattle.automata.specs.Table.{tableMachine, table-size, table-formed}
+use Rattle.minimise.specs.Refine.{classOf, next, Led, leaders, Placed, Partial, Sized, Begun, Under, Placing, Rounded}
 use Rattle.minimise.proofs.RoundLaws.{together-sym, together-trans}
 
 -- ---- a whole round

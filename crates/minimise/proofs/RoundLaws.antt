@@ -5,18 +5,16 @@ use mathlib.Core.Logic.{inl, inr, _≢_}
 use mathlib.Core.List.{List}
 use Prim.Native.Nat.{ℕ, zero, suc, _+_, _≤_, _<_}
 use native.Mathlib.Nat.{le-refl, le-trans, not-suc-le-zero}
-use native.Mathlib.Numerals.{add-one}
 use native.Mathlib.Omega.{arith}
-use lib.ListN.{length, getD, take, set, length-set}
+use lib.ListN.{getD, take, set, length-set}
 use lib.Seq.{getD-take, getD-set-same, getD-set-other, take-set-le}
-use lib.Dec.{eqb}
 use borrow.Author.Tests.{eq-eqb, ne-eqb}
 use Rattle.automata.specs.Basics.{LtCases, lt-cases}
 use Rattle.automata.specs.Machine.{Machine, automaton}
 use Rattle.automata.specs.Partition.{bit}
 use Rattle.automata.specs.Refinement.{SameSignature}
 use Rattle.automata.specs.Table.{flagOf, tableMachine, ClosedTable, table-accepting}
-use Rattle.minimise.specs.Refine.{Says, Target, classOf, next, link, Led, leaders, Together, Placed, Latest, Linked, Partial, Under, Leads, Placing}
+use Rattle.minimise.specs.Refine.{Says, Target, classOf, next, link, Led, leaders, Together, Placed, Latest, Linked, Under, Leads, Placing}
 use Rattle.minimise.proofs.EntryLaws.{bit-same}
 
 -- ---- comparing two states

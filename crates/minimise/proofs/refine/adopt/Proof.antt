@@ -7,8 +7,6 @@ use lib.ListN.{length, getD, length-set}
 use Rattle.minimise.proofs.RefineLaws.{filled-more, filled-past}
 use Rattle.minimise.proofs.refine.adopt.Statement.{statement}
 use Rattle.minimise.proofs.refine.adopt.Tie as tie
-use Rattle.minimise.proofs.refine.adopt.Reads as reads
-use Rattle.minimise.proofs.refine.adopt.Lts as lts
 
 abbrev Inv-loop : tie.InvT-loop
 Inv-loop n work₀ i₀ work i =
@@ -20,39 +18,9 @@ Inv-loop n work₀ i₀ work i =
 abbrev μ-loop : tie.MeasureT-loop
 μ-loop n work₀ i₀ work i = n - i
 
--- src/refine.rt:97:5
 loop-holds : tie.Need-loop-holds Inv-loop μ-loop
 loop-holds c = (omega arith, refl, λ p h. absurd (not-suc-le-zero h), λ q h. refl)
 
--- src/refine.rt:98:22
-add-x : tie.Need-add-x Inv-loop μ-loop
-add-x c = search needs
-
--- src/refine.rt:98:17
-mul-x : tie.Need-mul-x Inv-loop μ-loop
-mul-x c = search needs
-
--- src/refine.rt:98:17
-slice-read-x : tie.Need-slice-read-x Inv-loop μ-loop
-slice-read-x c = search needs
-
--- src/refine.rt:99:9
-mul-work : tie.Need-mul-work Inv-loop μ-loop
-mul-work c = search needs
-
--- src/refine.rt:99:9
-slice-write-work : tie.Need-slice-write-work Inv-loop μ-loop
-slice-write-work c = search needs
-
--- src/refine.rt:100:9
-add-i : tie.Need-add-i Inv-loop μ-loop
-add-i c = search needs
-
--- src/refine.rt:97:5
-loop-less : tie.Need-loop-less Inv-loop μ-loop
-loop-less c = search needs
-
--- src/refine.rt:97:5
 loop-again : tie.Need-loop-again Inv-loop μ-loop
 loop-again c = (
   omega arith,
@@ -61,11 +29,6 @@ loop-again c = (
   filled-past (c .before .before .loop .work) _ _ _ _ (λ q. getD (c .before .before .before .args .work .now) q 0) refl (c .before .loop-test .taken) (c .before .before .loop .inv .3),
 )
 
--- src/refine.rt:92:1
-same-length : tie.Need-same-length Inv-loop μ-loop
-same-length c = search needs
-
--- src/refine.rt:92:1
 returns : tie.Need-returns Inv-loop μ-loop
 returns c = λ p h. c .before .loop .inv .2 p (omega arith)
 
@@ -76,13 +39,13 @@ adopt-spec =
     Inv-loop
     μ-loop
     loop-holds
-    add-x
-    mul-x
-    slice-read-x
-    mul-work
-    slice-write-work
-    add-i
-    loop-less
+    (λ c. search needs)
+    (λ c. search needs)
+    (λ c. search needs)
+    (λ c. search needs)
+    (λ c. search needs)
+    (λ c. search needs)
+    (λ c. search needs)
     loop-again
-    same-length
+    (λ c. search needs)
     returns)

@@ -7,11 +7,6 @@ use Rattle.minimise.specs.Refine.{classOf}
 use Rattle.minimise.proofs.RoundLaws.{SameBelow, alike-differ, alike-start, alike-parts, alike-more, alike-end}
 use Rattle.minimise.proofs.refine.alike.Statement.{statement}
 use Rattle.minimise.proofs.refine.alike.Tie as tie
-use Rattle.minimise.proofs.refine.alike.Reads as reads
-use Rattle.minimise.proofs.refine.alike.Lts as lts
-use Rattle.minimise.proofs.entries.at.Reads as at-reads
-use Rattle.minimise.proofs.entries.flag.Reads as flag-reads
-use Rattle.minimise.proofs.entries.target.Reads as target-reads
 
 abbrev Inv-loop : tie.InvT-loop
 Inv-loop table base n k work p q c₀ c = (c ≤ k) × SameBelow k (tableMachine base n k table) (classOf (take n work)) p q c
@@ -19,58 +14,39 @@ Inv-loop table base n k work p q c₀ c = (c ≤ k) × SameBelow k (tableMachine
 abbrev μ-loop : tie.MeasureT-loop
 μ-loop table base n k work p q c₀ c = k - c
 
--- src/refine.rt:20:8
 flag-requires : tie.Need-flag-requires Inv-loop μ-loop
 flag-requires c κs = omega (arith, c .before .before .pre .0 .long, c .before .before .pre .0 .flags)
 
--- src/refine.rt:20:26
 flag-requires-2 : tie.Need-flag-requires-2 Inv-loop μ-loop
 flag-requires-2 c κs = omega (arith, c .before .before .before .pre .0 .long, c .before .before .before .pre .0 .flags)
 
--- src/refine.rt:21:9
 returns : tie.Need-returns Inv-loop μ-loop
 returns c = alike-differ _ _ _ _ _ _ _ (c .before .before .before .before .before .pre .0) (c .before .before .before .before .before .pre .1 .1 .0) (c .before .before .before .before .before .pre .1 .1 .1) _ _ (c .before .before .flag .ensures) (c .before .flag2 .ensures) (c .if1 .taken)
 
--- src/refine.rt:24:5
 loop-holds : tie.Need-loop-holds Inv-loop μ-loop
 loop-holds c = (omega arith, alike-start _ _ _ _ _ _ _ (c .before .before .before .before .before .pre .0) (c .before .before .before .before .before .pre .1 .1 .0) (c .before .before .before .before .before .pre .1 .1 .1) _ _ (c .before .before .flag .ensures) (c .before .flag2 .ensures) (c .if1 .left))
 
--- src/refine.rt:25:13
 target-requires : tie.Need-target-requires Inv-loop μ-loop
 target-requires c κs = (c .before .before .before .before .before .before .before .pre .0, (c .before .before .before .before .before .before .before .pre .1 .1 .0, c .loop-test .taken))
 
--- src/refine.rt:26:13
 target-requires-2 : tie.Need-target-requires-2 Inv-loop μ-loop
 target-requires-2 c κs = (c .before .before .before .before .before .before .before .before .pre .0, (c .before .before .before .before .before .before .before .before .pre .1 .1 .1, c .before .loop-test .taken))
 
--- src/refine.rt:27:12
 at-requires : tie.Need-at-requires Inv-loop μ-loop
 at-requires c κs = omega (arith, c .before .target .ensures .inside, c .before .before .before .before .before .before .before .before .before .pre .1 .0)
 
--- src/refine.rt:27:27
 at-requires-2 : tie.Need-at-requires-2 Inv-loop μ-loop
 at-requires-2 c κs = omega (arith, c .before .target2 .ensures .inside, c .before .before .before .before .before .before .before .before .before .before .pre .1 .0)
 
--- src/refine.rt:28:13
 returns-2 : tie.Need-returns-2 Inv-loop μ-loop
 returns-2 c = alike-parts _ _ _ _ _ _ _ (c .before .before .before .before .before .before .before .before .before .before .before .before .pre .0) (c .before .before .before .before .before .before .before .before .before .before .before .before .pre .1 .1 .0) (c .before .before .before .before .before .before .before .before .before .before .before .before .pre .1 .1 .1) _ _ _ _ _ (c .before .before .before .before .before .loop-test .taken) (c .before .before .before .before .target .ensures) (c .before .before .before .target2 .ensures) (c .before .before .at .ensures) (c .before .at2 .ensures) (c .if2 .taken)
 
--- src/refine.rt:30:9
-add-c : tie.Need-add-c Inv-loop μ-loop
-add-c c = search needs
-
--- src/refine.rt:24:5
-loop-less : tie.Need-loop-less Inv-loop μ-loop
-loop-less c = search needs
-
--- src/refine.rt:24:5
 loop-again : tie.Need-loop-again Inv-loop μ-loop
 loop-again c = (
   omega arith,
   alike-more _ _ _ _ _ _ _ (c .before .before .before .before .before .before .before .before .before .before .before .before .pre .0) (c .before .before .before .before .before .before .before .before .before .before .before .before .pre .1 .1 .0) (c .before .before .before .before .before .before .before .before .before .before .before .before .pre .1 .1 .1) _ _ _ _ _ (c .before .before .before .before .target .ensures) (c .before .before .before .target2 .ensures) (c .before .before .at .ensures) (c .before .at2 .ensures) (c .if2 .left) (c .before .before .before .before .before .before .loop .inv .1),
 )
 
--- src/refine.rt:13:1
 returns-3 : tie.Need-returns-3 Inv-loop μ-loop
 returns-3 c = alike-end _ _ _ _ _ _ _ (c .before .before .before .before .before .before .before .pre .0) (c .before .before .before .before .before .before .before .pre .1 .1 .0) (c .before .before .before .before .before .before .before .pre .1 .1 .1) _ (c .loop-test .left) (c .before .loop .inv .1)
 
@@ -89,7 +65,7 @@ alike-spec =
     at-requires
     at-requires-2
     returns-2
-    add-c
-    loop-less
+    (λ c. search needs)
+    (λ c. search needs)
     loop-again
     returns-3)

@@ -6,11 +6,6 @@ use lib.ListN.{length}
 use Rattle.minimise.proofs.RefineLaws.{Refining, refine-starts, refine-begun, refine-ends, refine-grows, refine-turns}
 use Rattle.minimise.proofs.refine.refine.Statement.{statement}
 use Rattle.minimise.proofs.refine.refine.Tie as tie
-use Rattle.minimise.proofs.refine.refine.Reads as reads
-use Rattle.minimise.proofs.refine.refine.Lts as lts
-use Rattle.minimise.proofs.refine.adopt.Reads as adopt-reads
-use Rattle.minimise.proofs.refine.round.Reads as round-reads
-use Rattle.minimise.proofs.refine.unite.Reads as unite-reads
 
 abbrev Inv-loop : tie.InvT-loop
 Inv-loop table base n k work₀ count₀ work count = Refining base n k table work count × (length work ≡ length work₀)
@@ -18,35 +13,24 @@ Inv-loop table base n k work₀ count₀ work count = Refining base n k table wo
 abbrev μ-loop : tie.MeasureT-loop
 μ-loop table base n k work₀ count₀ work count = n - count
 
--- src/refine.rt:121:5
 unite-requires : tie.Need-unite-requires Inv-loop μ-loop
 unite-requires c κs = omega (arith, c .before .before .before .pre .room)
 
--- src/refine.rt:123:5
 loop-holds : tie.Need-loop-holds Inv-loop μ-loop
 loop-holds c = (refine-starts (c .before .before .before .before .before .before .pre) _ (c .before .before .unite .ensures), refl)
 
--- src/refine.rt:124:13
 round-requires : tie.Need-round-requires Inv-loop μ-loop
 round-requires c κs = refine-begun (c .before .before .before .before .before .before .before .before .pre) _ _ (c .before .loop .inv .1 ∙ c .before .before .before .before .unite .kept .1 .0) (c .before .loop .inv .0)
 
--- src/refine.rt:126:13
-same-length : tie.Need-same-length Inv-loop μ-loop
-same-length c = search needs
-
--- src/refine.rt:126:13
 returns : tie.Need-returns Inv-loop μ-loop
 returns c = refine-ends (c .before .before .before .before .before .before .before .before .before .before .before .before .pre) _ _ _ _ (c .before .before .before .before .before .loop .inv .1 ∙ c .before .before .before .before .before .before .before .before .unite .kept .1 .0) (c .before .before .before .before .before .loop .inv .0) (c .before .before .before .round .ensures) (c .if1 .taken)
 
--- src/refine.rt:128:9
 adopt-requires : tie.Need-adopt-requires Inv-loop μ-loop
 adopt-requires c κs = omega (arith, c .before .before .before .before .before .before .before .before .before .before .before .before .before .pre .room, c .before .before .before .before .round .kept .1 .1 .1 .1 .0, c .before .before .before .before .before .before .loop .inv .1, c .before .before .before .before .before .before .before .before .before .unite .kept .1 .0)
 
--- src/refine.rt:123:5
 loop-less : tie.Need-loop-less Inv-loop μ-loop
 loop-less c = refine-grows (c .before .before .before .before .before .before .before .before .before .before .before .before .before .before .before .before .pre) _ _ _ _ (c .before .before .before .before .before .before .before .before .before .loop .inv .1 ∙ c .before .before .before .before .before .before .before .before .before .before .before .before .unite .kept .1 .0) (c .before .before .before .before .before .before .before .before .before .loop .inv .0) (c .before .before .before .before .before .before .before .round .ensures) (c .before .before .before .before .if1 .left)
 
--- src/refine.rt:123:5
 loop-again : tie.Need-loop-again Inv-loop μ-loop
 loop-again c = (
   refine-turns (c .before .before .before .before .before .before .before .before .before .before .before .before .before .before .before .before .pre) _ _ _ _ (c .before .before .before .before .before .before .before .before .before .loop .inv .1 ∙ c .before .before .before .before .before .before .before .before .before .before .before .before .unite .kept .1 .0) (c .before .before .before .before .before .before .before .before .before .loop .inv .0) (c .before .before .before .before .before .before .before .round .ensures) _ (c .before .before .adopt .ensures),
@@ -62,7 +46,7 @@ refine-spec =
     unite-requires
     loop-holds
     round-requires
-    same-length
+    (λ c. search needs)
     returns
     adopt-requires
     loop-less

@@ -7,8 +7,6 @@ use lib.ListN.{length, getD, length-set}
 use Rattle.minimise.proofs.RefineLaws.{filled-more}
 use Rattle.minimise.proofs.refine.unite.Statement.{statement}
 use Rattle.minimise.proofs.refine.unite.Tie as tie
-use Rattle.minimise.proofs.refine.unite.Reads as reads
-use Rattle.minimise.proofs.refine.unite.Lts as lts
 
 abbrev Inv-loop : tie.InvT-loop
 Inv-loop n work₀ i₀ work i = (i ≤ n) × (length work ≡ length work₀) × ((p : ℕ) → p < i → getD work p 0 ≡ 0)
@@ -16,35 +14,12 @@ Inv-loop n work₀ i₀ work i = (i ≤ n) × (length work ≡ length work₀) �
 abbrev μ-loop : tie.MeasureT-loop
 μ-loop n work₀ i₀ work i = n - i
 
--- src/refine.rt:110:5
 loop-holds : tie.Need-loop-holds Inv-loop μ-loop
 loop-holds c = (omega arith, refl, λ p h. absurd (not-suc-le-zero h))
 
--- src/refine.rt:111:9
-mul-work : tie.Need-mul-work Inv-loop μ-loop
-mul-work c = search needs
-
--- src/refine.rt:111:9
-slice-write-work : tie.Need-slice-write-work Inv-loop μ-loop
-slice-write-work c = search needs
-
--- src/refine.rt:112:9
-add-i : tie.Need-add-i Inv-loop μ-loop
-add-i c = search needs
-
--- src/refine.rt:110:5
-loop-less : tie.Need-loop-less Inv-loop μ-loop
-loop-less c = search needs
-
--- src/refine.rt:110:5
 loop-again : tie.Need-loop-again Inv-loop μ-loop
 loop-again c = (omega arith, length-set (c .before .loop .work) _ _ ∙ c .before .loop .inv .1, filled-more (c .before .loop .work) _ _ _ (λ p. 0) refl (omega arith) (c .before .loop .inv .2) refl)
 
--- src/refine.rt:105:1
-same-length : tie.Need-same-length Inv-loop μ-loop
-same-length c = search needs
-
--- src/refine.rt:105:1
 returns : tie.Need-returns Inv-loop μ-loop
 returns c = λ p h. c .before .loop .inv .2 p (omega arith)
 
@@ -55,10 +30,10 @@ unite-spec =
     Inv-loop
     μ-loop
     loop-holds
-    mul-work
-    slice-write-work
-    add-i
-    loop-less
+    (λ c. search needs)
+    (λ c. search needs)
+    (λ c. search needs)
+    (λ c. search needs)
     loop-again
-    same-length
+    (λ c. search needs)
     returns)
