@@ -1,3 +1,4 @@
+-- `smallest` meets its contract: the classes, then the numbering. Assumes nothing.
 use Rattle.minimise.proofs.NumberLaws.{classified}
 use borrow.Author.Needs.{needs}
 use Rattle.minimise.proofs.smallest.Statement.{statement}

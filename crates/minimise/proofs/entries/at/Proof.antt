@@ -1,3 +1,4 @@
+-- `at` meets its contract: an entry of 16 bits fits. Assumes nothing.
 use native.Mathlib.Omega.{arith}
 use borrow.Author.Needs.{needs}
 use Rattle.minimise.proofs.entries.at.Statement.{statement}

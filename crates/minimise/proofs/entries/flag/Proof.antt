@@ -1,3 +1,4 @@
+-- `flag` meets its contract. Assumes nothing.
 use mathlib.Core.Path.{sym, _∙_}
 use Rattle.minimise.proofs.EntryLaws.{bit-none, bit-some}
 use borrow.Author.Needs.{needs}

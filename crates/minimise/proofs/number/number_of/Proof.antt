@@ -1,3 +1,4 @@
+-- `number_of` meets its contract. Assumes nothing.
 use mathlib.Core.Path.{_∙_}
 use native.Mathlib.Omega.{arith}
 use Rattle.minimise.proofs.ArriveLaws.{number-none}

@@ -1,3 +1,4 @@
+-- `row` meets its contract. The loop: the columns below c are written, and all that they lead to is in the order. Assumes nothing.
 use borrow.Author.Needs.{needs}
 use mathlib.Core.Path.{_≡_, refl, _∙_}
 use mathlib.Core.Logic.{⊎-elim}

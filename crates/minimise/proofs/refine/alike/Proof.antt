@@ -1,3 +1,4 @@
+-- `alike` meets its contract. The loop: the columns passed lead to one class. Assumes nothing.
 use borrow.Author.Needs.{needs}
 use Prim.Native.Nat.{_-_, _≤_}
 use native.Mathlib.Omega.{arith}

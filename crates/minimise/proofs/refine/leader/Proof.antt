@@ -1,3 +1,4 @@
+-- `leader` meets its contract. The loop: r leads a class, and no later leader goes with p; the measure is r, since the links go down. Assumes nothing.
 use native.Mathlib.Omega.{arith}
 use lib.ListN.{take}
 use Rattle.automata.specs.Table.{tableMachine}

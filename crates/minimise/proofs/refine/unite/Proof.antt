@@ -1,3 +1,4 @@
+-- `unite` meets its contract. The loop: the entries below i are 0. Assumes nothing.
 use borrow.Author.Needs.{needs}
 use mathlib.Core.Path.{_≡_, refl, _∙_}
 use Prim.Native.Nat.{ℕ, _-_, _≤_, _<_}
