@@ -90,6 +90,7 @@ fn blend(s: &[u8], out: &mut [u8], c: Spot) -> Made
         if 11 < k {
             return Made::Done(here);
         }
+        let operator = t.byte;
         let next = t.next;
         let Made::Done(n) = chain(
             s,
@@ -101,7 +102,7 @@ fn blend(s: &[u8], out: &mut [u8], c: Spot) -> Made
         ) else {
             return Made::Refused;
         };
-        here = put(out, n, t.byte);
+        here = put(out, n, operator);
     }
 }
 
@@ -187,6 +188,7 @@ fn suffixed(s: &[u8], out: &mut [u8], c: Spot) -> Spot
         if 9 < k {
             return here;
         }
+        let sign = t.byte;
         let next = t.next;
         here = put(
             out,
@@ -194,7 +196,7 @@ fn suffixed(s: &[u8], out: &mut [u8], c: Spot) -> Spot
                 at: next.at,
                 pos: here.pos,
             },
-            t.byte,
+            sign,
         );
     }
 }
@@ -221,6 +223,7 @@ fn atom(s: &[u8], out: &mut [u8], c: Spot) -> Made
     let at = c.at;
     let t = Cursor { at }.token(s);
     let k = t.kind;
+    let leaf = t.byte;
     let next = t.next;
     if k < 1 {
         return Made::Refused;
@@ -232,7 +235,7 @@ fn atom(s: &[u8], out: &mut [u8], c: Spot) -> Made
                 at: next.at,
                 pos: c.pos,
             },
-            t.byte,
+            leaf,
         ));
     }
     if k != 5 {
