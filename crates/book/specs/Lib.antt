@@ -7,3 +7,4 @@ pub mod Text
 pub mod LineGrammar
 pub mod Program
 pub mod Line
+pub mod StackLaws
