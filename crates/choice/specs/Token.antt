@@ -1,0 +1,33 @@
+-- What the lexer's cursor gives, over the tokens of the bytes that are left.
+use mathlib.Core.Path.{_≡_}
+use mathlib.Core.List.{List, [], _∷_}
+use Prim.Native.Nat.{ℕ, _-_, _<_}
+use lib.ListN.{length, drop}
+use Rattle.book.specs.Kind.{kindOf}
+use Rattle.book.specs.Text.{tokens}
+use Rattle.choice.specs.declared.lexer.Cursor.{Cursor}
+use Rattle.choice.specs.declared.lexer.Lexeme.{Lexeme}
+use Rattle.choice.specs.declared.lexer.Next.{Next}
+use Rattle.choice.specs.declared.lexer.Next.the-variants.{Token, End}
+
+-- the token k, b stands next from `at` on, and the bytes from `n` on are left
+pub record At (s : List ℕ) (at k b n : ℕ) : Type 0 where
+  pub rest-is : tokens (drop at s) ≡ b ∷ tokens (drop n s)
+  pub kind-is : k ≡ kindOf b
+  pub falls : length s - n < length s - at
+
+abbrev pub Sees : List ℕ → ℕ → Next → Type 0
+Sees s at (Token k b n) = At s at k b (n .at)
+Sees s at End = tokens (drop at s) ≡ []
+
+pub record Seen (s : List ℕ) (at : ℕ) (r : Next) : Type 0 where
+  pub sees : Sees s at r
+
+-- the kind of the next token; the end counts as a line end
+abbrev pub kindAhead : List ℕ → ℕ
+kindAhead [] = 15
+kindAhead (b ∷ ts) = kindOf b
+
+pub record Lexed (s : List ℕ) (at : ℕ) (t : Lexeme) : Type 0 where
+  pub kind-is : t .kind ≡ kindAhead (tokens (drop at s))
+  pub token : ((t .kind ≡ 15) → ⊥) → At s at (t .kind) (t .byte) (t .next .at)
