@@ -1,9 +1,8 @@
 -- Laws of `tokens` and of what the lexer gives.
 use mathlib.Core.Path.{_≡_, refl, sym, ap, _∙_}
 use mathlib.Core.List.{List, [], _∷_}
-use Prim.Native.Nat.{ℕ, suc, _+_, _<_, _≤_, _-_}
+use Prim.Native.Nat.{ℕ, suc, _+_, _<_, _≤_}
 use native.Mathlib.Numerals.{add-one}
-use native.Mathlib.Omega.{arith}
 use borrow.Author.Tests.{eq-eqb, ne-eqb}
 use lib.ListN.{length, drop, drop-of-length-le, getD}
 use lib.Seq.{drop-cons}
@@ -42,3 +41,7 @@ seen-token d e = rw e at (d .sees)
 
 pub seen-end : {s : List ℕ} {at : ℕ} {r : Next} → Seen s at r → r ≡ End → tokens (drop at s) ≡ []
 seen-end d e = rw e at (d .sees)
+
+-- a token is one of the tokens left
+pub at-fewer : {s : List ℕ} {at k b n : ℕ} → At s at k b n → length (tokens (drop at s)) ≡ suc (length (tokens (drop n s)))
+at-fewer x = ap length (x .rest-is)

@@ -1,2 +1,5 @@
 -- What the functions of this crate promise.
 pub mod Token
+pub mod Reading
+pub mod Steps
+pub mod ReadingLaws

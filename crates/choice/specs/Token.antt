@@ -5,7 +5,6 @@ use Prim.Native.Nat.{ℕ, _-_, _<_}
 use lib.ListN.{length, drop}
 use Rattle.book.specs.Kind.{kindOf}
 use Rattle.book.specs.Text.{tokens}
-use Rattle.choice.specs.declared.lexer.Cursor.{Cursor}
 use Rattle.choice.specs.declared.lexer.Lexeme.{Lexeme}
 use Rattle.choice.specs.declared.lexer.Next.{Next}
 use Rattle.choice.specs.declared.lexer.Next.the-variants.{Token, End}

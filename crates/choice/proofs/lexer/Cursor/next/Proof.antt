@@ -3,14 +3,11 @@ use mathlib.Core.Path.{_≡_, refl, sym, _∙_}
 use Prim.Native.Nat.{_≤_, _-_}
 use native.Mathlib.Omega.{arith}
 use borrow.Author.Needs.{needs}
-use lib.ListN.{length, drop, drop-of-length-le}
+use lib.ListN.{length, drop}
 use Rattle.book.specs.Text.{tokens}
 use Rattle.choice.proofs.TokenLaws.{tokens-space, tokens-other, tokens-end}
 use Rattle.choice.proofs.lexer.Cursor.next.Statement.{statement}
 use Rattle.choice.proofs.lexer.Cursor.next.Tie as tie
-use Rattle.choice.proofs.lexer.Cursor.next.Reads as reads
-use Rattle.choice.proofs.lexer.Cursor.next.Lts as lts
-use Rattle.choice.proofs.kinds.kind.Reads as kind-reads
 
 abbrev Inv-loop : tie.InvT-loop
 Inv-loop s at₀ at = (tokens (drop at s) ≡ tokens (drop at₀ s)) × (at₀ ≤ at)

@@ -3,9 +3,6 @@ use borrow.Author.Needs.{needs}
 use Rattle.choice.proofs.TokenLaws.{lexed-token, lexed-end, seen-token, seen-end}
 use Rattle.choice.proofs.lexer.Cursor.token.Statement.{statement}
 use Rattle.choice.proofs.lexer.Cursor.token.Tie as tie
-use Rattle.choice.proofs.lexer.Cursor.token.Reads as reads
-use Rattle.choice.proofs.lexer.Cursor.token.Lts as lts
-use Rattle.choice.proofs.lexer.Cursor.next.Reads as next-reads
 
 next-requires : tie.Need-next-requires
 next-requires c κs = search needs

@@ -1,0 +1,699 @@
+-- choice, blend, chain, item and atom meet their contracts: each loop keeps how the reading goes on (`Goes`). Assumes nothing.
+use Prim.Native.Nat.{ℕ, _+_, _*_, _-_, _<_}
+use native.Mathlib.Omega.{arith}
+use mathlib.Core.Path.{refl, _∙_}
+use borrow.Author.Needs.{needs}
+use lib.ListN.{length}
+use Rattle.automata.specs.Stages.{either}
+use Rattle.language.specs.Expression.{pair, join}
+use Rattle.choice.specs.Reading.{more-choices, more-blends, more-chains}
+use Rattle.choice.specs.ReadingLaws.{read-to}
+use Rattle.choice.proofs.TokenLaws.{at-fewer}
+use Rattle.choice.proofs.ReadLaws.{Goes, choice-row, blend-row, chain-row, first-not, row-done, row-not, goes-start, goes-turn}
+use Rattle.choice.proofs.KindLaws.{choices-stop, blends-stop, chains-stop, below-items, above-items, choices-turn, blends-turn, chains-turn}
+use Rattle.choice.proofs.ItemLaws.{item-refused, item-done, atom-put, atom-refused, bracket-refused, bracket-open, bracket-done}
+use borrow.Fn.Kinds.{In}
+use borrow.Fn.PlainCycle.{Measures, is, falls, and}
+use Rattle.choice.proofs.atom.Reads as atom
+use Rattle.choice.proofs.atom.Kinds as atom-kinds
+use Rattle.choice.proofs.+atom+blend+chain+choice+item.Lts-atom as atom-lts
+use Rattle.choice.proofs.blend.Reads as blend
+use Rattle.choice.proofs.blend.Kinds as blend-kinds
+use Rattle.choice.proofs.+atom+blend+chain+choice+item.Lts-blend as blend-lts
+use Rattle.choice.proofs.chain.Reads as chain
+use Rattle.choice.proofs.chain.Kinds as chain-kinds
+use Rattle.choice.proofs.+atom+blend+chain+choice+item.Lts-chain as chain-lts
+use Rattle.choice.proofs.choice.Reads as choice
+use Rattle.choice.proofs.choice.Kinds as choice-kinds
+use Rattle.choice.proofs.+atom+blend+chain+choice+item.Lts-choice as choice-lts
+use Rattle.choice.proofs.item.Reads as item
+use Rattle.choice.proofs.item.Kinds as item-kinds
+use Rattle.choice.proofs.+atom+blend+chain+choice+item.Lts-item as item-lts
+use Rattle.choice.proofs.lexer.Cursor.token.Reads as token-reads
+use Rattle.choice.proofs.negate.Reads as negate-reads
+use Rattle.choice.proofs.nots.Reads as nots-reads
+use Rattle.choice.proofs.put.Reads as put-reads
+use Rattle.choice.proofs.suffixed.Reads as suffixed-reads
+use Rattle.choice.proofs.+atom+blend+chain+choice+item.{statement}
+use Rattle.choice.proofs.+atom+blend+chain+choice+item.Tie.{close}
+
+abbrev μ-atom : Measures 2 atom-kinds.ps ℕ
+μ-atom κs a = 6 * (length (a .0 .now) - a .1 .1 .0 .at) + 1
+
+abbrev μ-blend : Measures 2 blend-kinds.ps ℕ
+μ-blend κs a = 6 * (length (a .0 .now) - a .1 .1 .0 .at) + 4
+
+abbrev μ-chain : Measures 2 chain-kinds.ps ℕ
+μ-chain κs a = 6 * (length (a .0 .now) - a .1 .1 .0 .at) + 3
+
+abbrev μ-choice : Measures 2 choice-kinds.ps ℕ
+μ-choice κs a = 6 * (length (a .0 .now) - a .1 .1 .0 .at) + 5
+
+abbrev μ-item : Measures 2 item-kinds.ps ℕ
+μ-item κs a = 6 * (length (a .0 .now) - a .1 .1 .0 .at) + 2
+
+abbrev atom-at : ℕ → In 2 atom-kinds.ps
+atom-at t = and 2 atom-kinds.ps (is 2 atom-kinds.ps μ-atom t) atom.Pre
+
+abbrev atom-below : ℕ → In 2 atom-kinds.ps
+atom-below t = and 2 atom-kinds.ps (falls 2 atom-kinds.ps _<_ μ-atom t) atom.Pre
+
+abbrev blend-at : ℕ → In 2 blend-kinds.ps
+blend-at t = and 2 blend-kinds.ps (is 2 blend-kinds.ps μ-blend t) blend.Pre
+
+abbrev blend-below : ℕ → In 2 blend-kinds.ps
+blend-below t = and 2 blend-kinds.ps (falls 2 blend-kinds.ps _<_ μ-blend t) blend.Pre
+
+abbrev chain-at : ℕ → In 2 chain-kinds.ps
+chain-at t = and 2 chain-kinds.ps (is 2 chain-kinds.ps μ-chain t) chain.Pre
+
+abbrev chain-below : ℕ → In 2 chain-kinds.ps
+chain-below t = and 2 chain-kinds.ps (falls 2 chain-kinds.ps _<_ μ-chain t) chain.Pre
+
+abbrev choice-at : ℕ → In 2 choice-kinds.ps
+choice-at t = and 2 choice-kinds.ps (is 2 choice-kinds.ps μ-choice t) choice.Pre
+
+abbrev choice-below : ℕ → In 2 choice-kinds.ps
+choice-below t = and 2 choice-kinds.ps (falls 2 choice-kinds.ps _<_ μ-choice t) choice.Pre
+
+abbrev item-at : ℕ → In 2 item-kinds.ps
+item-at t = and 2 item-kinds.ps (is 2 item-kinds.ps μ-item t) item.Pre
+
+abbrev item-below : ℕ → In 2 item-kinds.ps
+item-below t = and 2 item-kinds.ps (falls 2 item-kinds.ps _<_ μ-item t) item.Pre
+
+atom-returns : (t : ℕ) → atom-lts.Need-returns (
+  token-reads.Asked,
+  token-reads.Learnt,
+  put-reads.Asked,
+  put-reads.Learnt,
+  choice-below t,
+  choice.Post,
+) (atom-at t) atom.Post
+atom-returns t c = atom-refused _ (c .before .before .token .ensures .kind-is) (λ h. omega arith)
+
+atom-put-requires : (t : ℕ) → atom-lts.Need-put-requires (
+  token-reads.Asked,
+  token-reads.Learnt,
+  put-reads.Asked,
+  put-reads.Learnt,
+  choice-below t,
+  choice.Post,
+) (atom-at t) atom.Post
+atom-put-requires t c κs =
+    let x = c .before .before .before .before .token .ensures .token (λ e. omega arith) in
+    omega (arith, x .falls)
+
+atom-returns-2 : (t : ℕ) → atom-lts.Need-returns-2 (
+  token-reads.Asked,
+  token-reads.Learnt,
+  put-reads.Asked,
+  put-reads.Learnt,
+  choice-below t,
+  choice.Post,
+) (atom-at t) atom.Post
+atom-returns-2 t c = atom-put (c .before .before .before .before .before .before .before .token .ensures .token (λ e. omega arith)) (c .before .before .before .before .before .if1 .left) (c .before .before .before .before .if2 .taken) (c .before .before .put .ensures)
+
+atom-returns-3 : (t : ℕ) → atom-lts.Need-returns-3 (
+  token-reads.Asked,
+  token-reads.Learnt,
+  put-reads.Asked,
+  put-reads.Learnt,
+  choice-below t,
+  choice.Post,
+) (atom-at t) atom.Post
+atom-returns-3 t c = atom-refused _ (c .before .before .before .before .token .ensures .kind-is) (λ h. omega arith)
+
+atom-choice-requires : (t : ℕ) → atom-lts.Need-choice-requires (
+  token-reads.Asked,
+  token-reads.Learnt,
+  put-reads.Asked,
+  put-reads.Learnt,
+  choice-below t,
+  choice.Post,
+) (atom-at t) atom.Post
+atom-choice-requires t c κs =
+    let x = c .before .before .before .before .before .token .ensures .token (λ e. omega arith) in
+    (omega (arith, x .falls), omega (arith, x .falls))
+
+atom-returns-4 : (t : ℕ) → atom-lts.Need-returns-4 (
+  token-reads.Asked,
+  token-reads.Learnt,
+  put-reads.Asked,
+  put-reads.Learnt,
+  choice-below t,
+  choice.Post,
+) (atom-at t) atom.Post
+atom-returns-4 t c = bracket-refused (c .before .before .before .before .before .before .before .before .before .before .token .ensures .token (λ e. omega arith)) (c .before .before .before .before .before .before .if3 .left) (c .before .before .before .before .choice .ensures) (c .enum-told .given .1)
+
+atom-returns-5 : (t : ℕ) → atom-lts.Need-returns-5 (
+  token-reads.Asked,
+  token-reads.Learnt,
+  put-reads.Asked,
+  put-reads.Learnt,
+  choice-below t,
+  choice.Post,
+) (atom-at t) atom.Post
+atom-returns-5 t c = bracket-open (c .before .before .before .before .before .before .before .before .before .before .before .before .before .token .ensures .token (λ e. omega arith)) (c .before .before .before .before .before .before .before .before .before .if3 .left) (c .before .before .before .before .before .before .before .choice .ensures) _ (c .before .before .before .n .given .1) (c .before .token2 .ensures .kind-is) (c .if4 .taken)
+
+atom-returns-6 : (t : ℕ) → atom-lts.Need-returns-6 (
+  token-reads.Asked,
+  token-reads.Learnt,
+  put-reads.Asked,
+  put-reads.Learnt,
+  choice-below t,
+  choice.Post,
+) (atom-at t) atom.Post
+atom-returns-6 t c = bracket-done (c .before .before .before .before .before .before .before .before .before .before .before .before .before .before .token .ensures .token (λ e. omega arith)) (c .before .before .before .before .before .before .before .before .before .before .if3 .left) (c .before .before .before .before .before .before .before .before .choice .ensures) (c .before .before .before .before .n .given .1) (c .before .before .token2 .ensures .token (λ e. omega arith)) (c .before .if4 .left)
+
+abbrev blend-Inv-loop : blend-lts.InvT-loop
+blend-Inv-loop s out₀ here₀ out here = Goes more-blends s out₀ here₀ out here
+
+abbrev blend-μ-loop : blend-lts.MeasureT-loop
+blend-μ-loop s out₀ here₀ out here = length s - here .at
+
+blend-returns : (t : ℕ) → blend-lts.Need-returns (
+  chain-below t,
+  chain.Post,
+  token-reads.Asked,
+  token-reads.Learnt,
+  put-reads.Asked,
+  put-reads.Learnt,
+) (blend-at t) blend.Post blend-Inv-loop blend-μ-loop
+blend-returns t c = first-not blend-row (c .before .before .before .before .chain .ensures) (c .enum-told .given .1)
+
+blend-loop-holds : (t : ℕ) → blend-lts.Need-loop-holds (
+  chain-below t,
+  chain.Post,
+  token-reads.Asked,
+  token-reads.Learnt,
+  put-reads.Asked,
+  put-reads.Learnt,
+) (blend-at t) blend.Post blend-Inv-loop blend-μ-loop
+blend-loop-holds t c = goes-start _ _ _ _
+
+blend-returns-2 : (t : ℕ) → blend-lts.Need-returns-2 (
+  chain-below t,
+  chain.Post,
+  token-reads.Asked,
+  token-reads.Learnt,
+  put-reads.Asked,
+  put-reads.Learnt,
+) (blend-at t) blend.Post blend-Inv-loop blend-μ-loop
+blend-returns-2 t c = row-done blend-row (c .before .before .before .before .before .before .before .before .chain .ensures) (c .before .before .before .before .first .given .1) (c .before .before .loop .inv) (blends-stop _ _ (c .before .token .ensures .kind-is) (λ q. omega arith) (λ q. omega arith))
+
+blend-returns-3 : (t : ℕ) → blend-lts.Need-returns-3 (
+  chain-below t,
+  chain.Post,
+  token-reads.Asked,
+  token-reads.Learnt,
+  put-reads.Asked,
+  put-reads.Learnt,
+) (blend-at t) blend.Post blend-Inv-loop blend-μ-loop
+blend-returns-3 t c = row-done blend-row (c .before .before .before .before .before .before .before .before .before .chain .ensures) (c .before .before .before .before .before .first .given .1) (c .before .before .before .loop .inv) (blends-stop _ _ (c .before .before .token .ensures .kind-is) (λ q. omega arith) (λ q. omega arith))
+
+blend-chain-requires-2 : (t : ℕ) → blend-lts.Need-chain-requires-2 (
+  chain-below t,
+  chain.Post,
+  token-reads.Asked,
+  token-reads.Learnt,
+  put-reads.Asked,
+  put-reads.Learnt,
+) (blend-at t) blend.Post blend-Inv-loop blend-μ-loop
+blend-chain-requires-2 t c κs =
+    let x = c .before .before .before .before .token .ensures .token (λ e. omega arith) in
+    let z = read-to (c .before .before .before .before .before .before .before .before .before .before .before .chain .ensures) (c .before .before .before .before .before .before .before .first .given .1) in
+    (omega (arith, x .falls, z .falls, c .before .before .before .before .before .loop .inv .falls), omega (arith, x .falls, z .falls, z .room, c .before .before .before .before .before .loop .inv .falls, c .before .before .before .before .before .loop .inv .room, c .before .before .before .before .before .loop .inv .same-length, c .before .before .before .before .before .before .before .before .before .before .before .chain .kept .1 .0))
+
+blend-returns-4 : (t : ℕ) → blend-lts.Need-returns-4 (
+  chain-below t,
+  chain.Post,
+  token-reads.Asked,
+  token-reads.Learnt,
+  put-reads.Asked,
+  put-reads.Learnt,
+) (blend-at t) blend.Post blend-Inv-loop blend-μ-loop
+blend-returns-4 t c =
+    let x = c .before .before .before .before .before .before .before .before .before .token .ensures .token (λ e. omega arith) in
+    let y = blends-turn x (c .before .before .before .before .before .before .before .before .if1 .left) (c .before .before .before .before .before .before .before .if2 .left) in
+    row-not blend-row (y .op) (c .before .before .before .before .before .before .before .before .before .before .before .before .before .before .before .before .chain .ensures) (c .before .before .before .before .before .before .before .before .before .before .before .before .first .given .1) (c .before .before .before .before .before .before .before .before .before .before .loop .inv) (c .before .before .before .before .chain2 .ensures) (c .enum-told2 .given .1) (y .turn) (omega (arith, at-fewer x))
+
+blend-put-requires : (t : ℕ) → blend-lts.Need-put-requires (
+  chain-below t,
+  chain.Post,
+  token-reads.Asked,
+  token-reads.Learnt,
+  put-reads.Asked,
+  put-reads.Learnt,
+) (blend-at t) blend.Post blend-Inv-loop blend-μ-loop
+blend-put-requires t c κs =
+    let x = c .before .before .before .before .before .before .before .before .before .before .before .token .ensures .token (λ e. omega arith) in
+    let z = read-to (c .before .before .before .before .before .before .before .before .before .before .before .before .before .before .before .before .before .before .chain .ensures) (c .before .before .before .before .before .before .before .before .before .before .before .before .before .before .first .given .1) in
+    let w = read-to (c .before .before .before .before .before .before .chain2 .ensures) (c .before .before .n .given .1) in
+    omega (arith, x .falls, z .falls, z .room, w .falls, w .room, c .before .before .before .before .before .before .before .before .before .before .before .before .loop .inv .falls, c .before .before .before .before .before .before .before .before .before .before .before .before .loop .inv .room, c .before .before .before .before .before .before .before .before .before .before .before .before .loop .inv .same-length, c .before .before .before .before .before .before .before .before .before .before .before .before .before .before .before .before .before .before .chain .kept .1 .0, c .before .before .before .before .before .before .chain2 .kept .1 .0)
+
+blend-loop-less : (t : ℕ) → blend-lts.Need-loop-less (
+  chain-below t,
+  chain.Post,
+  token-reads.Asked,
+  token-reads.Learnt,
+  put-reads.Asked,
+  put-reads.Learnt,
+) (blend-at t) blend.Post blend-Inv-loop blend-μ-loop
+blend-loop-less t c =
+    let x = c .before .before .before .before .before .before .before .before .before .before .before .before .before .before .token .ensures .token (λ e. omega arith) in
+    let w = read-to (c .before .before .before .before .before .before .before .before .before .chain2 .ensures) (c .before .before .before .before .before .n .given .1) in
+    omega (arith, c .before .before .put .ensures .at-is, w .falls, x .falls)
+
+blend-loop-again : (t : ℕ) → blend-lts.Need-loop-again (
+  chain-below t,
+  chain.Post,
+  token-reads.Asked,
+  token-reads.Learnt,
+  put-reads.Asked,
+  put-reads.Learnt,
+) (blend-at t) blend.Post blend-Inv-loop blend-μ-loop
+blend-loop-again t c =
+    let x = c .before .before .before .before .before .before .before .before .before .before .before .before .before .before .token .ensures .token (λ e. omega arith) in
+    let y = blends-turn x (c .before .before .before .before .before .before .before .before .before .before .before .before .before .if1 .left) (c .before .before .before .before .before .before .before .before .before .before .before .before .if2 .left) in
+    goes-turn blend-row (y .op) (c .before .before .before .before .before .before .before .before .before .before .before .before .before .before .before .loop .inv) (c .before .before .before .before .before .before .before .before .before .chain2 .ensures) (c .before .before .before .before .before .n .given .1) (c .before .before .put .ensures) (y .turn) refl (omega (arith, at-fewer x)) (omega (arith, at-fewer x)) (omega (arith, x .falls)) (y .code) (c .before .before .put .kept .0 ∙ c .before .before .before .before .before .before .before .before .before .chain2 .kept .1 .0)
+
+abbrev chain-Inv-loop : chain-lts.InvT-loop
+chain-Inv-loop s out₀ here₀ out here = Goes more-chains s out₀ here₀ out here
+
+abbrev chain-μ-loop : chain-lts.MeasureT-loop
+chain-μ-loop s out₀ here₀ out here = length s - here .at
+
+chain-returns : (t : ℕ) → chain-lts.Need-returns (
+  item-below t,
+  item.Post,
+  token-reads.Asked,
+  token-reads.Learnt,
+  put-reads.Asked,
+  put-reads.Learnt,
+) (chain-at t) chain.Post chain-Inv-loop chain-μ-loop
+chain-returns t c = first-not chain-row (c .before .before .before .before .item .ensures) (c .enum-told .given .1)
+
+chain-loop-holds : (t : ℕ) → chain-lts.Need-loop-holds (
+  item-below t,
+  item.Post,
+  token-reads.Asked,
+  token-reads.Learnt,
+  put-reads.Asked,
+  put-reads.Learnt,
+) (chain-at t) chain.Post chain-Inv-loop chain-μ-loop
+chain-loop-holds t c = goes-start _ _ _ _
+
+chain-returns-2 : (t : ℕ) → chain-lts.Need-returns-2 (
+  item-below t,
+  item.Post,
+  token-reads.Asked,
+  token-reads.Learnt,
+  put-reads.Asked,
+  put-reads.Learnt,
+) (chain-at t) chain.Post chain-Inv-loop chain-μ-loop
+chain-returns-2 t c = row-done chain-row (c .before .before .before .before .before .before .before .before .item .ensures) (c .before .before .before .before .first .given .1) (c .before .before .loop .inv) (chains-stop _ _ (c .before .token .ensures .kind-is) (below-items _ (c .if1 .taken)))
+
+chain-returns-3 : (t : ℕ) → chain-lts.Need-returns-3 (
+  item-below t,
+  item.Post,
+  token-reads.Asked,
+  token-reads.Learnt,
+  put-reads.Asked,
+  put-reads.Learnt,
+) (chain-at t) chain.Post chain-Inv-loop chain-μ-loop
+chain-returns-3 t c = row-done chain-row (c .before .before .before .before .before .before .before .before .before .item .ensures) (c .before .before .before .before .before .first .given .1) (c .before .before .before .loop .inv) (chains-stop _ _ (c .before .before .token .ensures .kind-is) (above-items _ (c .if2 .taken)))
+
+chain-item-requires-2 : (t : ℕ) → chain-lts.Need-item-requires-2 (
+  item-below t,
+  item.Post,
+  token-reads.Asked,
+  token-reads.Learnt,
+  put-reads.Asked,
+  put-reads.Learnt,
+) (chain-at t) chain.Post chain-Inv-loop chain-μ-loop
+chain-item-requires-2 t c κs =
+    let x = c .before .before .before .token .ensures .token (λ e. omega arith) in
+    let z = read-to (c .before .before .before .before .before .before .before .before .before .before .item .ensures) (c .before .before .before .before .before .before .first .given .1) in
+    (omega (arith, x .falls, z .falls, c .before .before .before .before .loop .inv .falls), omega (arith, x .falls, z .falls, z .room, c .before .before .before .before .loop .inv .falls, c .before .before .before .before .loop .inv .room, c .before .before .before .before .loop .inv .same-length, c .before .before .before .before .before .before .before .before .before .before .item .kept .1 .0))
+
+chain-returns-4 : (t : ℕ) → chain-lts.Need-returns-4 (
+  item-below t,
+  item.Post,
+  token-reads.Asked,
+  token-reads.Learnt,
+  put-reads.Asked,
+  put-reads.Learnt,
+) (chain-at t) chain.Post chain-Inv-loop chain-μ-loop
+chain-returns-4 t c =
+    let x = c .before .before .before .before .before .before .before .before .token .ensures .token (λ e. omega arith) in
+    row-not chain-row join (c .before .before .before .before .before .before .before .before .before .before .before .before .before .before .before .item .ensures) (c .before .before .before .before .before .before .before .before .before .before .before .first .given .1) (c .before .before .before .before .before .before .before .before .before .loop .inv) (c .before .before .before .before .item2 .ensures) (c .enum-told2 .given .1) (chains-turn x (c .before .before .before .before .before .before .before .if1 .left) (c .before .before .before .before .before .before .if2 .left)) (omega arith)
+
+chain-put-requires : (t : ℕ) → chain-lts.Need-put-requires (
+  item-below t,
+  item.Post,
+  token-reads.Asked,
+  token-reads.Learnt,
+  put-reads.Asked,
+  put-reads.Learnt,
+) (chain-at t) chain.Post chain-Inv-loop chain-μ-loop
+chain-put-requires t c κs =
+    let x = c .before .before .before .before .before .before .before .before .before .before .token .ensures .token (λ e. omega arith) in
+    let z = read-to (c .before .before .before .before .before .before .before .before .before .before .before .before .before .before .before .before .before .item .ensures) (c .before .before .before .before .before .before .before .before .before .before .before .before .before .first .given .1) in
+    let w = read-to (c .before .before .before .before .before .before .item2 .ensures) (c .before .before .n .given .1) in
+    omega (arith, x .falls, z .falls, z .room, w .falls, w .room, c .before .before .before .before .before .before .before .before .before .before .before .loop .inv .falls, c .before .before .before .before .before .before .before .before .before .before .before .loop .inv .room, c .before .before .before .before .before .before .before .before .before .before .before .loop .inv .same-length, c .before .before .before .before .before .before .before .before .before .before .before .before .before .before .before .before .before .item .kept .1 .0, c .before .before .before .before .before .before .item2 .kept .1 .0)
+
+chain-loop-less : (t : ℕ) → chain-lts.Need-loop-less (
+  item-below t,
+  item.Post,
+  token-reads.Asked,
+  token-reads.Learnt,
+  put-reads.Asked,
+  put-reads.Learnt,
+) (chain-at t) chain.Post chain-Inv-loop chain-μ-loop
+chain-loop-less t c =
+    let x = c .before .before .before .before .before .before .before .before .before .before .before .before .before .token .ensures .token (λ e. omega arith) in
+    let w = read-to (c .before .before .before .before .before .before .before .before .before .item2 .ensures) (c .before .before .before .before .before .n .given .1) in
+    omega (arith, c .before .before .put .ensures .at-is, w .falls, x .falls)
+
+chain-loop-again : (t : ℕ) → chain-lts.Need-loop-again (
+  item-below t,
+  item.Post,
+  token-reads.Asked,
+  token-reads.Learnt,
+  put-reads.Asked,
+  put-reads.Learnt,
+) (chain-at t) chain.Post chain-Inv-loop chain-μ-loop
+chain-loop-again t c =
+    let x = c .before .before .before .before .before .before .before .before .before .before .before .before .before .token .ensures .token (λ e. omega arith) in
+    goes-turn chain-row join (c .before .before .before .before .before .before .before .before .before .before .before .before .before .before .loop .inv) (c .before .before .before .before .before .before .before .before .before .item2 .ensures) (c .before .before .before .before .before .n .given .1) (c .before .before .put .ensures) (chains-turn x (c .before .before .before .before .before .before .before .before .before .before .before .before .if1 .left) (c .before .before .before .before .before .before .before .before .before .before .before .if2 .left)) refl (omega arith) (omega arith) (omega arith) (λ e g. refl) (c .before .before .put .kept .0 ∙ c .before .before .before .before .before .before .before .before .before .item2 .kept .1 .0)
+
+abbrev choice-Inv-loop : choice-lts.InvT-loop
+choice-Inv-loop s out₀ here₀ out here = Goes more-choices s out₀ here₀ out here
+
+abbrev choice-μ-loop : choice-lts.MeasureT-loop
+choice-μ-loop s out₀ here₀ out here = length s - here .at
+
+choice-returns : (t : ℕ) → choice-lts.Need-returns (
+  blend-below t,
+  blend.Post,
+  token-reads.Asked,
+  token-reads.Learnt,
+  put-reads.Asked,
+  put-reads.Learnt,
+) (choice-at t) choice.Post choice-Inv-loop choice-μ-loop
+choice-returns t c = first-not choice-row (c .before .before .before .before .blend .ensures) (c .enum-told .given .1)
+
+choice-loop-holds : (t : ℕ) → choice-lts.Need-loop-holds (
+  blend-below t,
+  blend.Post,
+  token-reads.Asked,
+  token-reads.Learnt,
+  put-reads.Asked,
+  put-reads.Learnt,
+) (choice-at t) choice.Post choice-Inv-loop choice-μ-loop
+choice-loop-holds t c = goes-start _ _ _ _
+
+choice-returns-2 : (t : ℕ) → choice-lts.Need-returns-2 (
+  blend-below t,
+  blend.Post,
+  token-reads.Asked,
+  token-reads.Learnt,
+  put-reads.Asked,
+  put-reads.Learnt,
+) (choice-at t) choice.Post choice-Inv-loop choice-μ-loop
+choice-returns-2 t c = row-done choice-row (c .before .before .before .before .before .before .before .before .blend .ensures) (c .before .before .before .before .first .given .1) (c .before .before .loop .inv) (choices-stop _ _ (c .before .token .ensures .kind-is) (c .if1 .taken))
+
+choice-blend-requires-2 : (t : ℕ) → choice-lts.Need-blend-requires-2 (
+  blend-below t,
+  blend.Post,
+  token-reads.Asked,
+  token-reads.Learnt,
+  put-reads.Asked,
+  put-reads.Learnt,
+) (choice-at t) choice.Post choice-Inv-loop choice-μ-loop
+choice-blend-requires-2 t c κs =
+    let x = c .before .before .before .token .ensures .token (λ e. omega arith) in
+    let z = read-to (c .before .before .before .before .before .before .before .before .before .before .blend .ensures) (c .before .before .before .before .before .before .first .given .1) in
+    (omega (arith, x .falls, z .falls, c .before .before .before .before .loop .inv .falls), omega (arith, x .falls, z .falls, z .room, c .before .before .before .before .loop .inv .falls, c .before .before .before .before .loop .inv .room, c .before .before .before .before .loop .inv .same-length, c .before .before .before .before .before .before .before .before .before .before .blend .kept .1 .0))
+
+choice-returns-3 : (t : ℕ) → choice-lts.Need-returns-3 (
+  blend-below t,
+  blend.Post,
+  token-reads.Asked,
+  token-reads.Learnt,
+  put-reads.Asked,
+  put-reads.Learnt,
+) (choice-at t) choice.Post choice-Inv-loop choice-μ-loop
+choice-returns-3 t c =
+    let x = c .before .before .before .before .before .before .before .before .token .ensures .token (λ e. omega arith) in
+    row-not choice-row (pair either) (c .before .before .before .before .before .before .before .before .before .before .before .before .before .before .before .blend .ensures) (c .before .before .before .before .before .before .before .before .before .before .before .first .given .1) (c .before .before .before .before .before .before .before .before .before .loop .inv) (c .before .before .before .before .blend2 .ensures) (c .enum-told2 .given .1) (choices-turn x (c .before .before .before .before .before .before .before .if1 .left)) (omega (arith, at-fewer x))
+
+choice-put-requires : (t : ℕ) → choice-lts.Need-put-requires (
+  blend-below t,
+  blend.Post,
+  token-reads.Asked,
+  token-reads.Learnt,
+  put-reads.Asked,
+  put-reads.Learnt,
+) (choice-at t) choice.Post choice-Inv-loop choice-μ-loop
+choice-put-requires t c κs =
+    let x = c .before .before .before .before .before .before .before .before .before .before .token .ensures .token (λ e. omega arith) in
+    let z = read-to (c .before .before .before .before .before .before .before .before .before .before .before .before .before .before .before .before .before .blend .ensures) (c .before .before .before .before .before .before .before .before .before .before .before .before .before .first .given .1) in
+    let w = read-to (c .before .before .before .before .before .before .blend2 .ensures) (c .before .before .n .given .1) in
+    omega (arith, x .falls, z .falls, z .room, w .falls, w .room, c .before .before .before .before .before .before .before .before .before .before .before .loop .inv .falls, c .before .before .before .before .before .before .before .before .before .before .before .loop .inv .room, c .before .before .before .before .before .before .before .before .before .before .before .loop .inv .same-length, c .before .before .before .before .before .before .before .before .before .before .before .before .before .before .before .before .before .blend .kept .1 .0, c .before .before .before .before .before .before .blend2 .kept .1 .0)
+
+choice-loop-less : (t : ℕ) → choice-lts.Need-loop-less (
+  blend-below t,
+  blend.Post,
+  token-reads.Asked,
+  token-reads.Learnt,
+  put-reads.Asked,
+  put-reads.Learnt,
+) (choice-at t) choice.Post choice-Inv-loop choice-μ-loop
+choice-loop-less t c =
+    let x = c .before .before .before .before .before .before .before .before .before .before .before .before .before .token .ensures .token (λ e. omega arith) in
+    let w = read-to (c .before .before .before .before .before .before .before .before .before .blend2 .ensures) (c .before .before .before .before .before .n .given .1) in
+    omega (arith, c .before .before .put .ensures .at-is, w .falls, x .falls)
+
+choice-loop-again : (t : ℕ) → choice-lts.Need-loop-again (
+  blend-below t,
+  blend.Post,
+  token-reads.Asked,
+  token-reads.Learnt,
+  put-reads.Asked,
+  put-reads.Learnt,
+) (choice-at t) choice.Post choice-Inv-loop choice-μ-loop
+choice-loop-again t c =
+    let x = c .before .before .before .before .before .before .before .before .before .before .before .before .before .token .ensures .token (λ e. omega arith) in
+    goes-turn choice-row (pair either) (c .before .before .before .before .before .before .before .before .before .before .before .before .before .before .loop .inv) (c .before .before .before .before .before .before .before .before .before .blend2 .ensures) (c .before .before .before .before .before .n .given .1) (c .before .before .put .ensures) (choices-turn x (c .before .before .before .before .before .before .before .before .before .before .before .before .if1 .left)) refl (omega (arith, at-fewer x)) (omega (arith, at-fewer x)) (omega (arith, x .falls)) (λ e g. refl) (c .before .before .put .kept .0 ∙ c .before .before .before .before .before .before .before .before .before .blend2 .kept .1 .0)
+
+item-atom-requires : (t : ℕ) → item-lts.Need-atom-requires (
+  nots-reads.Asked,
+  nots-reads.Learnt,
+  atom-below t,
+  atom.Post,
+  suffixed-reads.Asked,
+  suffixed-reads.Learnt,
+  negate-reads.Asked,
+  negate-reads.Learnt,
+) (item-at t) item.Post
+item-atom-requires t c κs =
+    let x = c .before .nots .ensures .passed in
+    (omega (arith, x .falls), omega (arith, x .falls))
+
+item-returns : (t : ℕ) → item-lts.Need-returns (
+  nots-reads.Asked,
+  nots-reads.Learnt,
+  atom-below t,
+  atom.Post,
+  suffixed-reads.Asked,
+  suffixed-reads.Learnt,
+  negate-reads.Asked,
+  negate-reads.Learnt,
+) (item-at t) item.Post
+item-returns t c = item-refused (c .before .before .before .before .before .before .nots .ensures) (c .before .before .before .before .atom .ensures) (c .enum-told .given .1)
+
+item-suffixed-requires : (t : ℕ) → item-lts.Need-suffixed-requires (
+  nots-reads.Asked,
+  nots-reads.Learnt,
+  atom-below t,
+  atom.Post,
+  suffixed-reads.Asked,
+  suffixed-reads.Learnt,
+  negate-reads.Asked,
+  negate-reads.Learnt,
+) (item-at t) item.Post
+item-suffixed-requires t c κs =
+    let x = c .before .before .before .before .before .before .before .before .nots .ensures .passed in
+    let z = read-to (c .before .before .before .before .before .before .atom .ensures) (c .before .before .n .given .1) in
+    omega (arith, x .falls, z .falls, z .room, c .before .before .before .before .before .before .atom .kept .1 .0)
+
+item-negate-requires : (t : ℕ) → item-lts.Need-negate-requires (
+  nots-reads.Asked,
+  nots-reads.Learnt,
+  atom-below t,
+  atom.Post,
+  suffixed-reads.Asked,
+  suffixed-reads.Learnt,
+  negate-reads.Asked,
+  negate-reads.Learnt,
+) (item-at t) item.Post
+item-negate-requires t c κs =
+    let x = c .before .before .before .before .before .before .before .before .before .before .before .before .nots .ensures .passed in
+    let z = read-to (c .before .before .before .before .before .before .before .before .before .before .atom .ensures) (c .before .before .before .before .before .before .n .given .1) in
+    omega (arith, x .falls, z .falls, z .room, c .before .before .before .suffixed .ensures .room, c .before .before .before .suffixed .ensures .falls, c .before .before .before .before .before .before .before .before .before .before .atom .kept .1 .0, c .before .before .before .suffixed .kept .1 .0)
+
+item-returns-2 : (t : ℕ) → item-lts.Need-returns-2 (
+  nots-reads.Asked,
+  nots-reads.Learnt,
+  atom-below t,
+  atom.Post,
+  suffixed-reads.Asked,
+  suffixed-reads.Learnt,
+  negate-reads.Asked,
+  negate-reads.Learnt,
+) (item-at t) item.Post
+item-returns-2 t c = item-done (c .before .before .before .before .before .before .before .before .before .before .before .before .before .before .before .nots .ensures) (c .before .before .before .before .before .before .before .before .before .before .before .before .before .atom .ensures) (c .before .before .before .before .before .before .before .before .before .n .given .1) (c .before .before .before .before .before .before .suffixed .ensures) (c .before .before .negate .ensures)
+
+pub +atom+blend+chain+choice+item-spec : {M : Type 1} → statement M
++atom+blend+chain+choice+item-spec =
+    close μ-atom μ-blend μ-chain μ-choice μ-item (λ t. atom-lts.spec (
+      token-reads.Asked,
+      token-reads.Learnt,
+      put-reads.Asked,
+      put-reads.Learnt,
+      choice-below t,
+      choice.Post,
+    )
+    (atom-at t)
+    atom.Post
+    (λ c κs. search needs)
+    (atom-returns t)
+    (atom-put-requires t)
+    (λ c. search needs)
+    (atom-returns-2 t)
+    (atom-returns-3 t)
+    (atom-choice-requires t)
+    (λ c. search needs)
+    (λ c. search needs)
+    (λ c. search needs)
+    (atom-returns-4 t)
+    (λ c κs. search needs)
+    (λ c. search needs)
+    (atom-returns-5 t)
+    (λ c. search needs)
+    (atom-returns-6 t))
+    (λ t. blend-lts.spec (
+      chain-below t,
+      chain.Post,
+      token-reads.Asked,
+      token-reads.Learnt,
+      put-reads.Asked,
+      put-reads.Learnt,
+    )
+    (blend-at t)
+    blend.Post
+    blend-Inv-loop
+    blend-μ-loop
+    (λ c κs. search needs)
+    (λ c. search needs)
+    (λ c. search needs)
+    (λ c. search needs)
+    (blend-returns t)
+    (blend-loop-holds t)
+    (λ c κs. search needs)
+    (λ c. search needs)
+    (blend-returns-2 t)
+    (λ c. search needs)
+    (blend-returns-3 t)
+    (blend-chain-requires-2 t)
+    (λ c. search needs)
+    (λ c. search needs)
+    (λ c. search needs)
+    (blend-returns-4 t)
+    (blend-put-requires t)
+    (blend-loop-less t)
+    (blend-loop-again t))
+    (λ t. chain-lts.spec (
+      item-below t,
+      item.Post,
+      token-reads.Asked,
+      token-reads.Learnt,
+      put-reads.Asked,
+      put-reads.Learnt,
+    )
+    (chain-at t)
+    chain.Post
+    chain-Inv-loop
+    chain-μ-loop
+    (λ c κs. search needs)
+    (λ c. search needs)
+    (λ c. search needs)
+    (λ c. search needs)
+    (chain-returns t)
+    (chain-loop-holds t)
+    (λ c κs. search needs)
+    (λ c. search needs)
+    (chain-returns-2 t)
+    (λ c. search needs)
+    (chain-returns-3 t)
+    (chain-item-requires-2 t)
+    (λ c. search needs)
+    (λ c. search needs)
+    (λ c. search needs)
+    (chain-returns-4 t)
+    (chain-put-requires t)
+    (chain-loop-less t)
+    (chain-loop-again t))
+    (λ t. choice-lts.spec (
+      blend-below t,
+      blend.Post,
+      token-reads.Asked,
+      token-reads.Learnt,
+      put-reads.Asked,
+      put-reads.Learnt,
+    )
+    (choice-at t)
+    choice.Post
+    choice-Inv-loop
+    choice-μ-loop
+    (λ c κs. search needs)
+    (λ c. search needs)
+    (λ c. search needs)
+    (λ c. search needs)
+    (choice-returns t)
+    (choice-loop-holds t)
+    (λ c κs. search needs)
+    (λ c. search needs)
+    (choice-returns-2 t)
+    (choice-blend-requires-2 t)
+    (λ c. search needs)
+    (λ c. search needs)
+    (λ c. search needs)
+    (choice-returns-3 t)
+    (choice-put-requires t)
+    (choice-loop-less t)
+    (choice-loop-again t))
+    λ t. item-lts.spec (
+      nots-reads.Asked,
+      nots-reads.Learnt,
+      atom-below t,
+      atom.Post,
+      suffixed-reads.Asked,
+      suffixed-reads.Learnt,
+      negate-reads.Asked,
+      negate-reads.Learnt,
+    )
+    (item-at t)
+    item.Post
+    (λ c κs. search needs)
+    (item-atom-requires t)
+    (λ c. search needs)
+    (λ c. search needs)
+    (λ c. search needs)
+    (item-returns t)
+    (item-suffixed-requires t)
+    (item-negate-requires t)
+    (λ c. search needs)
+    (item-returns-2 t)

@@ -1,0 +1,153 @@
+-- Laws of reading with any fuel that is enough: one step of the definitions' reader for one step of the code.
+use mathlib.Core.Path.{_≡_, refl, sym, ap, _∙_}
+use mathlib.Core.List.{List, [], _∷_, _++_, append-assoc}
+use Prim.Native.Nat.{ℕ, zero, suc, _+_, _*_, _-_, _<_, _≤_}
+use native.Mathlib.Omega.{arith}
+use lib.ListN.{length, take}
+use Rattle.language.specs.Expression.{Expr}
+use Rattle.book.specs.Reader.{Read, got, bad, andThen}
+use Rattle.book.specs.Program.{postfix}
+use Rattle.choice.specs.Reading.{Part, a-choice, a-blend, a-chain, an-item, an-atom, more-choices, more-blends, more-chains, read, rank, Is, left, To, Reads}
+use Rattle.choice.specs.ReadingLaws.{read-to, read-not}
+use Rattle.choice.specs.Steps.{Put}
+use Rattle.choice.specs.declared.Spot.{Spot}
+use Rattle.choice.specs.declared.Made.{Made}
+use Rattle.choice.specs.declared.Made.the-variants.{Done, Refused}
+
+rank-positive : (p : Part) → 0 < rank p
+rank-positive a-choice = omega arith
+rank-positive a-blend = omega arith
+rank-positive a-chain = omega arith
+rank-positive an-item = omega arith
+rank-positive an-atom = omega arith
+rank-positive (more-choices e) = omega arith
+rank-positive (more-blends e) = omega arith
+rank-positive (more-chains e) = omega arith
+
+-- reading p comes to an answer at once
+pub stop : {p : Part} {ts : List ℕ} {X : Read} → ((f : ℕ) → read (suc f) p ts ≡ X) → Is p ts X
+stop {p} {ts} {X} u = record { run = go }
+  where
+    go : (f : ℕ) → 6 * length ts + rank p ≤ f → read f p ts ≡ X
+    go zero h = absurd (omega (arith, rank-positive p))
+    go (suc f) h = u f
+
+-- reading p is reading q, and then k
+pub seq : {p q : Part} {ts us : List ℕ} {X Y : Read} (k : ℕ → Expr → List ℕ → Read) → Is q us X → ((f : ℕ) → read (suc f) p ts ≡ andThen (read f q us) (k f))
+    → 6 * length us + rank q < 6 * length ts + rank p → ((f : ℕ) → 6 * length ts + rank p ≤ suc f → andThen X (k f) ≡ Y) → Is p ts Y
+seq {p} {q} {ts} {us} {X} {Y} k i u h j = record { run = go }
+  where
+    go : (f : ℕ) → 6 * length ts + rank p ≤ f → read f p ts ≡ Y
+    go zero g = absurd (omega arith)
+    go (suc f) g = u f ∙ ap (λ (r : Read). andThen r (k f)) (i .run f (omega arith)) ∙ j f g
+
+-- ---- a row of parts: l is p, and then any number of p, each joined to what was read before it
+
+pub record Row (l p : Part) (m : Expr → Part) (r : ℕ) : Type 0 where
+  pub first : (f : ℕ) (ts : List ℕ) → read (suc f) l ts ≡ andThen (read f p ts) (λ e us. read f (m e) us)
+  pub rank-is : (e : Expr) → rank (m e) ≡ r
+  pub part-less : rank p < rank l
+  pub more-less : r ≤ rank l
+
+pub choice-row : Row a-choice a-blend more-choices 5
+choice-row = record { first = λ f ts. refl; rank-is = λ e. refl; part-less = omega arith; more-less = omega arith }
+
+pub blend-row : Row a-blend a-chain more-blends 4
+blend-row = record { first = λ f ts. refl; rank-is = λ e. refl; part-less = omega arith; more-less = omega arith }
+
+pub chain-row : Row a-chain an-item more-chains 3
+chain-row = record { first = λ f ts. refl; rank-is = λ e. refl; part-less = omega arith; more-less = omega arith }
+
+abbrev pub Stops : (Expr → Part) → List ℕ → Type 0
+Stops m ts = (f : ℕ) (e : Expr) → read (suc f) (m e) ts ≡ got e ts
+
+-- one part more, which starts at us, joined by op
+abbrev pub Turn : (Expr → Part) → Part → (Expr → Expr → Expr) → List ℕ → List ℕ → Type 0
+Turn m p op ts us = (f : ℕ) (e : Expr) → read (suc f) (m e) ts ≡ andThen (read f p us) (λ g vs. read f (m (op e g)) vs)
+
+-- From e, read up to ts with its code behind `before`, the reading goes on to another expression.
+pub record Further (m : Expr → Part) (before : List ℕ) (e : Expr) (ts code us : List ℕ) : Type 0 where
+  pub expr : Expr
+  pub code-is : code ≡ before ++ postfix expr
+  pub goes : (X : Read) → Is (m expr) us X → Is (m e) ts X
+
+-- what a loop over such a row keeps
+pub record Goes (m : Expr → Part) (s o : List ℕ) (c : Spot) (o′ : List ℕ) (n : Spot) : Type 0 where
+  pub goes : (before : List ℕ) (e : Expr) → take (c .pos) o ≡ before ++ postfix e → Further m before e (left s c) (take (n .pos) o′) (left s n)
+  pub fewer : length (left s n) ≤ length (left s c)
+  pub falls : length s - n .at ≤ length s - c .at
+  pub room : n .pos + 2 * (length s - n .at) ≤ c .pos + 2 * (length s - c .at)
+  pub same-length : length o′ ≡ length o
+
+pub goes-start : (m : Expr → Part) (s o : List ℕ) (c : Spot) → Goes m s o c o c
+goes-start m s o c = record {
+  goes = λ before e q. record { expr = e; code-is = q; goes = λ X i. i };
+  fewer = omega arith;
+  falls = omega arith;
+  room = omega arith;
+  same-length = refl;
+}
+
+module _ {l p : Part} {m : Expr → Part} {r : ℕ} (w : Row l p m r) where
+  -- the first part is refused
+  pub first-not : {s o o′ : List ℕ} {c : Spot} {a : Made} → Reads p s o c o′ a → a ≡ Refused → Reads l s o c o′ Refused
+  first-not {s} {o} {o′} {c} d q = record { says = seq (λ f e us. read f (m e) us) (read-not d q) (λ f. w .first f _) (omega (arith, w .part-less)) (λ f g. refl) }
+
+  -- the row ends
+  pub row-done : {s o o₁ o′ : List ℕ} {c n : Spot} {x : Spot} {a : Made} → Reads p s o c o₁ a → a ≡ Done x → Goes m s o₁ x o′ n → Stops m (left s n) → Reads l s o c o′ (Done n)
+  row-done {s} {o} {o₁} {o′} {c} {n} {x} d q g st =
+      let y = read-to d q in
+      let z = g .goes (take (c .pos) o) (y .expr) (y .code) in
+      record {
+        says = record {
+          expr = z .expr;
+          reads = seq (λ f e us. read f (m e) us) (y .reads) (λ f. w .first f _) (omega (arith, w .part-less))
+              (λ f h. z .goes (got (z .expr) (left s n)) (stop (λ k. st k (z .expr))) .run f (omega (arith, w .rank-is (y .expr), y .fewer, w .more-less)));
+          code = z .code-is;
+          fewer = omega (arith, g .fewer, y .fewer);
+          falls = omega (arith, g .falls, y .falls);
+          room = omega (arith, g .room, y .room);
+        };
+      }
+
+  -- a later part is refused
+  pub row-not : {s o o₁ o′ o″ : List ℕ} {c n : Spot} {x : Spot} {a b : Made} {v : Spot} (op : Expr → Expr → Expr)
+      → Reads p s o c o₁ a → a ≡ Done x → Goes m s o₁ x o′ n → Reads p s o′ v o″ b → b ≡ Refused → Turn m p op (left s n) (left s v)
+      → 6 * length (left s v) + rank p < 6 * length (left s n) + r → Reads l s o c o″ Refused
+  row-not {s} {o} {o₁} {o′} {o″} {c} {n} {x} op d q g d′ q′ tu h =
+      let y = read-to d q in
+      let z = g .goes (take (c .pos) o) (y .expr) (y .code) in
+      record {
+        says = seq (λ f e us. read f (m e) us) (y .reads) (λ f. w .first f _) (omega (arith, w .part-less))
+            (λ f h′. z .goes bad (seq (λ f e us. read f (m (op (z .expr) e)) us) (read-not d′ q′) (λ f. tu f (z .expr)) (omega (arith, w .rank-is (z .expr))) (λ f g. refl)) .run f (omega (arith, w .rank-is (y .expr), y .fewer, w .more-less)));
+      }
+
+-- one part more was read and its operator b was written
+pub goes-turn : {l p : Part} {m : Expr → Part} {r : ℕ} {s o o₁ o′ o″ : List ℕ} {c n x n′ : Spot} {v : Spot} {a : Made} {b : ℕ} (w : Row l p m r) (op : Expr → Expr → Expr)
+    → Goes m s o c o₁ n → Reads p s o₁ v o′ a → a ≡ Done x → Put o′ x b o″ n′ → Turn m p op (left s n) (left s v)
+    → v .pos ≡ n .pos → 6 * length (left s v) + rank p < 6 * length (left s n) + r → length (left s v) ≤ length (left s n) → length s - v .at ≤ length s - n .at
+    → ((e g : Expr) → postfix (op e g) ≡ postfix e ++ (postfix g ++ (b ∷ []))) → length o″ ≡ length o₁ → Goes m s o c o″ n′
+goes-turn {l} {p} {m} {r} {s} {o} {o₁} {o′} {o″} {c} {n} {x} {n′} {v} {a} {b} w op g d q u tu hv h fw fl pf ln =
+    let y = read-to d q in
+    let there : left s n′ ≡ left s x = ap (λ (i : ℕ). left s (record { at = i; pos = 0 })) (u .at-is) in
+    record {
+      goes = λ before e q₀. step y there before e (g .goes before e q₀);
+      fewer = omega (arith, g .fewer, y .fewer, ap length there);
+      falls = omega (arith, g .falls, y .falls, u .at-is);
+      room = omega (arith, g .room, y .room, u .at-is, u .pos-is);
+      same-length = ln ∙ g .same-length;
+    }
+  where
+    code : (y : To p s o₁ v o′ x) (before : List ℕ) (e : Expr) → take (n .pos) o₁ ≡ before ++ postfix e → take (n′ .pos) o″ ≡ before ++ postfix (op e (y .expr))
+    code y before e q₀ =
+        u .code-is
+        ∙ ap (λ (l : List ℕ). l ++ (b ∷ [])) (y .code ∙ ap (λ (i : ℕ). take i o₁ ++ postfix (y .expr)) hv ∙ ap (λ (l : List ℕ). l ++ postfix (y .expr)) q₀)
+        ∙ simp append-assoc (ap (λ (l : List ℕ). before ++ l) (sym (pf e (y .expr))))
+
+    step : (y : To p s o₁ v o′ x) → left s n′ ≡ left s x → (before : List ℕ) (e : Expr) → Further m before e (left s c) (take (n .pos) o₁) (left s n) → Further m before e (left s c) (take (n′ .pos) o″) (left s n′)
+    step y there before e z = record {
+      expr = op (z .expr) (y .expr);
+      code-is = code y before (z .expr) (z .code-is);
+      goes = λ X i. z .goes X (seq (λ f e us. read f (m (op (z .expr) e)) us) (y .reads) (λ f. tu f (z .expr)) (omega (arith, w .rank-is (z .expr)))
+          (λ f k. ap (λ (us : List ℕ). read f (m (op (z .expr) (y .expr))) us) (sym there) ∙ i .run f (omega (arith, w .rank-is (z .expr), w .rank-is (op (z .expr) (y .expr)), y .fewer, ap length there))));
+    }
