@@ -1,0 +1,58 @@
+use mathlib.Core.Path.{_≡_}
+use mathlib.Core.Logic.{⊎-elim}
+use Prim.Native.Nat.{_+_, _-_, _≤_}
+use native.Mathlib.Omega.{arith}
+use borrow.Author.Needs.{needs}
+use lib.ListN.{length, drop}
+use Rattle.book.specs.Text.{countOf}
+use Rattle.reader.proofs.LineLaws.{count-one, count-other, count-end}
+use Rattle.reader.proofs.tests.count.Statement.{statement}
+use Rattle.reader.proofs.tests.count.Tie as tie
+
+abbrev Inv-loop : tie.InvT-loop
+Inv-loop line k found₀ i₀ found i = (found ≤ i) × (i ≤ length line) × (found + countOf k (drop i line) ≡ countOf k line)
+
+abbrev μ-loop : tie.MeasureT-loop
+μ-loop line k found₀ i₀ found i = length line - i
+
+loop-holds : tie.Need-loop-holds Inv-loop μ-loop
+loop-holds c = search needs
+
+shared-slice-read-kind : tie.Need-shared-slice-read-kind Inv-loop μ-loop
+shared-slice-read-kind c = search needs
+
+kind-requires : tie.Need-kind-requires Inv-loop μ-loop
+kind-requires c κs = search needs
+
+add-found : tie.Need-add-found Inv-loop μ-loop
+add-found c = search needs
+
+add-i : tie.Need-add-i Inv-loop μ-loop
+add-i c = search needs
+
+loop-less : tie.Need-loop-less Inv-loop μ-loop
+loop-less c = search needs
+
+loop-again : tie.Need-loop-again Inv-loop μ-loop
+loop-again c = ⊎-elim
+    (λ w. (omega arith, omega arith, omega (arith, c .before .before .before .before .loop .inv .2, w .1, count-one (c .before .before .before .before .before .before .args .line .now) (c .before .before .before .before .loop .i) (c .before .kind .result) (c .before .before .before .loop-test .taken) (c .before .kind .ensures) (c .before .before .before .before .before .before .args .k) (w .0 .taken))))
+    (λ w. (omega arith, omega arith, omega (arith, c .before .before .before .before .loop .inv .2, w .1, count-other (c .before .before .before .before .before .before .args .line .now) (c .before .before .before .before .loop .i) (c .before .kind .result) (c .before .before .before .loop-test .taken) (c .before .kind .ensures) (c .before .before .before .before .before .before .args .k) (w .0 .left))))
+    (c .if1 .came)
+
+returns : tie.Need-returns Inv-loop μ-loop
+returns c = omega (arith, c .before .loop .inv .2, count-end (c .before .before .before .args .line .now) (c .before .loop .i) (c .before .before .before .args .k) (c .loop-test .left))
+
+pub count-spec : {M : Type 1} → statement M
+count-spec =
+    tie.close
+    (tie.spec
+    Inv-loop
+    μ-loop
+    loop-holds
+    shared-slice-read-kind
+    kind-requires
+    add-found
+    add-i
+    loop-less
+    loop-again
+    returns)
