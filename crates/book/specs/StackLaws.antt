@@ -1,9 +1,9 @@
 -- How many machines the code of a line holds at once. The code of a choice whose brackets nest d deep holds at most 3d + 4 machines, and one more where
--- `A+` keeps A beside `A*` (`choice-height`). So a line that passes test 3 holds at most 17 for one choice (`line-held`), and its whole program at most
+-- a code has a second machine beside its own: `A*` beside A for `A+`, a given one for `?` and `!` (`choice-height`). So a line that passes test 3 holds at most 17 for one choice (`line-held`), and its whole program at most
 -- 19: X and l lie below while r is made (`line-height`).
 use Prim.Native.Nat.{ℕ, zero, suc, _+_, _*_, _-_, _≤_, max}
 use mathlib.Core.Path.{_≡_, refl, ap, sym, _∙_, subst}
-use mathlib.Core.Bool.{Bool, true, false, _&&_, _||_, true≢false}
+use mathlib.Core.Bool.{Bool, true, false, _&&_, _||_, true≢false, false≢true}
 use mathlib.Core.Logic.{inl, inr}
 use mathlib.Core.List.{List, [], _∷_, _++_, append-assoc, append-nil}
 use native.Mathlib.Omega.{arith}
@@ -22,8 +22,8 @@ use Rattle.book.specs.Program.{pairCode, postfix, program, contextsProgr
 
 -- ---- definitions
 
--- The most machines that the code of an expression holds at once, operands made left before right; `extra` is what `A+` holds besides A while it
--- works: 0 counts the code's own operands, 1 the machine `A*` too.
+-- The most machines that the code of an expression holds at once, operands made left before right; `extra` is what `A+`, `A?` and `!A` hold
+-- besides A while they work: 0 counts the code's own operands, 1 the machine beside it too.
 abbrev pub deepest : ℕ → Expr → ℕ
 deepest extra (letter b) = 1
 deepest extra (name b) = 1
@@ -33,8 +33,8 @@ deepest extra (pair o e f) = max (deepest extra e) (suc (deepest extra f))
 deepest extra (join e f) = max (deepest extra e) (suc (deepest extra f))
 deepest extra (star e) = deepest extra e
 deepest extra (plus e) = max (deepest extra e) (suc extra)
-deepest extra (option e) = deepest extra e
-deepest extra (complement e) = deepest extra e
+deepest extra (option e) = max (deepest extra e) (suc extra)
+deepest extra (complement e) = max (deepest extra e) (suc extra)
 
 -- How deep the brackets nest: the greatest count of `(` less `)` behind a `(`.
 abbrev pub nesting : ℕ → ℕ → List ℕ → ℕ
@@ -63,14 +63,17 @@ abbrev pub pushes : ℕ → Bool
 pushes c = (leb 1 (kindOf c) && leb (kindOf c) 4) || (leb 1 c && leb c 4)
 
 abbrev pub pops : ℕ → Bool
-pops c = (leb 10 (kindOf c) && leb (kindOf c) 12) || (eqb c 59 || (eqb c 5 || (eqb c 6 || eqb c 8)))
+pops c = (leb 10 (kindOf c) && leb (kindOf c) 12) || (eqb c 59 || (eqb c 5 || eqb c 6))
 
 abbrev pub heightAfter : ℕ → ℕ → ℕ
 heightAfter c h = choose (pushes c) (λ _. suc h) λ _. choose (pops c) (λ _. h - 1) (λ _. h)
 
--- `A+` makes `A*` beside A
+-- `A+` makes `A*` beside A; `?`, `!` and meeting the book have their other operand beside A
+abbrev pub besides : ℕ → Bool
+besides c = (leb 8 (kindOf c) && leb (kindOf c) 9) || (eqb (kindOf c) 6 || eqb c 8)
+
 abbrev pub heightWhile : ℕ → ℕ → ℕ
-heightWhile c h = choose (eqb (kindOf c) 8) (λ _. suc h) (λ _. h)
+heightWhile c h = choose (besides c) (λ _. suc h) (λ _. h)
 
 -- the greatest height while a code runs, from the height h
 abbrev pub highest : ℕ → List ℕ → ℕ
@@ -146,7 +149,7 @@ module _ (extra d : ℕ) where
     item-bound : {ts : List ℕ} {e : Expr} → Item ts e → (rest : List ℕ) (k o c : ℕ) → o ≡ c + k → nesting o c (ts ++ rest) ≤ d → Bound 1 k e rest
     item-bound (negated i z) rest k o c q h =
         let A = item-bound i rest k o c q (rw z at h) in
-        record { height = A .height; leaves = A .leaves; opens = A .opens; closes = A .closes; count = A .count; later = A .later }
+        record { height = omega (arith, A .height); leaves = A .leaves; opens = A .opens; closes = A .closes; count = A .count; later = A .later }
     item-bound (followed f) rest k o c q h = followed-bound f rest k o c q h
 
     followed-bound : {ts : List ℕ} {e : Expr} → Followed ts e → (rest : List ℕ) (k o c : ℕ) → o ≡ c + k → nesting o c (ts ++ rest) ≤ d → Bound 1 k e rest
@@ -159,7 +162,7 @@ module _ (extra d : ℕ) where
         record { height = omega (arith, A .height); leaves = A .leaves; opens = A .opens; closes = A .closes; count = A .count; later = A .later }
     followed-bound (by-option f z) rest k o c q h =
         let A = followed-bound f (63 ∷ rest) k o c q (rw (z, append-assoc) at h) in
-        record { height = A .height; leaves = A .leaves; opens = A .opens; closes = A .closes; count = A .count; later = A .later }
+        record { height = omega (arith, A .height); leaves = A .leaves; opens = A .opens; closes = A .closes; count = A .count; later = A .later }
 
     atom-bound : {ts : List ℕ} {e : Expr} → Atom ts e → (rest : List ℕ) (k o c : ℕ) → o ≡ c + k → nesting o c (ts ++ rest) ≤ d → Bound 1 k e rest
     atom-bound (a-letter b s z) rest k o c q h = leaf 1 k (letter b) rest o c (omega arith) refl s q (rw (nesting-kind b 1 rest o c refl refl s) at (rw z at h))
@@ -252,7 +255,7 @@ line-held l e = deep-held (l .bytes) (go (tooDeep 0 0 (l .bytes)) e)
 
 highest-from : (cs : List ℕ) (h : ℕ) → h ≤ highest h cs
 highest-from [] h = omega arith
-highest-from (c ∷ cs) h = go (eqb (kindOf c) 8)
+highest-from (c ∷ cs) h = go (besides c)
   where
     go : (t : Bool) → h ≤ max (choose t (λ _. suc h) (λ _. h)) (highest (heightAfter c h) cs)
     go true = omega arith
@@ -267,13 +270,22 @@ some (pair o e f) = omega (arith, some e)
 some (join e f) = omega (arith, some e)
 some (star e) = some e
 some (plus e) = omega arith
-some (option e) = some e
-some (complement e) = some e
+some (option e) = omega arith
+some (complement e) = omega arith
 
-highest-leaf : (b k h : ℕ) (cs : List ℕ) → leb 1 k && leb k 4 ≡ true → eqb k 8 ≡ false → eqb (kindOf b) k ≡ true → highest h (b ∷ cs) ≡ max (h + 1) (highest (suc h) cs)
+-- a byte that pushes is not the code that meets the book
+not-meet : (b k : ℕ) → leb 1 k && leb k 4 ≡ true → kindOf b ≡ k → eqb b 8 ≡ false
+not-meet b k p z = go (same-cases nat-test b 8)
+  where
+    go : SameCases nat-test b 8 → eqb b 8 ≡ false
+    go (inl q) = absurd (false≢true (subst (λ k. leb 1 k && leb k 4 ≡ true) (sym z ∙ ap kindOf (q .0)) p))
+    go (inr q) = q .1
+
+highest-leaf : (b k h : ℕ) (cs : List ℕ) → leb 1 k && leb k 4 ≡ true → (leb 8 k && leb k 9) || (eqb k 6 || false) ≡ false → eqb (kindOf b) k ≡ true
+    → highest h (b ∷ cs) ≡ max (h + 1) (highest (suc h) cs)
 highest-leaf b k h cs p n q =
     let z : kindOf b ≡ k = nat-test .sound (kindOf b) k q in
-    rw (z, p, n) (omega (arith, highest-from cs (suc h)))
+    rw (not-meet b k p z, z, p, n) (omega (arith, highest-from cs (suc h)))
 
 popped : (h : ℕ) (cs : List ℕ) → max (suc (suc h)) (highest (suc (suc h) - 1) cs) ≡ max (suc (suc h)) (highest (suc h) cs)
 popped h cs = let z : suc (suc h) - 1 ≡ suc h = omega arith in rw z

@@ -17,25 +17,13 @@ use Rattle.language.specs.Environment.{lookup}
 use Rattle.language.specs.Evaluate.{column, evaluate, markedStages, minusContexts, eraseAndExclude, evaluateRule}
 use Rattle.book.specs.Kind.{kindOf, isLetter, isName}
 use Rattle.book.specs.Text.{define, rule}
+use Rattle.book.specs.StackLaws.{Leaves}
 use Rattle.book.specs.Program.{pairCode, joinCode, postfix, patternProgram, finishProgram, contextsProgram, program}
 use Rattle.evaluate.specs.Execute.{Store, Ran, ran, failed, stuck, afterRan, thenRan, pushMade, step, execute}
 
--- The letters and names of an expression are letters and names: so it is of every expression that the reader reads.
-abbrev pub Spelled : Expr → Type 0
-Spelled (letter b) = isLetter b ≡ true
-Spelled (name b) = isName b ≡ true
-Spelled dot = Unit {0}
-Spelled empty = Unit {0}
-Spelled (pair o e f) = Spelled e × Spelled f
-Spelled (join e f) = Spelled e × Spelled f
-Spelled (star e) = Spelled e
-Spelled (plus e) = Spelled e
-Spelled (option e) = Spelled e
-Spelled (complement e) = Spelled e
-
-abbrev pub SpelledContexts : List (Expr × Expr) → Type 0
-SpelledContexts [] = Unit {0}
-SpelledContexts (c ∷ cs) = Spelled (c .0) × Spelled (c .1) × SpelledContexts cs
+abbrev pub AllLeaves : List (Expr × Expr) → Type 0
+AllLeaves [] = Unit {0}
+AllLeaves (c ∷ cs) = Leaves (c .0) × Leaves (c .1) × AllLeaves cs
 
 -- What a run left on top, with the counts of its stages.
 abbrev top : List ℕ → List Machine → Made
@@ -115,7 +103,7 @@ module _ (fmt : Format) (ls : List ℕ) (env : List (ℕ × Machine)) (kept : Ma
   nothing-more (refused r) P R = refl
 
   -- EXPRESSIONS: their code leaves on top, behind the same counts, the machine that the expression keeps.
-  pub expression-leaves : (e : Expr) → Spelled e → (q : List ℕ) (st : List Machine) (P R : Machine)
+  pub expression-leaves : (e : Expr) → Leaves e → (q : List ℕ) (st : List Machine) (P R : Machine)
       → leaves (postfix e ++ q) st P R ≡ thenMade (evaluate fmt ls env e) (λ M. leaves q (M ∷ st) P R)
   unfolding evaluate step
   expression-leaves (letter b) h q st P R = pushed b q (store st P R) st (present (letterMachine (length ls) (column ls b))) (rw h)
@@ -192,7 +180,7 @@ module _ (fmt : Format) (ls : List ℕ) (env : List (ℕ × Machine)) (kept : Ma
       ∙ then-same (pairStage fmt k without (allMachine (length ls)) E) _ _ (λ D. pushed 8 [] (store (D ∷ []) P R) [] (pairStage fmt k both kept D) refl ∙ nothing-more (pairStage fmt k both kept D) P R))
       ∙ sym (then-row (eraseStage fmt (length ls) Y) (λ E. pairStage fmt k without (allMachine (length ls)) E) (λ R. pairStage fmt k both kept R))
 
-  contexts-leave : (cs : List (Expr × Expr)) → SpelledContexts cs → (X P R : Machine) → leaves (contextsProgram cs) (X ∷ []) P R ≡ thenMade (minusContexts fmt ls env P cs X) finished
+  contexts-leave : (cs : List (Expr × Expr)) → AllLeaves cs → (X P R : Machine) → leaves (contextsProgram cs) (X ∷ []) P R ≡ thenMade (minusContexts fmt ls env P cs X) finished
   unfolding minusContexts step
   contexts-leave [] h X P R = finish-leaves X P R ∙ sym (then-present X finished)
   contexts-leave (c ∷ cs) (h, g, t) X P R =
@@ -208,7 +196,7 @@ module _ (fmt : Format) (ls : List ℕ) (env : List (ℕ × Machine)) (kept : Ma
       ∙ sym (then-row (evaluate fmt ls env (c .0)) (λ L. thenMade (evaluate fmt ls env (c .1)) λ B. thenMade (markedStages fmt (length ls) L P B) λ C. thenMade (pairStage fmt k without X C) λ Y. minusContexts fmt ls env P cs Y) finished)
 
   -- RULES: their program leaves the book met with the rule.
-  pub rule-leaves : (p : Expr) (cs : List (Expr × Expr)) → Spelled p → SpelledContexts cs → (P₀ R₀ : Machine)
+  pub rule-leaves : (p : Expr) (cs : List (Expr × Expr)) → Leaves p → AllLeaves cs → (P₀ R₀ : Machine)
       → leaves (program (rule restricts p cs)) [] P₀ R₀ ≡ thenMade (evaluateRule fmt ls env p cs) (λ R. pairStage fmt k both kept R)
   unfolding evaluateRule step
   rule-leaves p cs h t P₀ R₀ =
@@ -222,6 +210,6 @@ module _ (fmt : Format) (ls : List ℕ) (env : List (ℕ × Machine)) (kept : Ma
       ∙ sym (then-row (evaluate fmt ls env p) (λ P. thenMade (markedStages fmt (length ls) (allMachine (length ls)) P (allMachine (length ls))) λ X. thenMade (minusContexts fmt ls env P cs X) λ Y. eraseAndExclude fmt (length ls) Y) (λ R. pairStage fmt k both kept R))
 
   -- DEFINITIONS: their program leaves the machine of the name.
-  pub define-leaves : (x : ℕ) (e : Expr) → Spelled e → (P₀ R₀ : Machine) → leaves (program (define x e)) [] P₀ R₀ ≡ evaluate fmt ls env e
+  pub define-leaves : (x : ℕ) (e : Expr) → Leaves e → (P₀ R₀ : Machine) → leaves (program (define x e)) [] P₀ R₀ ≡ evaluate fmt ls env e
   define-leaves x e h P₀ R₀ =
       ap (λ l. leaves l [] P₀ R₀) (sym (append-nil (postfix e))) ∙ expression-leaves e h [] [] P₀ R₀ ∙ nothing-more (evaluate fmt ls env e) P₀ R₀
