@@ -225,30 +225,20 @@ fn atom(s: &[u8], out: &mut [u8], c: Spot) -> Made
     let k = t.kind;
     let leaf = t.byte;
     let next = t.next;
+    let past = Spot {
+        at: next.at,
+        pos: c.pos,
+    };
     if k < 1 {
         return Made::Refused;
     }
     if k < 5 {
-        return Made::Done(put(
-            out,
-            Spot {
-                at: next.at,
-                pos: c.pos,
-            },
-            leaf,
-        ));
+        return Made::Done(put(out, past, leaf));
     }
     if k != 5 {
         return Made::Refused;
     }
-    let Made::Done(n) = choice(
-        s,
-        out,
-        Spot {
-            at: next.at,
-            pos: c.pos,
-        },
-    ) else {
+    let Made::Done(n) = choice(s, out, past) else {
         return Made::Refused;
     };
     let end = n.at;
@@ -257,9 +247,9 @@ fn atom(s: &[u8], out: &mut [u8], c: Spot) -> Made
     if ek != 13 {
         return Made::Refused;
     }
-    let past = e.next;
+    let behind = e.next;
     Made::Done(Spot {
-        at: past.at,
+        at: behind.at,
         pos: n.pos,
     })
 }

@@ -82,88 +82,52 @@ item-at t = and 2 item-kinds.ps (is 2 item-kinds.ps μ-item t) item.Pre
 abbrev item-below : ℕ → In 2 item-kinds.ps
 item-below t = and 2 item-kinds.ps (falls 2 item-kinds.ps _<_ μ-item t) item.Pre
 
-atom-returns : (t : ℕ) → atom-lts.Need-returns (
-  token-reads.Asked,
-  token-reads.Learnt,
-  put-reads.Asked,
-  put-reads.Learnt,
-  choice-below t,
-  choice.Post,
-) (atom-at t) atom.Post
+-- what `atom` calls
+abbrev atom-claims : ℕ → atom-lts.Claims
+atom-claims t = (token-reads.Asked, token-reads.Learnt, put-reads.Asked, put-reads.Learnt, choice-below t, choice.Post)
+
+-- what `blend` calls
+abbrev blend-claims : ℕ → blend-lts.Claims
+blend-claims t = (chain-below t, chain.Post, token-reads.Asked, token-reads.Learnt, put-reads.Asked, put-reads.Learnt)
+
+-- what `chain` calls
+abbrev chain-claims : ℕ → chain-lts.Claims
+chain-claims t = (item-below t, item.Post, token-reads.Asked, token-reads.Learnt, put-reads.Asked, put-reads.Learnt)
+
+-- what `choice` calls
+abbrev choice-claims : ℕ → choice-lts.Claims
+choice-claims t = (blend-below t, blend.Post, token-reads.Asked, token-reads.Learnt, put-reads.Asked, put-reads.Learnt)
+
+-- what `item` calls
+abbrev item-claims : ℕ → item-lts.Claims
+item-claims t = (nots-reads.Asked, nots-reads.Learnt, atom-below t, atom.Post, suffixed-reads.Asked, suffixed-reads.Learnt, negate-reads.Asked, negate-reads.Learnt)
+
+atom-returns : (t : ℕ) → atom-lts.Need-returns (atom-claims t) (atom-at t) atom.Post
 atom-returns t c = atom-refused _ (c .before .before .token .ensures .kind-is) (λ h. omega arith)
 
-atom-put-requires : (t : ℕ) → atom-lts.Need-put-requires (
-  token-reads.Asked,
-  token-reads.Learnt,
-  put-reads.Asked,
-  put-reads.Learnt,
-  choice-below t,
-  choice.Post,
-) (atom-at t) atom.Post
+atom-put-requires : (t : ℕ) → atom-lts.Need-put-requires (atom-claims t) (atom-at t) atom.Post
 atom-put-requires t c κs =
     let x = c .before .before .before .before .token .ensures .token (λ e. omega arith) in
     omega (arith, x .falls)
 
-atom-returns-2 : (t : ℕ) → atom-lts.Need-returns-2 (
-  token-reads.Asked,
-  token-reads.Learnt,
-  put-reads.Asked,
-  put-reads.Learnt,
-  choice-below t,
-  choice.Post,
-) (atom-at t) atom.Post
+atom-returns-2 : (t : ℕ) → atom-lts.Need-returns-2 (atom-claims t) (atom-at t) atom.Post
 atom-returns-2 t c = atom-put (c .before .before .before .before .before .before .before .token .ensures .token (λ e. omega arith)) (c .before .before .before .before .before .if1 .left) (c .before .before .before .before .if2 .taken) (c .before .before .put .ensures)
 
-atom-returns-3 : (t : ℕ) → atom-lts.Need-returns-3 (
-  token-reads.Asked,
-  token-reads.Learnt,
-  put-reads.Asked,
-  put-reads.Learnt,
-  choice-below t,
-  choice.Post,
-) (atom-at t) atom.Post
+atom-returns-3 : (t : ℕ) → atom-lts.Need-returns-3 (atom-claims t) (atom-at t) atom.Post
 atom-returns-3 t c = atom-refused _ (c .before .before .before .before .token .ensures .kind-is) (λ h. omega arith)
 
-atom-choice-requires : (t : ℕ) → atom-lts.Need-choice-requires (
-  token-reads.Asked,
-  token-reads.Learnt,
-  put-reads.Asked,
-  put-reads.Learnt,
-  choice-below t,
-  choice.Post,
-) (atom-at t) atom.Post
+atom-choice-requires : (t : ℕ) → atom-lts.Need-choice-requires (atom-claims t) (atom-at t) atom.Post
 atom-choice-requires t c κs =
     let x = c .before .before .before .before .before .token .ensures .token (λ e. omega arith) in
     (omega (arith, x .falls), omega (arith, x .falls))
 
-atom-returns-4 : (t : ℕ) → atom-lts.Need-returns-4 (
-  token-reads.Asked,
-  token-reads.Learnt,
-  put-reads.Asked,
-  put-reads.Learnt,
-  choice-below t,
-  choice.Post,
-) (atom-at t) atom.Post
+atom-returns-4 : (t : ℕ) → atom-lts.Need-returns-4 (atom-claims t) (atom-at t) atom.Post
 atom-returns-4 t c = bracket-refused (c .before .before .before .before .before .before .before .before .before .before .token .ensures .token (λ e. omega arith)) (c .before .before .before .before .before .before .if3 .left) (c .before .before .before .before .choice .ensures) (c .enum-told .given .1)
 
-atom-returns-5 : (t : ℕ) → atom-lts.Need-returns-5 (
-  token-reads.Asked,
-  token-reads.Learnt,
-  put-reads.Asked,
-  put-reads.Learnt,
-  choice-below t,
-  choice.Post,
-) (atom-at t) atom.Post
+atom-returns-5 : (t : ℕ) → atom-lts.Need-returns-5 (atom-claims t) (atom-at t) atom.Post
 atom-returns-5 t c = bracket-open (c .before .before .before .before .before .before .before .before .before .before .before .before .before .token .ensures .token (λ e. omega arith)) (c .before .before .before .before .before .before .before .before .before .if3 .left) (c .before .before .before .before .before .before .before .choice .ensures) _ (c .before .before .before .n .given .1) (c .before .token2 .ensures .kind-is) (c .if4 .taken)
 
-atom-returns-6 : (t : ℕ) → atom-lts.Need-returns-6 (
-  token-reads.Asked,
-  token-reads.Learnt,
-  put-reads.Asked,
-  put-reads.Learnt,
-  choice-below t,
-  choice.Post,
-) (atom-at t) atom.Post
+atom-returns-6 : (t : ℕ) → atom-lts.Need-returns-6 (atom-claims t) (atom-at t) atom.Post
 atom-returns-6 t c = bracket-done (c .before .before .before .before .before .before .before .before .before .before .before .before .before .before .token .ensures .token (λ e. omega arith)) (c .before .before .before .before .before .before .before .before .before .before .if3 .left) (c .before .before .before .before .before .before .before .before .choice .ensures) (c .before .before .before .before .n .given .1) (c .before .before .token2 .ensures .token (λ e. omega arith)) (c .before .if4 .left)
 
 abbrev blend-Inv-loop : blend-lts.InvT-loop
@@ -172,107 +136,44 @@ blend-Inv-loop s out₀ here₀ out here = Goes more-blends s out₀ here₀ out
 abbrev blend-μ-loop : blend-lts.MeasureT-loop
 blend-μ-loop s out₀ here₀ out here = length s - here .at
 
-blend-returns : (t : ℕ) → blend-lts.Need-returns (
-  chain-below t,
-  chain.Post,
-  token-reads.Asked,
-  token-reads.Learnt,
-  put-reads.Asked,
-  put-reads.Learnt,
-) (blend-at t) blend.Post blend-Inv-loop blend-μ-loop
+blend-returns : (t : ℕ) → blend-lts.Need-returns (blend-claims t) (blend-at t) blend.Post blend-Inv-loop blend-μ-loop
 blend-returns t c = first-not blend-row (c .before .before .before .before .chain .ensures) (c .enum-told .given .1)
 
-blend-loop-holds : (t : ℕ) → blend-lts.Need-loop-holds (
-  chain-below t,
-  chain.Post,
-  token-reads.Asked,
-  token-reads.Learnt,
-  put-reads.Asked,
-  put-reads.Learnt,
-) (blend-at t) blend.Post blend-Inv-loop blend-μ-loop
+blend-loop-holds : (t : ℕ) → blend-lts.Need-loop-holds (blend-claims t) (blend-at t) blend.Post blend-Inv-loop blend-μ-loop
 blend-loop-holds t c = goes-start _ _ _ _
 
-blend-returns-2 : (t : ℕ) → blend-lts.Need-returns-2 (
-  chain-below t,
-  chain.Post,
-  token-reads.Asked,
-  token-reads.Learnt,
-  put-reads.Asked,
-  put-reads.Learnt,
-) (blend-at t) blend.Post blend-Inv-loop blend-μ-loop
+blend-returns-2 : (t : ℕ) → blend-lts.Need-returns-2 (blend-claims t) (blend-at t) blend.Post blend-Inv-loop blend-μ-loop
 blend-returns-2 t c = row-done blend-row (c .before .before .before .before .before .before .before .before .chain .ensures) (c .before .before .before .before .first .given .1) (c .before .before .loop .inv) (blends-stop _ _ (c .before .token .ensures .kind-is) (λ q. omega arith) (λ q. omega arith))
 
-blend-returns-3 : (t : ℕ) → blend-lts.Need-returns-3 (
-  chain-below t,
-  chain.Post,
-  token-reads.Asked,
-  token-reads.Learnt,
-  put-reads.Asked,
-  put-reads.Learnt,
-) (blend-at t) blend.Post blend-Inv-loop blend-μ-loop
+blend-returns-3 : (t : ℕ) → blend-lts.Need-returns-3 (blend-claims t) (blend-at t) blend.Post blend-Inv-loop blend-μ-loop
 blend-returns-3 t c = row-done blend-row (c .before .before .before .before .before .before .before .before .before .chain .ensures) (c .before .before .before .before .before .first .given .1) (c .before .before .before .loop .inv) (blends-stop _ _ (c .before .before .token .ensures .kind-is) (λ q. omega arith) (λ q. omega arith))
 
-blend-chain-requires-2 : (t : ℕ) → blend-lts.Need-chain-requires-2 (
-  chain-below t,
-  chain.Post,
-  token-reads.Asked,
-  token-reads.Learnt,
-  put-reads.Asked,
-  put-reads.Learnt,
-) (blend-at t) blend.Post blend-Inv-loop blend-μ-loop
+blend-chain-requires-2 : (t : ℕ) → blend-lts.Need-chain-requires-2 (blend-claims t) (blend-at t) blend.Post blend-Inv-loop blend-μ-loop
 blend-chain-requires-2 t c κs =
     let x = c .before .before .before .before .token .ensures .token (λ e. omega arith) in
     let z = read-to (c .before .before .before .before .before .before .before .before .before .before .before .chain .ensures) (c .before .before .before .before .before .before .before .first .given .1) in
     (omega (arith, x .falls, z .falls, c .before .before .before .before .before .loop .inv .falls), omega (arith, x .falls, z .falls, z .room, c .before .before .before .before .before .loop .inv .falls, c .before .before .before .before .before .loop .inv .room, c .before .before .before .before .before .loop .inv .same-length, c .before .before .before .before .before .before .before .before .before .before .before .chain .kept .1 .0))
 
-blend-returns-4 : (t : ℕ) → blend-lts.Need-returns-4 (
-  chain-below t,
-  chain.Post,
-  token-reads.Asked,
-  token-reads.Learnt,
-  put-reads.Asked,
-  put-reads.Learnt,
-) (blend-at t) blend.Post blend-Inv-loop blend-μ-loop
+blend-returns-4 : (t : ℕ) → blend-lts.Need-returns-4 (blend-claims t) (blend-at t) blend.Post blend-Inv-loop blend-μ-loop
 blend-returns-4 t c =
     let x = c .before .before .before .before .before .before .before .before .before .token .ensures .token (λ e. omega arith) in
     let y = blends-turn x (c .before .before .before .before .before .before .before .before .if1 .left) (c .before .before .before .before .before .before .before .if2 .left) in
     row-not blend-row (y .op) (c .before .before .before .before .before .before .before .before .before .before .before .before .before .before .before .before .chain .ensures) (c .before .before .before .before .before .before .before .before .before .before .before .before .first .given .1) (c .before .before .before .before .before .before .before .before .before .before .loop .inv) (c .before .before .before .before .chain2 .ensures) (c .enum-told2 .given .1) (y .turn) (omega (arith, at-fewer x))
 
-blend-put-requires : (t : ℕ) → blend-lts.Need-put-requires (
-  chain-below t,
-  chain.Post,
-  token-reads.Asked,
-  token-reads.Learnt,
-  put-reads.Asked,
-  put-reads.Learnt,
-) (blend-at t) blend.Post blend-Inv-loop blend-μ-loop
+blend-put-requires : (t : ℕ) → blend-lts.Need-put-requires (blend-claims t) (blend-at t) blend.Post blend-Inv-loop blend-μ-loop
 blend-put-requires t c κs =
     let x = c .before .before .before .before .before .before .before .before .before .before .before .token .ensures .token (λ e. omega arith) in
     let z = read-to (c .before .before .before .before .before .before .before .before .before .before .before .before .before .before .before .before .before .before .chain .ensures) (c .before .before .before .before .before .before .before .before .before .before .before .before .before .before .first .given .1) in
     let w = read-to (c .before .before .before .before .before .before .chain2 .ensures) (c .before .before .n .given .1) in
     omega (arith, x .falls, z .falls, z .room, w .falls, w .room, c .before .before .before .before .before .before .before .before .before .before .before .before .loop .inv .falls, c .before .before .before .before .before .before .before .before .before .before .before .before .loop .inv .room, c .before .before .before .before .before .before .before .before .before .before .before .before .loop .inv .same-length, c .before .before .before .before .before .before .before .before .before .before .before .before .before .before .before .before .before .before .chain .kept .1 .0, c .before .before .before .before .before .before .chain2 .kept .1 .0)
 
-blend-loop-less : (t : ℕ) → blend-lts.Need-loop-less (
-  chain-below t,
-  chain.Post,
-  token-reads.Asked,
-  token-reads.Learnt,
-  put-reads.Asked,
-  put-reads.Learnt,
-) (blend-at t) blend.Post blend-Inv-loop blend-μ-loop
+blend-loop-less : (t : ℕ) → blend-lts.Need-loop-less (blend-claims t) (blend-at t) blend.Post blend-Inv-loop blend-μ-loop
 blend-loop-less t c =
     let x = c .before .before .before .before .before .before .before .before .before .before .before .before .before .before .token .ensures .token (λ e. omega arith) in
     let w = read-to (c .before .before .before .before .before .before .before .before .before .chain2 .ensures) (c .before .before .before .before .before .n .given .1) in
     omega (arith, c .before .before .put .ensures .at-is, w .falls, x .falls)
 
-blend-loop-again : (t : ℕ) → blend-lts.Need-loop-again (
-  chain-below t,
-  chain.Post,
-  token-reads.Asked,
-  token-reads.Learnt,
-  put-reads.Asked,
-  put-reads.Learnt,
-) (blend-at t) blend.Post blend-Inv-loop blend-μ-loop
+blend-loop-again : (t : ℕ) → blend-lts.Need-loop-again (blend-claims t) (blend-at t) blend.Post blend-Inv-loop blend-μ-loop
 blend-loop-again t c =
     let x = c .before .before .before .before .before .before .before .before .before .before .before .before .before .before .token .ensures .token (λ e. omega arith) in
     let y = blends-turn x (c .before .before .before .before .before .before .before .before .before .before .before .before .before .if1 .left) (c .before .before .before .before .before .before .before .before .before .before .before .before .if2 .left) in
@@ -284,106 +185,43 @@ chain-Inv-loop s out₀ here₀ out here = Goes more-chains s out₀ here₀ out
 abbrev chain-μ-loop : chain-lts.MeasureT-loop
 chain-μ-loop s out₀ here₀ out here = length s - here .at
 
-chain-returns : (t : ℕ) → chain-lts.Need-returns (
-  item-below t,
-  item.Post,
-  token-reads.Asked,
-  token-reads.Learnt,
-  put-reads.Asked,
-  put-reads.Learnt,
-) (chain-at t) chain.Post chain-Inv-loop chain-μ-loop
+chain-returns : (t : ℕ) → chain-lts.Need-returns (chain-claims t) (chain-at t) chain.Post chain-Inv-loop chain-μ-loop
 chain-returns t c = first-not chain-row (c .before .before .before .before .item .ensures) (c .enum-told .given .1)
 
-chain-loop-holds : (t : ℕ) → chain-lts.Need-loop-holds (
-  item-below t,
-  item.Post,
-  token-reads.Asked,
-  token-reads.Learnt,
-  put-reads.Asked,
-  put-reads.Learnt,
-) (chain-at t) chain.Post chain-Inv-loop chain-μ-loop
+chain-loop-holds : (t : ℕ) → chain-lts.Need-loop-holds (chain-claims t) (chain-at t) chain.Post chain-Inv-loop chain-μ-loop
 chain-loop-holds t c = goes-start _ _ _ _
 
-chain-returns-2 : (t : ℕ) → chain-lts.Need-returns-2 (
-  item-below t,
-  item.Post,
-  token-reads.Asked,
-  token-reads.Learnt,
-  put-reads.Asked,
-  put-reads.Learnt,
-) (chain-at t) chain.Post chain-Inv-loop chain-μ-loop
+chain-returns-2 : (t : ℕ) → chain-lts.Need-returns-2 (chain-claims t) (chain-at t) chain.Post chain-Inv-loop chain-μ-loop
 chain-returns-2 t c = row-done chain-row (c .before .before .before .before .before .before .before .before .item .ensures) (c .before .before .before .before .first .given .1) (c .before .before .loop .inv) (chains-stop _ _ (c .before .token .ensures .kind-is) (below-items _ (c .if1 .taken)))
 
-chain-returns-3 : (t : ℕ) → chain-lts.Need-returns-3 (
-  item-below t,
-  item.Post,
-  token-reads.Asked,
-  token-reads.Learnt,
-  put-reads.Asked,
-  put-reads.Learnt,
-) (chain-at t) chain.Post chain-Inv-loop chain-μ-loop
+chain-returns-3 : (t : ℕ) → chain-lts.Need-returns-3 (chain-claims t) (chain-at t) chain.Post chain-Inv-loop chain-μ-loop
 chain-returns-3 t c = row-done chain-row (c .before .before .before .before .before .before .before .before .before .item .ensures) (c .before .before .before .before .before .first .given .1) (c .before .before .before .loop .inv) (chains-stop _ _ (c .before .before .token .ensures .kind-is) (above-items _ (c .if2 .taken)))
 
-chain-item-requires-2 : (t : ℕ) → chain-lts.Need-item-requires-2 (
-  item-below t,
-  item.Post,
-  token-reads.Asked,
-  token-reads.Learnt,
-  put-reads.Asked,
-  put-reads.Learnt,
-) (chain-at t) chain.Post chain-Inv-loop chain-μ-loop
+chain-item-requires-2 : (t : ℕ) → chain-lts.Need-item-requires-2 (chain-claims t) (chain-at t) chain.Post chain-Inv-loop chain-μ-loop
 chain-item-requires-2 t c κs =
     let x = c .before .before .before .token .ensures .token (λ e. omega arith) in
     let z = read-to (c .before .before .before .before .before .before .before .before .before .before .item .ensures) (c .before .before .before .before .before .before .first .given .1) in
     (omega (arith, x .falls, z .falls, c .before .before .before .before .loop .inv .falls), omega (arith, x .falls, z .falls, z .room, c .before .before .before .before .loop .inv .falls, c .before .before .before .before .loop .inv .room, c .before .before .before .before .loop .inv .same-length, c .before .before .before .before .before .before .before .before .before .before .item .kept .1 .0))
 
-chain-returns-4 : (t : ℕ) → chain-lts.Need-returns-4 (
-  item-below t,
-  item.Post,
-  token-reads.Asked,
-  token-reads.Learnt,
-  put-reads.Asked,
-  put-reads.Learnt,
-) (chain-at t) chain.Post chain-Inv-loop chain-μ-loop
+chain-returns-4 : (t : ℕ) → chain-lts.Need-returns-4 (chain-claims t) (chain-at t) chain.Post chain-Inv-loop chain-μ-loop
 chain-returns-4 t c =
     let x = c .before .before .before .before .before .before .before .before .token .ensures .token (λ e. omega arith) in
     row-not chain-row join (c .before .before .before .before .before .before .before .before .before .before .before .before .before .before .before .item .ensures) (c .before .before .before .before .before .before .before .before .before .before .before .first .given .1) (c .before .before .before .before .before .before .before .before .before .loop .inv) (c .before .before .before .before .item2 .ensures) (c .enum-told2 .given .1) (chains-turn x (c .before .before .before .before .before .before .before .if1 .left) (c .before .before .before .before .before .before .if2 .left)) (omega arith)
 
-chain-put-requires : (t : ℕ) → chain-lts.Need-put-requires (
-  item-below t,
-  item.Post,
-  token-reads.Asked,
-  token-reads.Learnt,
-  put-reads.Asked,
-  put-reads.Learnt,
-) (chain-at t) chain.Post chain-Inv-loop chain-μ-loop
+chain-put-requires : (t : ℕ) → chain-lts.Need-put-requires (chain-claims t) (chain-at t) chain.Post chain-Inv-loop chain-μ-loop
 chain-put-requires t c κs =
     let x = c .before .before .before .before .before .before .before .before .before .before .token .ensures .token (λ e. omega arith) in
     let z = read-to (c .before .before .before .before .before .before .before .before .before .before .before .before .before .before .before .before .before .item .ensures) (c .before .before .before .before .before .before .before .before .before .before .before .before .before .first .given .1) in
     let w = read-to (c .before .before .before .before .before .before .item2 .ensures) (c .before .before .n .given .1) in
     omega (arith, x .falls, z .falls, z .room, w .falls, w .room, c .before .before .before .before .before .before .before .before .before .before .before .loop .inv .falls, c .before .before .before .before .before .before .before .before .before .before .before .loop .inv .room, c .before .before .before .before .before .before .before .before .before .before .before .loop .inv .same-length, c .before .before .before .before .before .before .before .before .before .before .before .before .before .before .before .before .before .item .kept .1 .0, c .before .before .before .before .before .before .item2 .kept .1 .0)
 
-chain-loop-less : (t : ℕ) → chain-lts.Need-loop-less (
-  item-below t,
-  item.Post,
-  token-reads.Asked,
-  token-reads.Learnt,
-  put-reads.Asked,
-  put-reads.Learnt,
-) (chain-at t) chain.Post chain-Inv-loop chain-μ-loop
+chain-loop-less : (t : ℕ) → chain-lts.Need-loop-less (chain-claims t) (chain-at t) chain.Post chain-Inv-loop chain-μ-loop
 chain-loop-less t c =
     let x = c .before .before .before .before .before .before .before .before .before .before .before .before .before .token .ensures .token (λ e. omega arith) in
     let w = read-to (c .before .before .before .before .before .before .before .before .before .item2 .ensures) (c .before .before .before .before .before .n .given .1) in
     omega (arith, c .before .before .put .ensures .at-is, w .falls, x .falls)
 
-chain-loop-again : (t : ℕ) → chain-lts.Need-loop-again (
-  item-below t,
-  item.Post,
-  token-reads.Asked,
-  token-reads.Learnt,
-  put-reads.Asked,
-  put-reads.Learnt,
-) (chain-at t) chain.Post chain-Inv-loop chain-μ-loop
+chain-loop-again : (t : ℕ) → chain-lts.Need-loop-again (chain-claims t) (chain-at t) chain.Post chain-Inv-loop chain-μ-loop
 chain-loop-again t c =
     let x = c .before .before .before .before .before .before .before .before .before .before .before .before .before .token .ensures .token (λ e. omega arith) in
     goes-turn chain-row join (c .before .before .before .before .before .before .before .before .before .before .before .before .before .before .loop .inv) (c .before .before .before .before .before .before .before .before .before .item2 .ensures) (c .before .before .before .before .before .n .given .1) (c .before .before .put .ensures) (chains-turn x (c .before .before .before .before .before .before .before .before .before .before .before .before .if1 .left) (c .before .before .before .before .before .before .before .before .before .before .before .if2 .left)) refl (omega arith) (omega arith) (omega arith) (λ e g. refl) (c .before .before .put .kept .0 ∙ c .before .before .before .before .before .before .before .before .before .item2 .kept .1 .0)
@@ -394,178 +232,70 @@ choice-Inv-loop s out₀ here₀ out here = Goes more-choices s out₀ here₀ o
 abbrev choice-μ-loop : choice-lts.MeasureT-loop
 choice-μ-loop s out₀ here₀ out here = length s - here .at
 
-choice-returns : (t : ℕ) → choice-lts.Need-returns (
-  blend-below t,
-  blend.Post,
-  token-reads.Asked,
-  token-reads.Learnt,
-  put-reads.Asked,
-  put-reads.Learnt,
-) (choice-at t) choice.Post choice-Inv-loop choice-μ-loop
+choice-returns : (t : ℕ) → choice-lts.Need-returns (choice-claims t) (choice-at t) choice.Post choice-Inv-loop choice-μ-loop
 choice-returns t c = first-not choice-row (c .before .before .before .before .blend .ensures) (c .enum-told .given .1)
 
-choice-loop-holds : (t : ℕ) → choice-lts.Need-loop-holds (
-  blend-below t,
-  blend.Post,
-  token-reads.Asked,
-  token-reads.Learnt,
-  put-reads.Asked,
-  put-reads.Learnt,
-) (choice-at t) choice.Post choice-Inv-loop choice-μ-loop
+choice-loop-holds : (t : ℕ) → choice-lts.Need-loop-holds (choice-claims t) (choice-at t) choice.Post choice-Inv-loop choice-μ-loop
 choice-loop-holds t c = goes-start _ _ _ _
 
-choice-returns-2 : (t : ℕ) → choice-lts.Need-returns-2 (
-  blend-below t,
-  blend.Post,
-  token-reads.Asked,
-  token-reads.Learnt,
-  put-reads.Asked,
-  put-reads.Learnt,
-) (choice-at t) choice.Post choice-Inv-loop choice-μ-loop
+choice-returns-2 : (t : ℕ) → choice-lts.Need-returns-2 (choice-claims t) (choice-at t) choice.Post choice-Inv-loop choice-μ-loop
 choice-returns-2 t c = row-done choice-row (c .before .before .before .before .before .before .before .before .blend .ensures) (c .before .before .before .before .first .given .1) (c .before .before .loop .inv) (choices-stop _ _ (c .before .token .ensures .kind-is) (c .if1 .taken))
 
-choice-blend-requires-2 : (t : ℕ) → choice-lts.Need-blend-requires-2 (
-  blend-below t,
-  blend.Post,
-  token-reads.Asked,
-  token-reads.Learnt,
-  put-reads.Asked,
-  put-reads.Learnt,
-) (choice-at t) choice.Post choice-Inv-loop choice-μ-loop
+choice-blend-requires-2 : (t : ℕ) → choice-lts.Need-blend-requires-2 (choice-claims t) (choice-at t) choice.Post choice-Inv-loop choice-μ-loop
 choice-blend-requires-2 t c κs =
     let x = c .before .before .before .token .ensures .token (λ e. omega arith) in
     let z = read-to (c .before .before .before .before .before .before .before .before .before .before .blend .ensures) (c .before .before .before .before .before .before .first .given .1) in
     (omega (arith, x .falls, z .falls, c .before .before .before .before .loop .inv .falls), omega (arith, x .falls, z .falls, z .room, c .before .before .before .before .loop .inv .falls, c .before .before .before .before .loop .inv .room, c .before .before .before .before .loop .inv .same-length, c .before .before .before .before .before .before .before .before .before .before .blend .kept .1 .0))
 
-choice-returns-3 : (t : ℕ) → choice-lts.Need-returns-3 (
-  blend-below t,
-  blend.Post,
-  token-reads.Asked,
-  token-reads.Learnt,
-  put-reads.Asked,
-  put-reads.Learnt,
-) (choice-at t) choice.Post choice-Inv-loop choice-μ-loop
+choice-returns-3 : (t : ℕ) → choice-lts.Need-returns-3 (choice-claims t) (choice-at t) choice.Post choice-Inv-loop choice-μ-loop
 choice-returns-3 t c =
     let x = c .before .before .before .before .before .before .before .before .token .ensures .token (λ e. omega arith) in
     row-not choice-row (pair either) (c .before .before .before .before .before .before .before .before .before .before .before .before .before .before .before .blend .ensures) (c .before .before .before .before .before .before .before .before .before .before .before .first .given .1) (c .before .before .before .before .before .before .before .before .before .loop .inv) (c .before .before .before .before .blend2 .ensures) (c .enum-told2 .given .1) (choices-turn x (c .before .before .before .before .before .before .before .if1 .left)) (omega (arith, at-fewer x))
 
-choice-put-requires : (t : ℕ) → choice-lts.Need-put-requires (
-  blend-below t,
-  blend.Post,
-  token-reads.Asked,
-  token-reads.Learnt,
-  put-reads.Asked,
-  put-reads.Learnt,
-) (choice-at t) choice.Post choice-Inv-loop choice-μ-loop
+choice-put-requires : (t : ℕ) → choice-lts.Need-put-requires (choice-claims t) (choice-at t) choice.Post choice-Inv-loop choice-μ-loop
 choice-put-requires t c κs =
     let x = c .before .before .before .before .before .before .before .before .before .before .token .ensures .token (λ e. omega arith) in
     let z = read-to (c .before .before .before .before .before .before .before .before .before .before .before .before .before .before .before .before .before .blend .ensures) (c .before .before .before .before .before .before .before .before .before .before .before .before .before .first .given .1) in
     let w = read-to (c .before .before .before .before .before .before .blend2 .ensures) (c .before .before .n .given .1) in
     omega (arith, x .falls, z .falls, z .room, w .falls, w .room, c .before .before .before .before .before .before .before .before .before .before .before .loop .inv .falls, c .before .before .before .before .before .before .before .before .before .before .before .loop .inv .room, c .before .before .before .before .before .before .before .before .before .before .before .loop .inv .same-length, c .before .before .before .before .before .before .before .before .before .before .before .before .before .before .before .before .before .blend .kept .1 .0, c .before .before .before .before .before .before .blend2 .kept .1 .0)
 
-choice-loop-less : (t : ℕ) → choice-lts.Need-loop-less (
-  blend-below t,
-  blend.Post,
-  token-reads.Asked,
-  token-reads.Learnt,
-  put-reads.Asked,
-  put-reads.Learnt,
-) (choice-at t) choice.Post choice-Inv-loop choice-μ-loop
+choice-loop-less : (t : ℕ) → choice-lts.Need-loop-less (choice-claims t) (choice-at t) choice.Post choice-Inv-loop choice-μ-loop
 choice-loop-less t c =
     let x = c .before .before .before .before .before .before .before .before .before .before .before .before .before .token .ensures .token (λ e. omega arith) in
     let w = read-to (c .before .before .before .before .before .before .before .before .before .blend2 .ensures) (c .before .before .before .before .before .n .given .1) in
     omega (arith, c .before .before .put .ensures .at-is, w .falls, x .falls)
 
-choice-loop-again : (t : ℕ) → choice-lts.Need-loop-again (
-  blend-below t,
-  blend.Post,
-  token-reads.Asked,
-  token-reads.Learnt,
-  put-reads.Asked,
-  put-reads.Learnt,
-) (choice-at t) choice.Post choice-Inv-loop choice-μ-loop
+choice-loop-again : (t : ℕ) → choice-lts.Need-loop-again (choice-claims t) (choice-at t) choice.Post choice-Inv-loop choice-μ-loop
 choice-loop-again t c =
     let x = c .before .before .before .before .before .before .before .before .before .before .before .before .before .token .ensures .token (λ e. omega arith) in
     goes-turn choice-row (pair either) (c .before .before .before .before .before .before .before .before .before .before .before .before .before .before .loop .inv) (c .before .before .before .before .before .before .before .before .before .blend2 .ensures) (c .before .before .before .before .before .n .given .1) (c .before .before .put .ensures) (choices-turn x (c .before .before .before .before .before .before .before .before .before .before .before .before .if1 .left)) refl (omega (arith, at-fewer x)) (omega (arith, at-fewer x)) (omega (arith, x .falls)) (λ e g. refl) (c .before .before .put .kept .0 ∙ c .before .before .before .before .before .before .before .before .before .blend2 .kept .1 .0)
 
-item-atom-requires : (t : ℕ) → item-lts.Need-atom-requires (
-  nots-reads.Asked,
-  nots-reads.Learnt,
-  atom-below t,
-  atom.Post,
-  suffixed-reads.Asked,
-  suffixed-reads.Learnt,
-  negate-reads.Asked,
-  negate-reads.Learnt,
-) (item-at t) item.Post
+item-atom-requires : (t : ℕ) → item-lts.Need-atom-requires (item-claims t) (item-at t) item.Post
 item-atom-requires t c κs =
     let x = c .before .nots .ensures .passed in
     (omega (arith, x .falls), omega (arith, x .falls))
 
-item-returns : (t : ℕ) → item-lts.Need-returns (
-  nots-reads.Asked,
-  nots-reads.Learnt,
-  atom-below t,
-  atom.Post,
-  suffixed-reads.Asked,
-  suffixed-reads.Learnt,
-  negate-reads.Asked,
-  negate-reads.Learnt,
-) (item-at t) item.Post
+item-returns : (t : ℕ) → item-lts.Need-returns (item-claims t) (item-at t) item.Post
 item-returns t c = item-refused (c .before .before .before .before .before .before .nots .ensures) (c .before .before .before .before .atom .ensures) (c .enum-told .given .1)
 
-item-suffixed-requires : (t : ℕ) → item-lts.Need-suffixed-requires (
-  nots-reads.Asked,
-  nots-reads.Learnt,
-  atom-below t,
-  atom.Post,
-  suffixed-reads.Asked,
-  suffixed-reads.Learnt,
-  negate-reads.Asked,
-  negate-reads.Learnt,
-) (item-at t) item.Post
+item-suffixed-requires : (t : ℕ) → item-lts.Need-suffixed-requires (item-claims t) (item-at t) item.Post
 item-suffixed-requires t c κs =
     let x = c .before .before .before .before .before .before .before .before .nots .ensures .passed in
     let z = read-to (c .before .before .before .before .before .before .atom .ensures) (c .before .before .n .given .1) in
     omega (arith, x .falls, z .falls, z .room, c .before .before .before .before .before .before .atom .kept .1 .0)
 
-item-negate-requires : (t : ℕ) → item-lts.Need-negate-requires (
-  nots-reads.Asked,
-  nots-reads.Learnt,
-  atom-below t,
-  atom.Post,
-  suffixed-reads.Asked,
-  suffixed-reads.Learnt,
-  negate-reads.Asked,
-  negate-reads.Learnt,
-) (item-at t) item.Post
+item-negate-requires : (t : ℕ) → item-lts.Need-negate-requires (item-claims t) (item-at t) item.Post
 item-negate-requires t c κs =
     let x = c .before .before .before .before .before .before .before .before .before .before .before .before .nots .ensures .passed in
     let z = read-to (c .before .before .before .before .before .before .before .before .before .before .atom .ensures) (c .before .before .before .before .before .before .n .given .1) in
     omega (arith, x .falls, z .falls, z .room, c .before .before .before .suffixed .ensures .room, c .before .before .before .suffixed .ensures .falls, c .before .before .before .before .before .before .before .before .before .before .atom .kept .1 .0, c .before .before .before .suffixed .kept .1 .0)
 
-item-returns-2 : (t : ℕ) → item-lts.Need-returns-2 (
-  nots-reads.Asked,
-  nots-reads.Learnt,
-  atom-below t,
-  atom.Post,
-  suffixed-reads.Asked,
-  suffixed-reads.Learnt,
-  negate-reads.Asked,
-  negate-reads.Learnt,
-) (item-at t) item.Post
+item-returns-2 : (t : ℕ) → item-lts.Need-returns-2 (item-claims t) (item-at t) item.Post
 item-returns-2 t c = item-done (c .before .before .before .before .before .before .before .before .before .before .before .before .before .before .before .nots .ensures) (c .before .before .before .before .before .before .before .before .before .before .before .before .before .atom .ensures) (c .before .before .before .before .before .before .before .before .before .n .given .1) (c .before .before .before .before .before .before .suffixed .ensures) (c .before .before .negate .ensures)
 
 pub +atom+blend+chain+choice+item-spec : {M : Type 1} → statement M
 +atom+blend+chain+choice+item-spec =
-    close μ-atom μ-blend μ-chain μ-choice μ-item (λ t. atom-lts.spec (
-      token-reads.Asked,
-      token-reads.Learnt,
-      put-reads.Asked,
-      put-reads.Learnt,
-      choice-below t,
-      choice.Post,
-    )
+    close μ-atom μ-blend μ-chain μ-choice μ-item (λ t. atom-lts.spec (atom-claims t)
     (atom-at t)
     atom.Post
     (λ c κs. search needs)
@@ -584,14 +314,7 @@ pub +atom+blend+chain+choice+item-spec : {M : Type 1} → statement M
     (atom-returns-5 t)
     (λ c. search needs)
     (atom-returns-6 t))
-    (λ t. blend-lts.spec (
-      chain-below t,
-      chain.Post,
-      token-reads.Asked,
-      token-reads.Learnt,
-      put-reads.Asked,
-      put-reads.Learnt,
-    )
+    (λ t. blend-lts.spec (blend-claims t)
     (blend-at t)
     blend.Post
     blend-Inv-loop
@@ -615,14 +338,7 @@ pub +atom+blend+chain+choice+item-spec : {M : Type 1} → statement M
     (blend-put-requires t)
     (blend-loop-less t)
     (blend-loop-again t))
-    (λ t. chain-lts.spec (
-      item-below t,
-      item.Post,
-      token-reads.Asked,
-      token-reads.Learnt,
-      put-reads.Asked,
-      put-reads.Learnt,
-    )
+    (λ t. chain-lts.spec (chain-claims t)
     (chain-at t)
     chain.Post
     chain-Inv-loop
@@ -646,14 +362,7 @@ pub +atom+blend+chain+choice+item-spec : {M : Type 1} → statement M
     (chain-put-requires t)
     (chain-loop-less t)
     (chain-loop-again t))
-    (λ t. choice-lts.spec (
-      blend-below t,
-      blend.Post,
-      token-reads.Asked,
-      token-reads.Learnt,
-      put-reads.Asked,
-      put-reads.Learnt,
-    )
+    (λ t. choice-lts.spec (choice-claims t)
     (choice-at t)
     choice.Post
     choice-Inv-loop
@@ -675,16 +384,7 @@ pub +atom+blend+chain+choice+item-spec : {M : Type 1} → statement M
     (choice-put-requires t)
     (choice-loop-less t)
     (choice-loop-again t))
-    λ t. item-lts.spec (
-      nots-reads.Asked,
-      nots-reads.Learnt,
-      atom-below t,
-      atom.Post,
-      suffixed-reads.Asked,
-      suffixed-reads.Learnt,
-      negate-reads.Asked,
-      negate-reads.Learnt,
-    )
+    λ t. item-lts.spec (item-claims t)
     (item-at t)
     item.Post
     (λ c κs. search needs)
