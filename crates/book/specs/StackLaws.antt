@@ -1,7 +1,7 @@
 -- How many machines the code of a line holds at once. The code of a choice whose brackets nest d deep holds at most 3d + 4 machines, and one more where
 -- a code has a second machine beside its own: `A*` beside A for `A+`, a given one for `?` and `!` (`choice-height`). So a line that passes test 3 holds at most 17 for one choice (`line-held`), and its whole program at most
 -- 19: X and l lie below while r is made (`line-height`).
-use Prim.Native.Nat.{ℕ, zero, suc, _+_, _*_, _-_, _≤_, max}
+use Prim.Native.Nat.{ℕ, suc, _+_, _*_, _-_, _≤_, max}
 use mathlib.Core.Path.{_≡_, refl, ap, sym, _∙_, subst}
 use mathlib.Core.Bool.{Bool, true, false, _&&_, _||_, true≢false, false≢true}
 use mathlib.Core.Logic.{inl, inr}
@@ -11,14 +11,14 @@ use lib.Dec.{eqb, leb, ltb}
 use Rattle.automata.specs.Booleans.{choose}
 use Rattle.automata.specs.Basics.{LtCases, lt-cases, SameCases, same-cases, nat-test}
 use Rattle.automata.specs.Stages.{Pairing, either, both, without}
-use Rattle.language.specs.Restriction.{RuleKind, restricts}
+use Rattle.language.specs.Restriction.{restricts}
 use Rattle.language.specs.Expression.{Expr, star, plus, pair, empty, join, option, complement, letter, name, dot}
 use Rattle.book.specs.Kind.{kindOf, isLetter, isName}
-use Rattle.book.specs.Reader.{Read, got, bad, readChoice}
+use Rattle.book.specs.Reader.{got, readChoice}
 use Rattle.book.specs.Grammar.{Choice, one-blend, or, Blend, one-chain, and, minus, Chain, one-item, follow, Item, negated, followed, Followed, one-atom, by-star, by-plus, by-option, Atom, a-letter, a-name, a-dot, an-at, bracket, reader-sound}
 use Rattle.book.specs.Text.{Line, tooDeep, countOf, lineTest, tokens, Form, define, rule, malformed, formOf}
 use Rattle.book.specs.LineGrammar.{Contexts, none, more, LineForm, definition, ruling, squeezed, define-exact, rule-exact}
-use Rattle.book.specs.Program.{pairCode, postfix, program, contextsProgram, patternProgram, contextProgram, finishProgram}
+use Rattle.book.specs.Program.{pairCode, postfix, program, contextsProgram, patternProgram, contextProgram}
 
 -- ---- definitions
 

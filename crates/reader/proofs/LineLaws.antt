@@ -7,15 +7,15 @@ use Prim.Native.Nat.{ℕ, zero, suc, _+_, _-_, _<_, _≤_}
 use native.Mathlib.Numerals.{add-one}
 use native.Mathlib.Omega.{arith}
 use borrow.Author.Tests.{eq-eqb, ne-eqb, lt-ltb, le-ltb, le-leb, lt-leb}
-use lib.Dec.{eqb, ltb, leb}
-use lib.ListN.{length, take, drop, drop-of-length-le, getD, length-drop}
+use lib.Dec.{eqb, leb}
+use lib.ListN.{length, take, drop, drop-of-length-le, getD}
 use lib.Seq.{drop-cons, take-all}
 use Rattle.automata.specs.Booleans.{choose}
 use Rattle.automata.specs.Basics.{LtCases, lt-cases}
-use Rattle.automata.specs.Format.{Format, narrow}
-use Rattle.book.specs.Kind.{kindOf, isLetter}
-use Rattle.book.specs.Text.{Line, putByte, linesOf, tooDeep, countOf, lineTest, rising, isHead, lettersOf, unless}
-use Rattle.book.specs.Line.{HeadRead, letters, stops, readHead}
+use Rattle.automata.specs.Format.{narrow}
+use Rattle.book.specs.Kind.{kindOf}
+use Rattle.book.specs.Text.{linesOf, tooDeep, countOf, lineTest, rising, isHead, lettersOf}
+use Rattle.book.specs.Line.{letters, stops, readHead}
 use Rattle.reader.specs.Lines.{lineOf, lineAt, Ends}
 
 -- the bytes from i on are the byte at i and those past it

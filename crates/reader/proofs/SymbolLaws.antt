@@ -1,10 +1,9 @@
 -- Laws of membership, of the names' flags, and of the letters and names of a program.
-use mathlib.Core.Path.{_≡_, refl, sym, ap, ap₂, _∙_}
-use mathlib.Core.Bool.{Bool, true, false, cond, _&&_}
+use mathlib.Core.Path.{_≡_, refl, sym, ap, _∙_}
+use mathlib.Core.Bool.{Bool, true, false, _&&_}
 use mathlib.Core.Logic.{inl, inr, _≢_}
-use mathlib.Core.List.{List, [], _∷_, _++_}
-use Prim.Native.Nat.{ℕ, zero, suc, _+_, _-_, _<_, _≤_}
-use native.Mathlib.Numerals.{add-one}
+use mathlib.Core.List.{List, [], _∷_}
+use Prim.Native.Nat.{ℕ, suc, _+_, _-_, _<_, _≤_}
 use native.Mathlib.Omega.{arith}
 use borrow.Author.Tests.{eq-eqb, ne-eqb}
 use lib.Dec.{eqb, ltb, leb}
@@ -13,10 +12,10 @@ use lib.Seq.{getD-set-same, getD-set-other}
 use Rattle.automata.specs.Booleans.{choose, and-left, and-right}
 use Rattle.automata.specs.Basics.{LtCases, lt-cases, SameCases, same-cases, nat-test, find, lt-ltb, ltb-false}
 use Rattle.language.specs.Expression.{member}
-use Rattle.book.specs.Kind.{kindOf, isLetter, isName, signs, signKind}
+use Rattle.book.specs.Kind.{kindOf, isName, signs, signKind}
 use Rattle.reader.specs.declared.names.Names.{Names}
 use Rattle.reader.specs.Names.{Holds, More}
-use Rattle.reader.specs.Known.{symbolKnown, codeKnown, KnowsSymbol, Knows}
+use Rattle.reader.specs.Known.{codeKnown, KnowsSymbol, Knows}
 use Rattle.reader.proofs.LineLaws.{front}
 
 -- ---- membership

@@ -3,3 +3,5 @@ pub mod Lines
 pub mod Head
 pub mod Names
 pub mod Known
+pub mod Forms
+pub mod Answers

@@ -1,9 +1,9 @@
 -- The names that a value of flags stands for.
 use mathlib.Core.Path.{_≡_}
-use mathlib.Core.Bool.{Bool, true, false}
+use mathlib.Core.Bool.{true, false}
 use mathlib.Core.List.{List, _∷_}
 use Prim.Native.Nat.{ℕ, _-_}
-use lib.ListN.{length, getD}
+use lib.ListN.{getD}
 use Rattle.language.specs.Expression.{member}
 use Rattle.book.specs.Kind.{isName}
 use Rattle.reader.specs.declared.names.Names.{Names}

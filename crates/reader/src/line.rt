@@ -1,0 +1,70 @@
+// A later line: 3 to 7 in this order, each a test of the whole line, and the program of its form.
+use crate::ends;
+use crate::forms;
+use crate::forms::Code;
+use crate::names::Names;
+use crate::symbols;
+use crate::tests;
+ghost use Prim.Native.Nat.{_<_, _*_, _+_, _≤_};
+ghost use lib.ListN.{length};
+ghost use Rattle.reader.specs.Forms.{Room};
+ghost use Rattle.reader.specs.Lines.{lineOf};
+ghost use Rattle.reader.specs.Answers.{ReadsLine, ReadsNext};
+
+// What a line says: a name with the length of its program, or a rule with the length of its program, or the number of a refusal.
+pub enum Answer {
+    Define(u8, usize),
+    Rule(usize),
+    Refused(u8),
+}
+
+// The same of a line of a text, with the place where the next line starts.
+pub enum LineAnswer {
+    Define(u8, usize, usize),
+    Rule(usize, usize),
+    Refused(u8),
+}
+
+// The line of these bytes, which has its end or not. A name's own line does not define it.
+pub fn check(line: &[u8], ended: bool, letters: &[u8], names: Names, out: &mut [u8]) -> Answer
+    requires { ⌜ Room (now line) (now out) ⌝ }
+    ensures { λ r. ⌜ ReadsLine (lineOf (now (line .entry)) ended) (now (letters .entry)) names (now (out .exit)) r ⌝ }
+{
+    let n = tests::line_test(line, ended);
+    if n != 0 {
+        return Answer::Refused(n);
+    }
+    match forms::form(line, out) {
+        Code::Define(name, len) => {
+            if !symbols::all_known(&out[0..len], letters, names) {
+                return Answer::Refused(6);
+            }
+            if names.has(name) {
+                return Answer::Refused(7);
+            }
+            Answer::Define(name, len)
+        }
+        Code::Rule(len) => {
+            if !symbols::all_known(&out[0..len], letters, names) {
+                return Answer::Refused(6);
+            }
+            Answer::Rule(len)
+        }
+        Code::Malformed => Answer::Refused(5),
+    }
+}
+
+// The line that starts at `at`.
+pub fn read_line(text: &[u8], at: usize, letters: &[u8], names: Names, out: &mut [u8]) -> LineAnswer
+    requires { ⌜ at < length (now text) ⌝ }
+    requires { ⌜ 2 * length (now text) + 64 ≤ length (now out) ⌝ }
+    ensures { λ r. ⌜ ReadsNext (now (text .entry)) at (now (letters .entry)) names (now (out .exit)) r ⌝ }
+{
+    let end = ends::line_end(text, at);
+    let ended = end < text.len();
+    match check(&text[at..end], ended, letters, names, out) {
+        Answer::Define(name, len) => LineAnswer::Define(name, len, end + 1),
+        Answer::Rule(len) => LineAnswer::Rule(len, end + 1),
+        Answer::Refused(n) => LineAnswer::Refused(n),
+    }
+}
