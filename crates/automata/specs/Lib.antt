@@ -27,3 +27,5 @@ pub mod Format
 pub mod Stage
 pub mod Given
 pub mod Stages
+pub mod Correspondence
+pub mod Members
