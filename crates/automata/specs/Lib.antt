@@ -29,3 +29,4 @@ pub mod Given
 pub mod Stages
 pub mod Correspondence
 pub mod Members
+pub mod Orbit
