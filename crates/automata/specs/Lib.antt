@@ -30,3 +30,4 @@ pub mod Stages
 pub mod Correspondence
 pub mod Members
 pub mod Orbit
+pub mod GivenTables
