@@ -1,0 +1,2 @@
+-- The given machines in slots.
+use mathlib.Core.Path.{_≡_}
