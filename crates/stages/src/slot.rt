@@ -2,38 +2,57 @@
 // stage's own states fit.
 ghost use mathlib.Core.Path.{_≡_};
 ghost use Prim.Native.Nat.{_+_, _*_, _<_, _≤_};
-ghost use lib.ListN.{length, getD};
+ghost use lib.ListN.{length, getD, drop};
 ghost use Rattle.explore.specs.Rows.{numberAt};
-ghost use Rattle.stages.specs.Slot.{Slot, Written, Unpacked};
+ghost use Rattle.stages.specs.Slot.{Slot, Written, UnpackedAt, Loaded};
 
-// The number in two bytes, low byte first.
-pub fn number(s: &[u8]) -> usize
-    requires { ⌜ 2 ≤ length (now s) ⌝ }
-    ensures { λ r. ⌜ r ≡ numberAt (now (s .entry)) 0 ⌝ }
-{
-    s[0] as usize + 256 * (s[1] as usize)
+// The numbers of states of the two operands.
+pub struct Sizes {
+    pub left: usize,
+    pub right: usize,
 }
 
-// The bytes of src from a place on, as the first numbers of dst.
-fn widen(src: &[u8], from: usize, dst: &mut [u16], len: usize)
+// The number in two bytes, low byte first.
+pub fn number(s: &[u8], at: usize) -> usize
+    requires { ⌜ at + 2 ≤ length (now s) ⌝ }
+    ensures { λ r. ⌜ r ≡ numberAt (now (s .entry)) at ⌝ }
+{
+    s[at] as usize + 256 * (s[at + 1] as usize)
+}
+
+// The bytes of src from a place on, as numbers of dst from a place on.
+fn widen(src: &[u8], from: usize, dst: &mut [u16], to: usize, len: usize)
     requires { ⌜ from + len ≤ length (now src) ⌝ }
-    requires { ⌜ len ≤ length (now dst) ⌝ }
-    ensures { λ _. ⌜ Written (now (dst .entry)) (now (dst .exit)) 0 len (λ i. getD (now (src .entry)) (from + i) 0) ⌝ }
+    requires { ⌜ to + len ≤ length (now dst) ⌝ }
+    ensures { λ _. ⌜ Written (now (dst .entry)) (now (dst .exit)) to len (λ i. getD (now (src .entry)) (from + i) 0) ⌝ }
 {
     let mut i = 0;
     while i < len {
-        dst[i] = src[from + i] as u16;
+        dst[to + i] = src[from + i] as u16;
         i += 1;
     }
 }
 
-// The slot's table in a buffer, with the same places; the number of its states.
-pub fn unpack(slot: &[u8], most: usize, k: usize, out: &mut [u16]) -> usize
-    requires { ⌜ Slot most k (now slot) ⌝ }
-    requires { ⌜ most + numberAt (now slot) 0 * k ≤ length (now out) ⌝ }
-    ensures { λ r. ⌜ Unpacked most k (now (slot .entry)) (now (out .exit)) r ⌝ }
+// The table of the slot that begins at a place, in a buffer from a place on; the number of its states.
+pub fn unpack(slots: &[u8], at: usize, most: usize, k: usize, out: &mut [u16], to: usize) -> usize
+    requires { ⌜ Slot most k (drop at (now slots)) ⌝ }
+    requires { ⌜ to + (most + numberAt (drop at (now slots)) 0 * k) ≤ length (now out) ⌝ }
+    ensures { λ r. ⌜ UnpackedAt most k (drop at (now (slots .entry))) (now (out .entry)) (now (out .exit)) to r ⌝ }
 {
-    let n = number(slot);
-    widen(slot, 2, out, most + n * k);
+    let n = number(slots, at);
+    widen(slots, at + 2, out, to, most + n * k);
     n
+}
+
+// The tables of two slots, the second half a buffer behind the first.
+pub fn load(slots: &[u8], left: usize, right: usize, most: usize, k: usize, out: &mut [u16]) -> Sizes
+    requires { ⌜ Slot most k (drop left (now slots)) ⌝ }
+    requires { ⌜ Slot most k (drop right (now slots)) ⌝ }
+    requires { ⌜ (most + most * k) + (most + most * k) ≤ length (now out) ⌝ }
+    ensures { λ r. ⌜ Loaded most k (drop left (now (slots .entry))) (drop right (now (slots .entry))) (now (out .exit)) r ⌝ }
+{
+    let half = most + most * k;
+    let na = unpack(slots, left, most, k, out, 0);
+    let nb = unpack(slots, right, most, k, out, half);
+    Sizes { left: na, right: nb }
 }
