@@ -1,0 +1,76 @@
+-- `number` meets its contract. The loop: i rows are written, and the order is the listing after i turns. Assumes nothing.
+use borrow.Author.Needs.{needs}
+use mathlib.Core.Path.{_≡_, refl, _∙_}
+use Prim.Native.Nat.{_-_}
+use native.Mathlib.Omega.{arith}
+use lib.ListN.{length}
+use Rattle.minimise.proofs.NumberLaws.{Arranged, order-starts, order-rolling, order-full, order-turns, order-markable, order-ends, too-many}
+use Rattle.minimise.proofs.number.number.Statement.{statement}
+use Rattle.minimise.proofs.number.number.Tie as tie
+
+abbrev Inv-loop : tie.InvT-loop
+Inv-loop table base n k most work₀ slot₀ m₀ i₀ work slot m i = Arranged base n k most i m table work slot × (length work ≡ length work₀) × (length slot ≡ length slot₀)
+
+abbrev μ-loop : tie.MeasureT-loop
+μ-loop table base n k most work₀ slot₀ m₀ i₀ work slot m i = most - i
+
+add-put : tie.Need-add-put Inv-loop μ-loop
+add-put c = omega (arith, c .before .before .before .before .pre .fits .order, c .before .before .before .before .pre .fits .some)
+
+put-requires : tie.Need-put-requires Inv-loop μ-loop
+put-requires c κs = (omega (arith, c .before .before .before .before .pre .fits .order, c .before .before .before .before .pre .fits .some), omega arith)
+
+put-requires-2 : tie.Need-put-requires-2 Inv-loop μ-loop
+put-requires-2 c κs = (omega (arith, c .before .before .before .put .kept .0, c .before .before .before .before .before .before .before .before .pre .fits .order, c .before .before .before .before .before .before .before .before .pre .fits .some), omega arith)
+
+loop-holds : tie.Need-loop-holds Inv-loop μ-loop
+loop-holds c = (order-starts (c .before .before .before .before .before .before .before .before .before .before .before .pre) _ _ (c .before .before .before .before .before .before .put .ensures) (c .before .before .put2 .ensures), refl, refl)
+
+row-requires : tie.Need-row-requires Inv-loop μ-loop
+row-requires c κs = order-rolling (c .before .before .before .before .before .before .before .before .before .before .before .before .before .before .before .pre) _ _ _ _ (c .before .before .before .loop .inv .0) (c .before .before .before .loop .inv .2) (c .before .before .loop-test .taken)
+
+returns : tie.Need-returns Inv-loop μ-loop
+returns c = too-many _ _ _ _ (order-full (c .before .before .before .before .before .before .before .before .before .before .before .before .before .before .before .before .before .before .before .before .before .before .pre) _ _ _ _ (c .before .before .before .before .before .before .before .before .before .before .loop .inv .0) (c .before .before .before .before .before .before .before .before .before .before .loop .inv .2) _ _ _ (c .before .before .before .before .before .before .before .before .before .loop-test .taken) (c .before .before .before .before .before .before .row .ensures) (c .enum-told .given .1))
+
+add-i : tie.Need-add-i Inv-loop μ-loop
+add-i c = omega (arith, c .before .before .before .before .before .before .before .before .before .before .before .loop .inv .0 .roll .within, c .before .before .before .before .before .before .before .before .before .before .before .before .before .before .before .before .before .before .before .before .before .before .before .pre .fits .bytes)
+
+loop-less : tie.Need-loop-less Inv-loop μ-loop
+loop-less c = omega (arith, c .before .before .before .before .before .before .before .before .before .before .before .loop .inv .0 .roll .within)
+
+loop-again : tie.Need-loop-again Inv-loop μ-loop
+loop-again c = (
+  order-turns (c .before .before .before .before .before .before .before .before .before .before .before .before .before .before .before .before .before .before .before .before .before .before .before .pre) _ _ _ _ (c .before .before .before .before .before .before .before .before .before .before .before .loop .inv .0) (c .before .before .before .before .before .before .before .before .before .before .before .loop .inv .2) _ _ _ _ (c .before .before .before .before .before .before .before .before .before .before .loop-test .taken) (c .before .before .before .before .before .before .before .row .ensures) (c .before .x .given .1),
+  c .before .before .before .before .before .before .before .row .kept .1 .1 .1 .1 .1 .1 .1 .0 ∙ c .before .before .before .before .before .before .before .before .before .before .before .loop .inv .1,
+  c .before .before .before .before .before .before .before .row .kept .1 .1 .1 .1 .1 .1 .1 .1 .0 ∙ c .before .before .before .before .before .before .before .before .before .before .before .loop .inv .2,
+)
+
+mark-requires : tie.Need-mark-requires Inv-loop μ-loop
+mark-requires c κs = order-markable (c .before .before .before .before .before .before .before .before .before .before .before .before .before .before .before .pre) _ _ _ _ (c .before .before .before .loop .inv .0) (c .before .before .before .loop .inv .2)
+
+returns-2 : tie.Need-returns-2 Inv-loop μ-loop
+returns-2 c = order-ends (c .before .before .before .before .before .before .before .before .before .before .before .before .before .before .before .before .before .before .pre) _ _ _ _ (c .before .before .before .before .before .before .loop .inv .0) (c .before .before .before .before .before .before .loop .inv .2) _ (omega (arith, c .before .before .before .before .before .before .loop .inv .0 .turns)) (c .before .before .mark .ensures) (c .before .before .mark .kept .1 .1 .1 .1 .0)
+
+pub number-spec : {M : Type 1} → statement M
+number-spec =
+    tie.close
+    (tie.spec
+    Inv-loop
+    μ-loop
+    add-put
+    put-requires
+    put-requires-2
+    loop-holds
+    row-requires
+    (λ c. search needs)
+    (λ c. search needs)
+    (λ c. search needs)
+    (λ c. search needs)
+    returns
+    add-i
+    loop-less
+    loop-again
+    mark-requires
+    (λ c. search needs)
+    (λ c. search needs)
+    returns-2)

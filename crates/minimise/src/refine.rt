@@ -1,0 +1,134 @@
+// Partition refinement over a table (Moore's algorithm): each state's class, rounds that part the classes, until a round parts none. A class goes by its first
+// state, its leader. In a round a state is compared only with the leaders that its old class has so far, which are linked. The work list holds three arrays of
+// n entries: the classes, the classes after the round, the links.
+use crate::entries::at;
+use crate::entries::flag;
+use crate::entries::put;
+use crate::entries::target;
+ghost use mathlib.Core.Path.{_≡_};
+ghost use Prim.Native.Nat.{ℕ, _+_, _≤_, _<_};
+ghost use lib.ListN.{length, getD, take};
+ghost use Rattle.automata.specs.Refinement.{SameSignature};
+ghost use Rattle.automata.specs.Partition.{classes};
+ghost use Rattle.automata.specs.Table.{tableMachine, ClosedTable};
+ghost use Rattle.minimise.specs.Refine.{Says, classOf, next, Sized, Begun, Under, Leads, Placing, Rounded};
+
+// Whether a round sees the same of states p and q: both accept or neither, and each column leads to one class.
+fn alike(table: &[u16], base: usize, n: usize, k: usize, work: &[u16], p: usize, q: usize) -> bool
+    requires { ⌜ ClosedTable base n k (now table) ⌝ }
+    requires { ⌜ n ≤ length (now work) ⌝ }
+    requires { ⌜ p < n ⌝ }
+    requires { ⌜ q < n ⌝ }
+    ensures { λ r. ⌜ Says r (SameSignature k (tableMachine base n k (now (table .entry))) (classOf (take n (now (work .entry)))) p q) ⌝ }
+{
+    if flag(table, p) != flag(table, q) {
+        return false;
+    }
+    let mut c = 0;
+    while c < k {
+        let s = target(table, base, n, k, p, c);
+        let t = target(table, base, n, k, q, c);
+        if at(work, s) != at(work, t) {
+            return false;
+        }
+        c += 1;
+    }
+    true
+}
+
+// The leader that p goes with, of those that its class has so far: the latest of them first. It is p where there is none.
+fn leader(table: &[u16], base: usize, n: usize, k: usize, work: &[u16], p: usize) -> usize
+    requires { ⌜ Under base n k p (now table) (now work) ⌝ }
+    requires { ⌜ (getD (now work) p 0 ≡ p → ⊥) ⌝ }
+    ensures { λ r. ⌜ Leads k (tableMachine base n k (now (table .entry))) (classOf (take n (now (work .entry)))) (next n (now (work .entry))) p r ⌝ }
+{
+    let c = at(work, p);
+    let mut r = at(work, n + (n + c));
+    loop {
+        if alike(table, base, n, k, work, r, p) {
+            return r;
+        }
+        if r == c {
+            return p;
+        }
+        r = at(work, n + (n + r));
+    }
+}
+
+// State p is placed; 1 where it leads a class of its own.
+fn place(table: &[u16], base: usize, n: usize, k: usize, work: &mut [u16], p: usize) -> usize
+    requires { ⌜ Under base n k p (now table) (now work) ⌝ }
+    ensures { λ r. ⌜ Placing base n k p (now (table .entry)) (now (work .entry)) (now (work .exit)) r ⌝ }
+{
+    let c = at(&work[..], p);
+    if c == p {
+        put(work, n + p, p);
+        put(work, n + (n + p), p);
+        return 1;
+    }
+    let r = leader(table, base, n, k, &work[..], p);
+    put(work, n + p, r);
+    if r < p {
+        return 0;
+    }
+    let s = at(&work[..], n + (n + c));
+    put(work, n + (n + p), s);
+    put(work, n + (n + c), p);
+    1
+}
+
+// One round: each state is placed. How many classes there are then.
+fn round(table: &[u16], base: usize, n: usize, k: usize, work: &mut [u16]) -> usize
+    requires { ⌜ Begun base n k (now table) (now work) ⌝ }
+    ensures { λ r. ⌜ Rounded base n k (now (table .entry)) (now (work .entry)) (now (work .exit)) r ⌝ }
+{
+    let mut count = 0;
+    let mut p = 0;
+    while p < n {
+        count += place(table, base, n, k, work, p);
+        p += 1;
+    }
+    count
+}
+
+// The classes after the round become the classes.
+fn adopt(n: usize, work: &mut [u16])
+    requires { ⌜ n + n ≤ length (now work) ⌝ }
+    ensures { λ _. ⌜ ((p : ℕ) → p < n → getD (now (work .exit)) p 0 ≡ next n (now (work .entry)) p) ⌝ }
+{
+    let mut i = 0;
+    while i < n {
+        let x = work[n + i];
+        work[i] = x;
+        i += 1;
+    }
+}
+
+// All states in one class.
+fn unite(n: usize, work: &mut [u16])
+    requires { ⌜ n ≤ length (now work) ⌝ }
+    ensures { λ _. ⌜ ((p : ℕ) → p < n → getD (now (work .exit)) p 0 ≡ 0) ⌝ }
+{
+    let mut i = 0;
+    while i < n {
+        work[i] = 0;
+        i += 1;
+    }
+}
+
+// The classes of equivalent states, each by its first state: rounds from one class of all states on, until a round parts none.
+pub fn refine(table: &[u16], base: usize, n: usize, k: usize, work: &mut [u16])
+    requires { ⌜ Sized base n k (now table) (now work) ⌝ }
+    ensures { λ _. ⌜ take n (now (work .exit)) ≡ classes k (tableMachine base n k (now (table .entry))) ⌝ }
+{
+    unite(n, work);
+    let mut count = 0;
+    loop {
+        let parts = round(table, base, n, k, work);
+        if parts == count {
+            return;
+        }
+        adopt(n, work);
+        count = parts;
+    }
+}
