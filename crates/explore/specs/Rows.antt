@@ -33,7 +33,7 @@ flagRow f n = tab (λ t. bit (f t)) n
 
 -- a state's number in two bytes, low byte first
 abbrev pub numberAt : List ℕ → ℕ → ℕ
-numberAt r i = getD r i 0 + 256 * getD r (suc i) 0
+numberAt r i = getD r i 0 + 256 * getD r (i + 1) 0
 
 abbrev pub numberBytes : ℕ → List ℕ → List ℕ
 numberBytes p r = p % 256 ∷ p / 256 ∷ r

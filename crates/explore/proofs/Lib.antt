@@ -1,0 +1,9 @@
+-- What the proofs of several functions use.
+pub mod RowLaws
+pub mod FlagLaws
+pub mod TableLaws
+pub mod PairLaws
+pub mod ConcatLaws
+pub mod StarLaws
+pub mod ClosureLaws
+pub mod EraseLaws
