@@ -1,3 +1,4 @@
 pub mod Refine
 pub mod Number
 pub mod Minimised
+pub mod MinimisedLaws
