@@ -45,7 +45,14 @@ pub fn unpack(slots: &[u8], at: usize, most: usize, k: usize, out: &mut [u16], t
 }
 
 // The tables of two slots, the second half a buffer behind the first.
-pub fn load(slots: &[u8], left: usize, right: usize, most: usize, k: usize, out: &mut [u16]) -> Sizes
+pub fn load(
+    slots: &[u8],
+    left: usize,
+    right: usize,
+    most: usize,
+    k: usize,
+    out: &mut [u16],
+) -> Sizes
     requires { ⌜ Slot most k (drop left (now slots)) ⌝ }
     requires { ⌜ Slot most k (drop right (now slots)) ⌝ }
     requires { ⌜ (most + most * k) + (most + most * k) ≤ length (now out) ⌝ }
@@ -54,5 +61,8 @@ pub fn load(slots: &[u8], left: usize, right: usize, most: usize, k: usize, out:
     let half = most + most * k;
     let na = unpack(slots, left, most, k, out, 0);
     let nb = unpack(slots, right, most, k, out, half);
-    Sizes { left: na, right: nb }
+    Sizes {
+        left: na,
+        right: nb,
+    }
 }
