@@ -3,3 +3,4 @@ pub mod RowSets
 pub mod Slot
 pub mod GivenSlots
 pub mod Operate
+pub mod Keep
