@@ -7,3 +7,7 @@ pub mod ConcatLaws
 pub mod StarLaws
 pub mod ClosureLaws
 pub mod EraseLaws
+pub mod FitLaws
+pub mod LoopLaws
+pub mod TurnLaws
+pub mod ExploreLaws

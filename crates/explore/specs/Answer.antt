@@ -46,6 +46,11 @@ pub record Room (s : Shape) (rows row table : List ℕ) : Type 0 where
   pub rowLong : length row ≡ s .w
   pub tableLong : s .limit + s .limit * s .k ≤ length table
 
+-- all that the exploring asks
+pub record Explores (s : Shape) (a b rows row table : List ℕ) : Type 0 where
+  pub fits : Fits s a b
+  pub room : Room s rows row table
+
 -- The states that a row names by number are states.
 abbrev pub RowFits : Operation → ℕ → ℕ → List ℕ → Type 0
 RowFits (pairing o) na nb r = (numberAt r 0 < na) × (numberAt r 2 < nb)
@@ -121,6 +126,21 @@ pub record Place (k count p c q : ℕ) : Type 0 where
 abbrev pub Turned : Automaton (List ℕ) → ℕ → ℕ → ℕ → ℕ → ℕ → ℕ → List ℕ → List ℕ → Explored → Type 0
 Turned R k w limit count state column rows table (Sets n) = (count ≤ n) × Partial R k w limit n state (column + 1) rows table
 Turned R k w limit count state column rows table TooMany = MoreThan k R limit
+
+-- all that one turn asks
+pub record Turning (s : Shape) (a b rows row table : List ℕ) (count p c q : ℕ) : Type 0 where
+  pub fits : Fits s a b
+  pub room : Room s rows row table
+  pub place : Place (s .k) count p c q
+  pub partial : Partial (rowsFor s a b) (s .k) (s .w) (s .limit) count p c rows table
+
+-- all that the flags ask: rows that are there, and a place for each flag before the limit
+pub record Flagging (s : Shape) (a b : List ℕ) (count : ℕ) (rows table : List ℕ) : Type 0 where
+  pub fits : Fits s a b
+  pub within : count ≤ s .limit
+  pub rowsLong : count * s .w ≤ length rows
+  pub tableLong : count ≤ length table
+  pub sources : (p : ℕ) → p < count → RowFits (operationOf (s .op)) (s .na) (s .nb) (rowAt (s .w) p rows)
 
 -- The flags of the rows are set, and nothing from the limit on is changed.
 pub record Flagged (R : Automaton (List ℕ)) (w limit n : ℕ) (rows table table′ : List ℕ) : Type 0 where

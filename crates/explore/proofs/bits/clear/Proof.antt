@@ -9,8 +9,6 @@ use mathlib.Core.Path.{_≡_, _∙_}
 use native.Mathlib.Omega.{arith}
 use Rattle.explore.proofs.bits.clear.Statement.{statement}
 use Rattle.explore.proofs.bits.clear.Tie as tie
-use Rattle.explore.proofs.bits.clear.Reads as reads
-use Rattle.explore.proofs.bits.clear.Lts as lts
 
 abbrev Inv-loop : tie.InvT-loop
 Inv-loop row₀ i₀ row i = (i ≤ length row₀) × (row ≡ replicate i 0 ++ drop i row₀) × (length row ≡ length row₀)
@@ -20,14 +18,16 @@ abbrev μ-loop : tie.MeasureT-loop
 
 loop-again : tie.Need-loop-again Inv-loop μ-loop
 loop-again c =
-    let h = c .before .loop .inv in
-    let l : c .before .loop .i < length (c .before .before .args .row .now) = omega arith in
+    let loop = c .before .loop in
+    let h = loop .inv in
+    let l : loop .i < length (c .before .before .args .row .now) = omega arith in
     (omega arith, rw (h .1) (fill-more _ _ _ l), simp length-set (h .2))
 
 returns : tie.Need-returns Inv-loop μ-loop
 returns c =
-    let h = c .before .loop .inv in
-    let e : c .before .loop .i ≡ length (c .before .before .args .row .now) = omega arith in
+    let loop = c .before .loop in
+    let h = loop .inv in
+    let e : loop .i ≡ length (c .before .before .args .row .now) = omega arith in
     h .1 ∙ rw (e, drop-length, append-nil)
 
 pub clear-spec : {M : Type 1} → statement M

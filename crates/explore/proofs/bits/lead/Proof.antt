@@ -3,10 +3,6 @@ use borrow.Author.Needs.{needs}
 use mathlib.Core.Path.{_∙_}
 use Rattle.explore.proofs.bits.lead.Statement.{statement}
 use Rattle.explore.proofs.bits.lead.Tie as tie
-use Rattle.explore.proofs.bits.lead.Reads as reads
-use Rattle.explore.proofs.bits.lead.Lts as lts
-use Rattle.explore.proofs.bits.clear.Reads as clear-reads
-use Rattle.explore.proofs.bits.pour.Reads as pour-reads
 
 pour-requires : tie.Need-pour-requires
 pour-requires c κs = (rw (c .before .before .before .clear .kept .0) (c .before .before .before .before .before .before .before .before .pre), rw (c .before .before .before .clear .kept .0) (c .before .before .before .clear .ensures))

@@ -7,8 +7,6 @@ use mathlib.Core.Logic.{⊎-elim}
 use native.Mathlib.Omega.{arith}
 use Rattle.explore.proofs.bits.some_accepting.Statement.{statement}
 use Rattle.explore.proofs.bits.some_accepting.Tie as tie
-use Rattle.explore.proofs.bits.some_accepting.Reads as reads
-use Rattle.explore.proofs.bits.some_accepting.Lts as lts
 
 abbrev Inv-loop : tie.InvT-loop
 Inv-loop t row n q₀ q = (q ≤ n) × NoneYet row t q
@@ -20,20 +18,26 @@ loop-holds : tie.Need-loop-holds Inv-loop μ-loop
 loop-holds c = (omega arith, below-none _)
 
 returns : tie.Need-returns Inv-loop μ-loop
-returns c = accepting-here (c .before .before .before .before .before .before .args .row .now) (c .before .before .before .before .before .before .args .t .now) (c .before .before .before .before .before .before .args .n) (c .before .before .before .before .before .loop .q) (c .before .before .before .before .loop-test .taken) (c .before .before .if1 .taken) (c .if2 .taken)
+returns c =
+    let args = c .before .before .before .before .before .before .args in
+    accepting-here (args .row .now) (args .t .now) (args .n) (c .before .before .before .before .before .loop .q) (c .before .before .before .before .loop-test .taken) (c .before .before .if1 .taken) (c .if2 .taken)
 
 loop-again : tie.Need-loop-again Inv-loop μ-loop
 loop-again c =
+    let loop = c .before .before .before .loop in
     let a = c .before .before .before .before .args in
-    let q = c .before .before .before .loop .q in
-    let v = c .before .before .before .loop .inv in
+    let q = loop .q in
+    let v = loop .inv in
     ⊎-elim
     (λ w. (omega arith, below-more _ _ (v .1) (none-no (a .row .now) (a .t .now) q (w .2 .left))))
     (λ w. (omega arith, below-more _ _ (v .1) (none-out (a .row .now) (a .t .now) q (w .left))))
     (c .if1 .came)
 
 returns-2 : tie.Need-returns-2 Inv-loop μ-loop
-returns-2 c = accepting-none (c .before .before .args .row .now) (c .before .before .args .t .now) (c .before .before .args .n) (c .before .loop .q) (omega arith) (c .before .loop .inv .1)
+returns-2 c =
+    let args = c .before .before .args in
+    let loop = c .before .loop in
+    accepting-none (args .row .now) (args .t .now) (args .n) (loop .q) (omega arith) (loop .inv .1)
 
 pub some-accepting-spec : {M : Type 1} → statement M
 some-accepting-spec =

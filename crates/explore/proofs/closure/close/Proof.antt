@@ -9,9 +9,6 @@ use mathlib.Core.Path.{sym, _∙_}
 use native.Mathlib.Omega.{arith}
 use Rattle.explore.proofs.closure.close.Statement.{statement}
 use Rattle.explore.proofs.closure.close.Tie as tie
-use Rattle.explore.proofs.closure.close.Reads as reads
-use Rattle.explore.proofs.closure.close.Lts as lts
-use Rattle.explore.proofs.closure.chase.Reads as chase-reads
 
 abbrev Inv-loop : tie.InvT-loop
 Inv-loop t base k n row₀ p₀ row p = (p ≤ n) × Closing (cell base k (k - 1) t) n row₀ row p
@@ -20,20 +17,25 @@ abbrev μ-loop : tie.MeasureT-loop
 μ-loop t base k n row₀ p₀ row p = n - p
 
 loop-holds : tie.Need-loop-holds Inv-loop μ-loop
-loop-holds c = (omega arith, close-start (cell (c .before .before .args .base) (c .before .before .args .k) (c .before .before .args .k - 1) (c .before .before .args .t .now)) (c .before .before .args .n) (c .before .before .args .row .now) (c .before .before .pre .long))
+loop-holds c =
+    let args = c .before .before .args in
+    (omega arith, close-start (cell (args .base) (args .k) (args .k - 1) (args .t .now)) (args .n) (args .row .now) (c .before .before .pre .long))
 
 slice-read-if1 : tie.Need-slice-read-if1 Inv-loop μ-loop
 slice-read-if1 c = omega (arith, c .before .before .loop .inv .1 .long, c .before .loop-test .taken)
 
 chase-requires : tie.Need-chase-requires Inv-loop μ-loop
-chase-requires c κs = (record { table = c .before .before .before .before .before .before .before .pre .table; columns = c .before .before .before .before .before .before .before .pre .columns; long = c .before .before .before .before .loop .inv .1 .long }, c .before .before .before .loop-test .taken)
+chase-requires c κs =
+    let pre = c .before .before .before .before .before .before .before .pre in
+    (record { table = pre .table; columns = pre .columns; long = c .before .before .before .before .loop .inv .1 .long }, c .before .before .before .loop-test .taken)
 
 loop-again : tie.Need-loop-again Inv-loop μ-loop
 loop-again c =
-    let v = c .before .before .before .loop .inv in
+    let loop = c .before .before .before .loop in
+    let v = loop .inv in
     ⊎-elim
-    (λ w. (omega arith, rw (w .5) (close-in (v .1) (flag-set (c .before .before .before .loop .row) (c .before .before .before .loop .p) (w .0 .taken)) (w .2 .ensures))))
-    (λ w. (omega arith, rw (w .1) (close-out (v .1) (flag-clear (c .before .before .before .loop .row) (c .before .before .before .loop .p) (w .0 .left)))))
+    (λ w. (omega arith, rw (w .5) (close-in (v .1) (flag-set (loop .row) (loop .p) (w .0 .taken)) (w .2 .ensures))))
+    (λ w. (omega arith, rw (w .1) (close-out (v .1) (flag-clear (loop .row) (loop .p) (w .0 .left)))))
     (c .if1 .came)
 
 same-length : tie.Need-same-length Inv-loop μ-loop

@@ -3,16 +3,16 @@ use Rattle.explore.proofs.ConcatLaws.{gain-yes, gain-no}
 use borrow.Author.Needs.{needs}
 use Rattle.explore.proofs.concatenation.gain.Statement.{statement}
 use Rattle.explore.proofs.concatenation.gain.Tie as tie
-use Rattle.explore.proofs.concatenation.gain.Reads as reads
-use Rattle.explore.proofs.concatenation.gain.Lts as lts
-use Rattle.explore.proofs.number.write.Reads as write-reads
-use Rattle.explore.proofs.table.accepting.Reads as accepting-reads
 
 returns : tie.Need-returns
-returns c = gain-yes (c .before .before .before .before .before .before .before .before .args .a .now) (c .before .before .before .before .before .before .before .before .args .p) (c .before .before .before .before .before .before .before .before .args .row .now) _ _ (c .before .before .before .before .before .before .before .before .pre .1 .1) (c .before .before .before .before .write .ensures) (c .before .accepting .ensures) (c .if1 .taken)
+returns c =
+    let args = c .before .before .before .before .before .before .before .before .args in
+    gain-yes (args .a .now) (args .p) (args .row .now) _ _ (c .before .before .before .before .before .before .before .before .pre .1 .1) (c .before .before .before .before .write .ensures) (c .before .accepting .ensures) (c .if1 .taken)
 
 returns-2 : tie.Need-returns-2
-returns-2 c = gain-no (c .before .before .before .before .before .before .before .before .args .a .now) (c .before .before .before .before .before .before .before .before .args .p) (c .before .before .before .before .before .before .before .before .args .row .now) _ _ (c .before .before .before .before .before .before .before .before .pre .1 .1) (c .before .before .before .before .write .ensures) (c .before .accepting .ensures) (c .if1 .left)
+returns-2 c =
+    let args = c .before .before .before .before .before .before .before .before .args in
+    gain-no (args .a .now) (args .p) (args .row .now) _ _ (c .before .before .before .before .before .before .before .before .pre .1 .1) (c .before .before .before .before .write .ensures) (c .before .accepting .ensures) (c .if1 .left)
 
 pub gain-spec : {M : Type 1} → statement M
 gain-spec =

@@ -4,8 +4,6 @@ use borrow.Author.Needs.{needs}
 use native.Mathlib.Omega.{arith}
 use Rattle.explore.proofs.number.read.Statement.{statement}
 use Rattle.explore.proofs.number.read.Tie as tie
-use Rattle.explore.proofs.number.read.Reads as reads
-use Rattle.explore.proofs.number.read.Lts as lts
 
 cast-low : tie.Need-cast-low
 cast-low c = omega (arith, c .shared-slice-known .given (c .before .args .i))
@@ -17,7 +15,9 @@ mul-result : tie.Need-mul-result
 mul-result c = omega (arith, c .shared-slice-known2 .given (c .before .before .args .i + 1))
 
 add-result : tie.Need-add-result
-add-result c = omega (arith, c .before .shared-slice-known .given (c .before .before .args .i), c .shared-slice-known2 .given (c .before .before .args .i + 1))
+add-result c =
+    let args = c .before .before .args in
+    omega (arith, c .before .shared-slice-known .given (args .i), c .shared-slice-known2 .given (args .i + 1))
 
 pub read-spec : {M : Type 1} → statement M
 read-spec =

@@ -4,27 +4,36 @@ use borrow.Author.Needs.{needs}
 use native.Mathlib.Omega.{arith}
 use Rattle.explore.proofs.pairs.accepts.Statement.{statement}
 use Rattle.explore.proofs.pairs.accepts.Tie as tie
-use Rattle.explore.proofs.pairs.accepts.Reads as reads
-use Rattle.explore.proofs.pairs.accepts.Lts as lts
-use Rattle.explore.proofs.number.read.Reads as read-reads
-use Rattle.explore.proofs.pairs.combine.Reads as combine-reads
-use Rattle.explore.proofs.table.accepting.Reads as accepting-reads
 
 read-requires : tie.Need-read-requires
-read-requires c κs = omega (arith, pair-long (c .before .before .before .args .s) (c .before .before .before .args .a .now) (c .before .before .before .args .b .now) (c .before .before .before .args .from .now) (c .before .before .before .pre .0) (c .before .before .before .pre .1 .0) (c .before .before .before .pre .1 .1))
+read-requires c κs =
+    let args = c .before .before .before .args in
+    let pre = c .before .before .before .pre in
+    omega (arith, pair-long (args .s) (args .a .now) (args .b .now) (args .from .now) (pre .0) (pre .1 .0) (pre .1 .1))
 
 read-requires-2 : tie.Need-read-requires-2
-read-requires-2 c κs = omega (arith, pair-long (c .before .before .before .before .args .s) (c .before .before .before .before .args .a .now) (c .before .before .before .before .args .b .now) (c .before .before .before .before .args .from .now) (c .before .before .before .before .pre .0) (c .before .before .before .before .pre .1 .0) (c .before .before .before .before .pre .1 .1))
+read-requires-2 c κs =
+    let args = c .before .before .before .before .args in
+    let pre = c .before .before .before .before .pre in
+    omega (arith, pair-long (args .s) (args .a .now) (args .b .now) (args .from .now) (pre .0) (pre .1 .0) (pre .1 .1))
 
 accepting-requires : tie.Need-accepting-requires
-accepting-requires c κs = rw (c .before .read .ensures) (left-flag (c .before .before .before .before .before .args .s) (c .before .before .before .before .before .args .a .now) (c .before .before .before .before .before .args .b .now) (c .before .before .before .before .before .args .from .now) (c .before .before .before .before .before .pre .0) (c .before .before .before .before .before .pre .1 .0) (c .before .before .before .before .before .pre .1 .1))
+accepting-requires c κs =
+    let args = c .before .before .before .before .before .args in
+    let pre = c .before .before .before .before .before .pre in
+    rw (c .before .read .ensures) (left-flag (args .s) (args .a .now) (args .b .now) (args .from .now) (pre .0) (pre .1 .0) (pre .1 .1))
 
 accepting-requires-2 : tie.Need-accepting-requires-2
-accepting-requires-2 c κs = rw (c .before .read2 .ensures) (right-flag (c .before .before .before .before .before .before .args .s) (c .before .before .before .before .before .before .args .a .now) (c .before .before .before .before .before .before .args .b .now) (c .before .before .before .before .before .before .args .from .now) (c .before .before .before .before .before .before .pre .0) (c .before .before .before .before .before .before .pre .1 .0) (c .before .before .before .before .before .before .pre .1 .1))
+accepting-requires-2 c κs =
+    let args = c .before .before .before .before .before .before .args in
+    let pre = c .before .before .before .before .before .before .pre in
+    rw (c .before .read2 .ensures) (right-flag (args .s) (args .a .now) (args .b .now) (args .from .now) (pre .0) (pre .1 .0) (pre .1 .1))
 
 returns : tie.Need-returns
 returns c =
-    pair-accepts (c .before .before .before .before .before .before .before .before .args .s) (c .before .before .before .before .before .before .before .before .args .a .now) (c .before .before .before .before .before .before .before .before .args .b .now) (c .before .before .before .before .before .before .before .before .args .from .now) (c .before .before .before .before .before .before .before .before .pre .0) (c .before .before .before .before .before .before .before .before .pre .1 .0) (c .before .before .before .before .before .before .before .before .pre .1 .1) _ _ _
+    let args = c .before .before .before .before .before .before .before .before .args in
+    let pre = c .before .before .before .before .before .before .before .before .pre in
+    pair-accepts (args .s) (args .a .now) (args .b .now) (args .from .now) (pre .0) (pre .1 .0) (pre .1 .1) _ _ _
     (rw (c .before .before .before .before .read .ensures) at (c .before .before .accepting .ensures)) (rw (c .before .before .before .read2 .ensures) at (c .before .accepting2 .ensures)) (c .combine .ensures)
 
 pub accepts-spec : {M : Type 1} → statement M

@@ -3,12 +3,11 @@ use Rattle.explore.proofs.RowLaws.{appended}
 use borrow.Author.Needs.{needs}
 use Rattle.explore.proofs.rows.append.Statement.{statement}
 use Rattle.explore.proofs.rows.append.Tie as tie
-use Rattle.explore.proofs.rows.append.Reads as reads
-use Rattle.explore.proofs.rows.append.Lts as lts
-use Rattle.bytes.proofs.copy.Reads as copy-reads
 
 returns : tie.Need-returns
-returns c = appended _ _ _ _ _ (c .before .before .before .before .before .before .pre .0) (c .before .before .before .before .before .before .pre .1) (c .before .before .copy .ensures .1)
+returns c =
+    let pre = c .before .before .before .before .before .before .pre in
+    appended _ _ _ _ _ (pre .0) (pre .1) (c .before .before .copy .ensures .1)
 
 pub append-spec : {M : Type 1} → statement M
 append-spec =

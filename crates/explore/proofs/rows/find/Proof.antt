@@ -9,9 +9,6 @@ use mathlib.Core.Path.{_≡_, sym, _∙_}
 use native.Mathlib.Omega.{arith}
 use Rattle.explore.proofs.rows.find.Statement.{statement}
 use Rattle.explore.proofs.rows.find.Tie as tie
-use Rattle.explore.proofs.rows.find.Reads as reads
-use Rattle.explore.proofs.rows.find.Lts as lts
-use Rattle.check.proofs.same.Reads as same-reads
 
 abbrev Inv-loop : tie.InvT-loop
 Inv-loop rows w count row j₀ j = (j ≤ count) × ((i : ℕ) → i < j → rowAt w i rows ≡ row → ⊥)
@@ -20,19 +17,30 @@ abbrev μ-loop : tie.MeasureT-loop
 μ-loop rows w count row j₀ j = count - j
 
 mul-at : tie.Need-mul-at Inv-loop μ-loop
-mul-at c = omega (arith, row-within (c .before .loop .j) (c .before .before .before .before .args .count) (c .before .before .before .before .args .w) (c .loop-test .taken))
+mul-at c =
+    let args = c .before .before .before .before .args in
+    omega (arith, row-within (c .before .loop .j) (args .count) (args .w) (c .loop-test .taken))
 
 add-same : tie.Need-add-same Inv-loop μ-loop
-add-same c = omega (arith, row-within (c .before .loop .j) (c .before .before .before .before .args .count) (c .before .before .before .before .args .w) (c .loop-test .taken))
+add-same c =
+    let args = c .before .before .before .before .args in
+    omega (arith, row-within (c .before .loop .j) (args .count) (args .w) (c .loop-test .taken))
 
 part-same-end : tie.Need-part-same-end Inv-loop μ-loop
-part-same-end c = omega (arith, row-within (c .before .loop .j) (c .before .before .before .before .args .count) (c .before .before .before .before .args .w) (c .loop-test .taken))
+part-same-end c =
+    let args = c .before .before .before .before .args in
+    omega (arith, row-within (c .before .loop .j) (args .count) (args .w) (c .loop-test .taken))
 
 returns : tie.Need-returns Inv-loop μ-loop
-returns c = (c .before .before .before .loop-test .taken, sym (row-part (c .before .before .before .before .before .before .before .args .w) (c .before .before .before .before .loop .j) (c .before .before .before .before .before .before .before .args .rows .now)) ∙ c .before .same .ensures .0 (c .if1 .taken))
+returns c =
+    let args = c .before .before .before .before .before .before .before .args in
+    (c .before .before .before .loop-test .taken, sym (row-part (args .w) (c .before .before .before .before .loop .j) (args .rows .now)) ∙ c .before .same .ensures .0 (c .if1 .taken))
 
 loop-again : tie.Need-loop-again Inv-loop μ-loop
-loop-again c = (omega arith, below-more _ _ (c .before .before .before .before .loop .inv .1) (λ e. false≢true (sym (c .if1 .left) ∙ c .before .same .ensures .1 (row-part (c .before .before .before .before .before .before .before .args .w) (c .before .before .before .before .loop .j) (c .before .before .before .before .before .before .before .args .rows .now) ∙ e))))
+loop-again c =
+    let args = c .before .before .before .before .before .before .before .args in
+    let loop = c .before .before .before .before .loop in
+    (omega arith, below-more _ _ (loop .inv .1) (λ e. false≢true (sym (c .if1 .left) ∙ c .before .same .ensures .1 (row-part (args .w) (loop .j) (args .rows .now) ∙ e))))
 
 returns-2 : tie.Need-returns-2 Inv-loop μ-loop
 returns-2 c = λ i h. c .before .loop .inv .1 i (omega arith)

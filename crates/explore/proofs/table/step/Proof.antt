@@ -4,11 +4,11 @@ use borrow.Author.Needs.{needs}
 use native.Mathlib.Omega.{arith}
 use Rattle.explore.proofs.table.step.Statement.{statement}
 use Rattle.explore.proofs.table.step.Tie as tie
-use Rattle.explore.proofs.table.step.Reads as reads
-use Rattle.explore.proofs.table.step.Lts as lts
 
 cast-result : tie.Need-cast-result
-cast-result c = omega (arith, c .shared-slice-known .given (c .before .args .base + (c .before .args .p * c .before .args .k + c .before .args .c)))
+cast-result c =
+    let args = c .before .args in
+    omega (arith, c .shared-slice-known .given (args .base + (args .p * args .k + args .c)))
 
 pub step-spec : {M : Type 1} → statement M
 step-spec =
