@@ -1,0 +1,3 @@
+-- Definitions that the board's contracts cite.
+pub mod Holds
+pub mod Rows

@@ -1,0 +1,2 @@
+// The board: it knows a card's layout and nothing else, and is lent no work buffer.
+mod numbering;
