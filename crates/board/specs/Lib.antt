@@ -1,3 +1,4 @@
 -- Definitions that the board's contracts cite.
 pub mod Holds
 pub mod Rows
+pub mod LiveRounds

@@ -1,2 +1,3 @@
 // The board: it knows a card's layout and nothing else, and is lent no work buffer.
+mod live;
 mod numbering;
