@@ -1,3 +1,5 @@
 -- Laws that the proofs of several functions cite.
 pub mod RowLaws
 pub mod LiveLaws
+pub mod ClassLaws
+pub mod SplitLaws

@@ -2,3 +2,4 @@
 pub mod Holds
 pub mod Rows
 pub mod LiveRounds
+pub mod Classes
