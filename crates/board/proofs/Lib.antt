@@ -3,3 +3,5 @@ pub mod RowLaws
 pub mod LiveLaws
 pub mod ClassLaws
 pub mod SplitLaws
+pub mod KeyLaws
+pub mod ReducedLaws

@@ -220,17 +220,21 @@ live-next most m ms bs fs gs j r u o = record {
 
 -- As many rounds as there are states,
 pub live-full : (most m : ℕ) (ms bs : List ℕ) (fs : List Bool) (j : ℕ) → LiveUpto most m ms bs fs j → length ms ≤ j → LiveExactly m ms bs fs
-live-full most m ms bs fs j u l = record { exact = λ M h p b. bool-iff (getD fs p false) (getD (live m M) p false) (u .sound M h p b) λ e.
-    let (w, o, n, f) = live-within m M (h .formed) p (low m ms bs M h p b) e in
-    u .whole M h p b (w, o, omega (arith, n, h .states), f) }
+live-full most m ms bs fs j u l = record {
+  exact = λ M h p b. bool-iff (getD fs p false) (getD (live m M) p false) (u .sound M h p b) λ e.
+      let (w, o, n, f) = live-within m M (h .formed) p (low m ms bs M h p b) e in
+      u .whole M h p b (w, o, omega (arith, n, h .states), f);
+}
 
 -- or a round that changes nothing, find all.
 pub live-still : (most m : ℕ) (ms bs : List ℕ) (fs gs : List Bool) (j : ℕ) (r : Bool) → LiveUpto most m ms bs fs j → Round m ms bs fs gs r → not r ≡ true → LiveExactly m ms bs gs
-live-still most m ms bs fs gs j r u o e₀ = record { exact = λ M h p b. same p b ∙ live-only m M (h .formed) (λ p. getD fs p false)
-    (λ p b. u .sound M h p (rw (h .states) at b))
-    (λ p b e. u .whole M h p (rw (h .states) at b) ([], tt, zero-le, e))
-    (λ p c b v e. let b′ : p < length ms = rw (h .states) at b in sym (same p b′) ∙ o .leads p c b′ v (rw (h .step p c b′ v) at e))
-    p (low m ms bs M h p b) }
+live-still most m ms bs fs gs j r u o e₀ = record {
+  exact = λ M h p b. same p b ∙ live-only m M (h .formed) (λ p. getD fs p false)
+      (λ p b. u .sound M h p (rw (h .states) at b))
+      (λ p b e. u .whole M h p (rw (h .states) at b) ([], tt, zero-le, e))
+      (λ p c b v e. let b′ : p < length ms = rw (h .states) at b in sym (same p b′) ∙ o .leads p c b′ v (rw (h .step p c b′ v) at e))
+      p (low m ms bs M h p b);
+}
   where
     same : (p : ℕ) → p < length ms → getD gs p false ≡ getD fs p false
     same = o .still (unset r e₀)

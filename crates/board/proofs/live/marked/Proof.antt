@@ -30,12 +30,14 @@ returns-3 : tie.Need-returns-3 Inv-loop μ-loop
 returns-3 c = no-mark _ _ _ _ (c .before .before .before .before .live .ensures) _ (c .before .before .loop-test .taken) (c .match .rest .0 .0 .1) (c .match .rest .0 .1) (c .match .rest .1)
 
 loop-again : tie.Need-loop-again Inv-loop μ-loop
-loop-again c =
-    (omega arith, ⊎-elim
-    (λ w. marks-live _ _ _ _ (c .before .before .before .before .live .ensures) _ (c .before .before .loop-test .taken) (c .before .before .before .loop .inv .1) (w .0 .keys1) (w .1 .left))
-    (λ v. ⊎-elim
-    (λ w. marks-accepting _ _ _ _ (c .before .before .before .before .live .ensures) _ (c .before .before .loop-test .taken) (c .before .before .before .loop .inv .1) (w .keys2))
-    (λ w. marks-dead _ _ _ _ (c .before .before .before .before .live .ensures) _ (c .before .before .loop-test .taken) (c .before .before .before .loop .inv .1) (w .0 .keys3) (w .1 .left)) v) (c .match .came))
+loop-again c = (
+  omega arith,
+  ⊎-elim
+      (λ w. marks-live _ _ _ _ (c .before .before .before .before .live .ensures) _ (c .before .before .loop-test .taken) (c .before .before .before .loop .inv .1) (w .0 .keys1) (w .1 .left))
+      (λ v. ⊎-elim
+      (λ w. marks-accepting _ _ _ _ (c .before .before .before .before .live .ensures) _ (c .before .before .loop-test .taken) (c .before .before .before .loop .inv .1) (w .keys2))
+      (λ w. marks-dead _ _ _ _ (c .before .before .before .before .live .ensures) _ (c .before .before .loop-test .taken) (c .before .before .before .loop .inv .1) (w .0 .keys3) (w .1 .left)) v) (c .match .came),
+)
 
 returns-4 : tie.Need-returns-4 Inv-loop μ-loop
 returns-4 c = marks-done _ _ _ _ (c .loop-test .left) (c .before .loop .inv .1)

@@ -27,9 +27,10 @@ element-copy-out-if1 : tie.Need-element-copy-out-if1 Inv-loop μ-loop
 element-copy-out-if1 c = omega (arith, c .before .before .before .before .pre .0 .states-most)
 
 leads-requires : tie.Need-leads-requires Inv-loop μ-loop
-leads-requires c κs =
-    (round-room _ _ _ _ (c .before .before .before .before .before .before .before .args .flags .now) (c .before .before .before .before .before .before .before .pre .0) _ _ (c .before .before .before .loop-test .taken) (c .before .before .before .before .loop .inv .0) (c .before .before .before .before .loop .inv .1 .place),
-    λ q h. omega (arith, c .before .before .before .before .before .before .before .pre .0 .inside q h, c .before .before .before .before .before .before .before .pre .0 .states-most))
+leads-requires c κs = (
+  round-room _ _ _ _ (c .before .before .before .before .before .before .before .args .flags .now) (c .before .before .before .before .before .before .before .pre .0) _ _ (c .before .before .before .loop-test .taken) (c .before .before .before .before .loop .inv .0) (c .before .before .before .before .loop .inv .1 .place),
+  λ q h. omega (arith, c .before .before .before .before .before .before .before .pre .0 .inside q h, c .before .before .before .before .before .before .before .pre .0 .states-most),
+)
 
 element-write-flags : tie.Need-element-write-flags Inv-loop μ-loop
 element-write-flags c = omega (arith, c .before .before .before .before .before .before .before .before .before .pre .0 .states-most)

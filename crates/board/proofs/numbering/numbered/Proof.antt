@@ -30,9 +30,13 @@ add-at : tie.Need-add-at Inv-loop μ-loop
 add-at c = omega (arith, rows-room _ (c .before .before .before .before .before .before .before .args .marks .now) _ _ _ _ (c .before .before .before .before .loop .inv .4) (omega arith) (c .before .before .before .before .before .before .before .pre .long))
 
 loop-again : tie.Need-loop-again Inv-loop μ-loop
-loop-again c =
-    (omega arith, omega arith, omega arith, c .before .row .ensures .small,
-    rows-next _ _ _ _ _ _ (c .before .before .before .before .loop .inv .4) (c .before .before .if1 .left) (c .before .row .ensures) (omega arith))
+loop-again c = (
+  omega arith,
+  omega arith,
+  omega arith,
+  c .before .row .ensures .small,
+  rows-next _ _ _ _ _ _ (c .before .before .before .before .loop .inv .4) (c .before .before .if1 .left) (c .before .row .ensures) (omega arith),
+)
 
 returns-3 : tie.Need-returns-3 Inv-loop μ-loop
 returns-3 c = numbered-yes _ _ _ _ _ _ (c .before .before .loop .inv .4) (omega arith) (omega arith)
