@@ -25,5 +25,6 @@ pub mod Rows
 pub mod Table
 pub mod Format
 pub mod Stage
+pub mod Exactly
 pub mod Given
 pub mod Stages

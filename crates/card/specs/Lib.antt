@@ -1,4 +1,5 @@
 -- A card's bytes, loading, one step, judging; and what each answer means.
+pub mod Number
 pub mod Mark
 pub mod Layout
 pub mod LayoutLaws
@@ -11,7 +12,10 @@ pub mod Allowed
 pub mod Judge
 pub mod JudgeLaws
 pub mod Step
+pub mod Run
+pub mod RunLaws
+pub mod Answer
 pub mod Same
 pub mod Write
-pub mod Words
 pub mod Demand
+pub mod Examples

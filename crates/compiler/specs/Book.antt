@@ -1,9 +1,8 @@
--- A book, compiled: the kept machine with its peak, or the first refusal with its line. "1 and 2 come first; then line by line 3 to 9, stages in their
--- order, 8 before 9 in one stage; then 10, 11." (2 and 11 are of the buffers lent, and stand with the card.)
+-- A book, compiled: the kept machine with the counts of its stages, or the first refusal with its line. "1 and 2 come first; then line by line 3 to 9, stages in their
+-- order, 8 before 9 in one stage; then 10, 11." (1, 2 and 11 stand in Outcome.)
 use Prim.Native.Nat.{ℕ, suc}
-use mathlib.Core.Bool.{Bool, true, false, _&&_}
+use mathlib.Core.Bool.{Bool, true, false}
 use mathlib.Core.List.{List, [], _∷_, _++_}
-use lib.Dec.{eqb, ltb}
 use lib.ListN.{length}
 use Rattle.automata.specs.Format.{Format}
 use Rattle.automata.specs.Booleans.{choose}
@@ -11,10 +10,11 @@ use Rattle.automata.specs.Machine.{Machine}
 use Rattle.automata.specs.Stage.{Made, made, refused, thenMade}
 use Rattle.automata.specs.Given.{allMachine}
 use Rattle.automata.specs.Stages.{both, pairStage}
-use Rattle.language.specs.Expression.{member}
-use Rattle.language.specs.Environment.{namesOf, known, allKnown}
+use Rattle.language.specs.Restriction.{restricts}
+use Rattle.language.specs.Environment.{namesOf}
 use Rattle.language.specs.Evaluate.{evaluate, evaluateRule}
-use Rattle.book.specs.Text.{Line, linesOf, lineTest, isHead, lettersOf, Form, define, rule, malformed, formOf, unless}
+use Rattle.book.specs.Line.{HeadRead, letters, readHead, LineRead, reads, stops, readLine}
+use Rattle.book.specs.Text.{Line, linesOf, Form, define, rule, malformed}
 
 -- A book in the making: the machines of its names, the counts of its stages so far, whether there was a rule, and the machine that is kept.
 pub record Draft : Type 0 where
@@ -31,23 +31,23 @@ abbrev pub onMade : Made → (List ℕ → Machine → LineResult) → LineResul
 onMade (made counts M) f = f counts M
 onMade (refused r) f = off r
 
--- 5, 6, 7, 8, 9. "The book starts as `.*` and is met by `&` with each rule in turn."
+-- 8, 9 of the line's stages. "The book starts as `.*` and is met by `&` with each rule in turn."
 unfoldable pub compileForm : Format → List ℕ → Draft → Form → LineResult
 compileForm fmt ls d malformed = off 5
 compileForm fmt ls d (define x e) =
-    unless (known ls (namesOf (d .env)) e) (λ _. off 6) λ _.
-    choose (member x (namesOf (d .env))) (λ _. off 7) λ _.
     onMade (evaluate fmt ls (d .env) e) λ counts M.
     on (record { env = (x, M) ∷ d .env; counts = d .counts ++ counts; ruled = d .ruled; kept = d .kept })
-compileForm fmt ls d (rule p cs) =
-    unless (known ls (namesOf (d .env)) p && allKnown ls (namesOf (d .env)) cs) (λ _. off 6) λ _.
+compileForm fmt ls d (rule restricts p cs) =
     onMade (thenMade (evaluateRule fmt ls (d .env) p cs) λ R. pairStage fmt (suc (length ls)) both (d .kept) R) λ counts M.
     on (record { env = d .env; counts = d .counts ++ counts; ruled = true; kept = M })
 
+abbrev pub afterRead : LineRead → (Form → LineResult) → LineResult
+afterRead (reads F) f = f F
+afterRead (stops r) f = off r
+
+-- "line by line 3 to 9": a line is read whole before its stages are made
 unfoldable pub compileLine : Format → List ℕ → Draft → Line → LineResult
-compileLine fmt ls d l =
-    unless (eqb (lineTest l) 0) (λ _. off (lineTest l)) λ _.
-    compileForm fmt ls d (formOf (l .bytes))
+compileLine fmt ls d l = afterRead (readLine ls (namesOf (d .env)) l) (compileForm fmt ls d)
 
 -- The letters with the finished draft, or a refusal with its line.
 pub data BookResult : Type 0 where
@@ -66,17 +66,18 @@ compileLines fmt ls (l ∷ rest) at d = afterLine (compileLine fmt ls d l) (λ d
 abbrev pub startDraft : ℕ → Draft
 startDraft m = record { env = []; counts = []; ruled = false; kept = allMachine m }
 
+abbrev pub afterHead : HeadRead → (List ℕ → BookResult) → BookResult
+afterHead (letters ls) f = f ls
+afterHead (Rattle.book.specs.Line.HeadRead.stops r) f = stopped r 1
+
 unfoldable pub compileHead : Format → Line → List Line → BookResult
-compileHead fmt l rest =
-    unless (eqb (lineTest l) 0) (λ _. stopped (lineTest l) 1) λ _.
-    unless (isHead (l .bytes)) (λ _. stopped 5 1) λ _.
-    compileLines fmt (lettersOf l) rest 2 (startDraft (length (lettersOf l)))
+compileHead fmt l rest = afterHead (readHead fmt l) (λ ls. compileLines fmt ls rest 2 (startDraft (length ls)))
 
 -- 5: "or the text has no bytes (then line 1)"
 unfoldable pub compileText : Format → List Line → BookResult
 compileText fmt [] = stopped 5 1
 compileText fmt (l ∷ rest) = compileHead fmt l rest
 
--- 1: "text over 16,384 bytes"
+-- A text of any length (1 is tested before, by `outcome`).
 unfoldable pub compileBook : Format → List ℕ → BookResult
-compileBook fmt text = choose (ltb 16384 (length text)) (λ _. stopped 1 0) (λ _. compileText fmt (linesOf text))
+compileBook fmt text = compileText fmt (linesOf text)

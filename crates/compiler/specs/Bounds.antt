@@ -1,25 +1,26 @@
 -- Bounds of an accepted book: its kept machine has no more states than the limit, and no stage of it made more sets than the limit.
 use mathlib.Core.Path.{_≡_, subst}
-use mathlib.Core.Bool.{Bool, true, false, _&&_}
+use mathlib.Core.Bool.{Bool, true, false}
 use mathlib.Core.List.{List, [], _∷_, _++_}
 use Prim.Native.Nat.{ℕ, suc, _≤_}
 use native.Mathlib.Omega.{arith}
 use lib.ListN.{length}
-use lib.Dec.{eqb, ltb}
 use Rattle.automata.specs.Format.{Format}
 use Rattle.automata.specs.Booleans.{choose}
 use Rattle.automata.specs.Basics.{Test}
 use Rattle.automata.specs.Automaton.{Automaton}
 use Rattle.automata.specs.Machine.{Machine, size}
 use Rattle.automata.specs.Stage.{Made, made, refused, after, thenMade, stage, StageResult, kept-one, too-many-sets, too-many-states, stage-result}
-use Rattle.automata.specs.Given.{allMachine, markMachine}
-use Rattle.automata.specs.Stages.{Pairing, both, without, pairStage, concatStage, starStage, eraseStage}
+use Rattle.automata.specs.Given.{emptyMachine, allMachine, markMachine}
+use Rattle.automata.specs.Stages.{Pairing, either, both, without, pairStage, concatStage, starStage, eraseStage}
+use Rattle.language.specs.Restriction.{restricts}
 use Rattle.language.specs.GivenLaws.{all-size}
-use Rattle.language.specs.Expression.{Expr, letter, name, dot, empty, every, pair, join, star, plus, member}
-use Rattle.language.specs.Environment.{namesOf, known, allKnown}
+use Rattle.language.specs.Expression.{Expr, letter, name, dot, empty, pair, join, star, plus, option, complement}
+use Rattle.language.specs.Environment.{namesOf}
 use Rattle.language.specs.Evaluate.{evaluate, markedStages, minusContexts, eraseAndExclude, evaluateRule}
-use Rattle.book.specs.Text.{Line, linesOf, lineTest, isHead, lettersOf, Form, define, rule, malformed, formOf}
-use Rattle.compiler.specs.Book.{Draft, LineResult, on, off, onMade, compileForm, compileLine, BookResult, done, stopped, afterLine, compileLines, startDraft, compileHead, compileText, compileBook}
+use Rattle.book.specs.Line.{LineRead, reads, stops, readLine, HeadRead, letters, readHead}
+use Rattle.book.specs.Text.{Line, linesOf, Form, define, rule, malformed}
+use Rattle.compiler.specs.Book.{Draft, LineResult, on, off, onMade, compileForm, afterRead, compileLine, BookResult, done, stopped, afterLine, compileLines, startDraft, afterHead, compileHead, compileText, compileBook}
 use Rattle.compiler.specs.BookLaws.{Accepts}
 
 -- each number of the list is at most n
@@ -99,7 +100,6 @@ module _ (fmt : Format) where
     evaluate-within (name b) = tt
     evaluate-within dot = tt
     evaluate-within empty = tt
-    evaluate-within every = tt
     evaluate-within (pair o e f) =
         then-within (evaluate fmt ls xs e) _ (evaluate-within e) λ A.
         then-within (evaluate fmt ls xs f) _ (evaluate-within f) λ B.
@@ -113,6 +113,8 @@ module _ (fmt : Format) where
         then-within (evaluate fmt ls xs e) _ (evaluate-within e) λ A.
         then-within (starStage fmt k A) _ (star-within k A) λ B.
         concat-within k A B
+    evaluate-within (option e) = then-within (evaluate fmt ls xs e) _ (evaluate-within e) λ A. pair-within k either (emptyMachine (length ls)) A
+    evaluate-within (complement e) = then-within (evaluate fmt ls xs e) _ (evaluate-within e) λ A. pair-within k without (allMachine (length ls)) A
 
     marked-within : (A P B : Machine) → Within (markedStages fmt (length ls) A P B)
     unfolding markedStages
@@ -151,24 +153,17 @@ module _ (fmt : Format) where
   LineWithin (on d) = DraftWithin d
   LineWithin (off r) = Unit {0}
 
-  choose-line : (b : Bool) (f g : Unit {0} → LineResult) → LineWithin (f tt) → LineWithin (g tt) → LineWithin (choose b f g)
-  choose-line true f g h k = h
-  choose-line false f g h k = k
-
   form-within : (ls : List ℕ) (d : Draft) → DraftWithin d → (F : Form) → LineWithin (compileForm fmt ls d F)
   unfolding compileForm
   form-within ls d h malformed = tt
-  form-within ls d h (define x e) =
-      choose-line (known ls (namesOf (d .env)) e) _ _ (choose-line (member x (namesOf (d .env))) _ _ tt (go (evaluate fmt ls (d .env) e) (evaluate-within ls (d .env) e))) tt
+  form-within ls d h (define x e) = go (evaluate fmt ls (d .env) e) (evaluate-within ls (d .env) e)
     where
       go : (r : Made) → Within r → LineWithin (onMade r λ counts M. on (record { env = (x, M) ∷ d .env; counts = d .counts ++ counts; ruled = d .ruled; kept = d .kept }))
       go (made counts M) w = record { counts = each-append (fmt .mostSets) (d .counts) counts (h .counts) w; states = h .states }
       go (refused r) w = tt
-  form-within ls d h (rule p cs) =
-      choose-line (known ls (namesOf (d .env)) p && allKnown ls (namesOf (d .env)) cs) _ _
-      (go (thenMade (evaluateRule fmt ls (d .env) p cs) (λ R. pairStage fmt (suc (length ls)) both (d .kept) R))
-      (then-small (evaluateRule fmt ls (d .env) p cs) _ (rule-within ls (d .env) p cs) (λ R. pair-small (suc (length ls)) both (d .kept) R)))
-      tt
+  form-within ls d h (rule restricts p cs) =
+      go (thenMade (evaluateRule fmt ls (d .env) p cs) (λ R. pairStage fmt (suc (length ls)) both (d .kept) R))
+      (then-small (evaluateRule fmt ls (d .env) p cs) _ (rule-within ls (d .env) p cs) (λ R. pair-small (suc (length ls)) both (d .kept) R))
     where
       go : (r : Made) → Small r → LineWithin (onMade r λ counts M. on (record { env = d .env; counts = d .counts ++ counts; ruled = true; kept = M }))
       go (made counts M) w = record { counts = each-append (fmt .mostSets) (d .counts) counts (h .counts) (w .0); states = w .1 }
@@ -181,27 +176,30 @@ module _ (fmt : Format) where
   lines-within : (ls : List ℕ) (lines : List Line) (at : ℕ) (d : Draft) → DraftWithin d → Accepts (λ ls d. DraftWithin d) (compileLines fmt ls lines at d)
   unfolding compileLines compileLine
   lines-within ls [] at d h = choose-book (d .ruled) _ _ h tt
-  lines-within ls (l ∷ rest) at d h =
-      go (choose (eqb (lineTest l) 0) (λ _. compileForm fmt ls d (formOf (l .bytes))) (λ _. off (lineTest l)))
-      (choose-line (eqb (lineTest l) 0) _ _ (form-within ls d h (formOf (l .bytes))) tt) (lines-within ls rest (suc at))
+  lines-within ls (l ∷ rest) at d h = go (readLine ls (namesOf (d .env)) l) (lines-within ls rest (suc at))
     where
-      go : (r : LineResult) → LineWithin r → ((d₁ : Draft) → DraftWithin d₁ → Accepts (λ ls d. DraftWithin d) (compileLines fmt ls rest (suc at) d₁))
+      after-line : (r : LineResult) → LineWithin r → ((d₁ : Draft) → DraftWithin d₁ → Accepts (λ ls d. DraftWithin d) (compileLines fmt ls rest (suc at) d₁))
           → Accepts (λ ls d. DraftWithin d) (afterLine r (λ d₁. compileLines fmt ls rest (suc at) d₁) (λ r. stopped r at))
-      go (on d₁) w f = f d₁ w
-      go (off r) w f = tt
+      after-line (on d₁) w f = f d₁ w
+      after-line (off r) w f = tt
 
-  -- An accepted book keeps to the fmtits, where these let `.*` be kept.
+      go : (r : LineRead) → ((d₁ : Draft) → DraftWithin d₁ → Accepts (λ ls d. DraftWithin d) (compileLines fmt ls rest (suc at) d₁))
+          → Accepts (λ ls d. DraftWithin d) (afterLine (afterRead r (compileForm fmt ls d)) (λ d₁. compileLines fmt ls rest (suc at) d₁) (λ r. stopped r at))
+      go (reads F) f = after-line (compileForm fmt ls d F) (form-within ls d h F) f
+      go (stops r) f = tt
+
+  -- An accepted book keeps to the limits, where these let `.*` be kept.
   pub book-within : 2 ≤ fmt .mostStates → (text : List ℕ) → Accepts (λ ls d. DraftWithin d) (compileBook fmt text)
   unfolding compileBook compileText compileHead
-  book-within two text = choose-book (ltb 16384 (length text)) _ _ tt (lines (linesOf text))
+  book-within two text = lines (linesOf text)
     where
+      head : (r : HeadRead) (rest : List Line) → Accepts (λ ls d. DraftWithin d) (afterHead r (λ ls. compileLines fmt ls rest 2 (startDraft (length ls))))
+      head (letters ls) rest = lines-within ls rest 2 (startDraft (length ls)) (record { counts = tt; states = omega (arith, all-size (length ls)) })
+      head (Rattle.book.specs.Line.HeadRead.stops r) rest = tt
+
       lines : (ts : List Line) → Accepts (λ ls d. DraftWithin d) (compileText fmt ts)
       lines [] = tt
-      lines (l ∷ rest) =
-          choose-book (eqb (lineTest l) 0) _ _
-          (choose-book (isHead (l .bytes)) _ _
-          (lines-within (lettersOf l) rest 2 (startDraft (length (lettersOf l))) (record { counts = tt; states = omega (arith, all-size (length (lettersOf l))) })) tt)
-          tt
+      lines (l ∷ rest) = head (readHead fmt l) rest
 
   pub accepted-within : 2 ≤ fmt .mostStates → (text ls : List ℕ) (d : Draft) → compileBook fmt text ≡ done ls d → DraftWithin d
   accepted-within two text ls d e = subst (Accepts (λ ls d. DraftWithin d)) e (book-within two text)

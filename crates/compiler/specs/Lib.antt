@@ -4,3 +4,6 @@ pub mod Book
 pub mod BookLaws
 pub mod Bounds
 pub mod Consequences
+pub mod Outcome
+pub mod Table
+pub mod Peak

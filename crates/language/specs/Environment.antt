@@ -4,7 +4,7 @@ use mathlib.Core.Bool.{Bool, true, _&&_}
 use mathlib.Core.List.{List, [], _∷_, map}
 use lib.Dec.{eqb}
 use Rattle.automata.specs.Booleans.{choose}
-use Rattle.language.specs.Expression.{Expr, letter, name, dot, empty, every, pair, join, star, plus, member}
+use Rattle.language.specs.Expression.{Expr, letter, name, dot, empty, pair, join, star, plus, option, complement, member}
 
 module _ {A : Type 0} where
   -- what x stands for, and d where it stands for nothing
@@ -21,11 +21,12 @@ known letters names (letter b) = member b letters
 known letters names (name b) = member b names
 known letters names dot = true
 known letters names empty = true
-known letters names every = true
 known letters names (pair o e f) = known letters names e && known letters names f
 known letters names (join e f) = known letters names e && known letters names f
 known letters names (star e) = known letters names e
 known letters names (plus e) = known letters names e
+known letters names (option e) = known letters names e
+known letters names (complement e) = known letters names e
 
 abbrev pub allKnown : List ℕ → List ℕ → List (Expr × Expr) → Bool
 allKnown letters names [] = true

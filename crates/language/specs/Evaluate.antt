@@ -7,8 +7,8 @@ use Rattle.automata.specs.Basics.{nat-test, find}
 use Rattle.automata.specs.Machine.{Machine}
 use Rattle.automata.specs.Stage.{Made, present, thenMade}
 use Rattle.automata.specs.Given.{letterMachine, dotMachine, emptyMachine, allMachine, markMachine}
-use Rattle.automata.specs.Stages.{without, pairStage, concatStage, starStage, eraseStage}
-use Rattle.language.specs.Expression.{Expr, letter, name, dot, empty, every, pair, join, star, plus}
+use Rattle.automata.specs.Stages.{either, without, pairStage, concatStage, starStage, eraseStage}
+use Rattle.language.specs.Expression.{Expr, letter, name, dot, empty, pair, join, star, plus, option, complement}
 use Rattle.language.specs.Environment.{lookup}
 
 -- the column of a letter: its place in line 1
@@ -21,7 +21,6 @@ evaluate fmt ls env (letter b) = present (letterMachine (length ls) (column ls b
 evaluate fmt ls env (name b) = present (lookup b (emptyMachine (length ls)) env)
 evaluate fmt ls env dot = present (dotMachine (length ls))
 evaluate fmt ls env empty = present (emptyMachine (length ls))
-evaluate fmt ls env every = present (allMachine (length ls))
 evaluate fmt ls env (pair o e f) =
     thenMade (evaluate fmt ls env e) λ A.
     thenMade (evaluate fmt ls env f) λ B.
@@ -37,6 +36,12 @@ evaluate fmt ls env (plus e) =  -- "`A+` is A then `A*`"
     thenMade (evaluate fmt ls env e) λ A.
     thenMade (starStage fmt (suc (length ls)) A) λ B.
     concatStage fmt (suc (length ls)) A B
+evaluate fmt ls env (option e) =  -- "`A?` is `@|A`"
+    thenMade (evaluate fmt ls env e) λ A.
+    pairStage fmt (suc (length ls)) either (emptyMachine (length ls)) A
+evaluate fmt ls env (complement e) =  -- "`!A` is `.*-A`", with the given `.*`
+    thenMade (evaluate fmt ls env e) λ A.
+    pairStage fmt (suc (length ls)) without (allMachine (length ls)) A
 
 -- L M P M R, "joined left to right"
 unfoldable pub markedStages : Format → ℕ → Machine → Machine → Machine → Made

@@ -7,17 +7,18 @@ use lib.ListN.{length}
 use Rattle.automata.specs.Basics.{nat-test, find}
 use Rattle.automata.specs.Stages.{Pairing}
 
--- `every` is the `.*` that the paper puts in: "`!A` is `.*-A`".
+-- An expression as the grammar derives it: `|`, `&`, `-` are pairs; `!` is the complement, `?` the option.
 pub data Expr : Type 0 where
   letter : ℕ → Expr
   name : ℕ → Expr
   dot : Expr
   empty : Expr
-  every : Expr
   pair : Pairing → Expr → Expr → Expr
   join : Expr → Expr → Expr
   star : Expr → Expr
   plus : Expr → Expr
+  option : Expr → Expr
+  complement : Expr → Expr
 
 -- x stands in the list
 abbrev pub member : ℕ → List ℕ → Bool

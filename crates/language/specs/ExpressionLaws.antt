@@ -12,14 +12,14 @@ use Rattle.automata.specs.Basics.{nat-test, ltb-lt}
 use Rattle.automata.specs.Automaton.{Over, accepts}
 use Rattle.automata.specs.Machine.{Machine, automaton}
 use Rattle.automata.specs.Stage.{Made, made, refused, Keeps, then-keeps}
-use Rattle.automata.specs.Given.{emptyMachine}
+use Rattle.automata.specs.Given.{emptyMachine, allMachine}
 use Rattle.automata.specs.Stages.{Pairing, either, both, without, pairStage, concatStage, starStage}
 use Rattle.language.specs.Cuts.{Word}
-use Rattle.language.specs.Language.{Language, emptyWord, concatenation, star as starOf, OfLetters, empty-letters, symbol-letters, allWords-sound, concatenation-letters, star-letters, union-letters, intersection-letters, difference-letters}
+use Rattle.language.specs.Language.{Language, emptyWord, allWords, concatenation, star as starOf, OfLetters, empty-letters, symbol-letters, allWords-sound, concatenation-letters, star-letters, union-letters, intersection-letters, difference-letters}
 use Rattle.language.specs.Recognizes.{Recognizes, recognizes-same}
 use Rattle.language.specs.GivenLaws.{letter-recognizes, dot-recognizes, empty-recognizes, all-recognizes}
 use Rattle.language.specs.StageLaws.{combined, pair-stage, concat-stage, star-stage}
-use Rattle.language.specs.Expression.{Expr, letter, name, dot, empty, every, pair, join, star, plus}
+use Rattle.language.specs.Expression.{Expr, letter, name, dot, empty, pair, join, star, plus, option, complement}
 use Rattle.language.specs.Environment.{lookup, known}
 use Rattle.language.specs.Evaluate.{column, evaluate}
 use Rattle.language.specs.Matches.{matches}
@@ -99,7 +99,6 @@ module _ (fmt : Format) (ls : List ℕ) (names : List ℕ) (xs : List (ℕ × Ma
   expression-right (name b) k = lookup-right m b xs ys env
   expression-right dot k = record { recognizes = dot-recognizes m; letters = symbol-letters m (λ c. ltb c m) (λ c t. ltb-lt c m t) }
   expression-right empty k = empty-right m
-  expression-right every k = record { recognizes = all-recognizes m; letters = allWords-sound m }
   expression-right (pair o e f) k =
       then-keeps (λ M. Right m M (matches ls ys e)) (λ M. Right m M (matches ls ys (pair o e f))) (evaluate fmt ls xs e) _
       (expression-right e (and-left (known ls names e) (known ls names f) k)) λ A a.
@@ -122,3 +121,11 @@ module _ (fmt : Format) (ls : List ℕ) (names : List ℕ) (xs : List (ℕ × Ma
       then-keeps (λ M. Right m M (starOf (matches ls ys e))) (λ M. Right m M (matches ls ys (plus e))) (starStage fmt (suc m) A) _
       (star-right fmt m A (matches ls ys e) a) λ B b.
       concat-right fmt m A B (matches ls ys e) (starOf (matches ls ys e)) a b
+  expression-right (option e) k =
+      then-keeps (λ M. Right m M (matches ls ys e)) (λ M. Right m M (matches ls ys (option e))) (evaluate fmt ls xs e) _
+      (expression-right e k) λ A a.
+      pair-right fmt m either (emptyMachine m) A emptyWord (matches ls ys e) (empty-right m) a
+  expression-right (complement e) k =
+      then-keeps (λ M. Right m M (matches ls ys e)) (λ M. Right m M (matches ls ys (complement e))) (evaluate fmt ls xs e) _
+      (expression-right e k) λ A a.
+      pair-right fmt m without (allMachine m) A (allWords m) (matches ls ys e) (record { recognizes = all-recognizes m; letters = allWords-sound m }) a

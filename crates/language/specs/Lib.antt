@@ -9,6 +9,7 @@ pub mod StageLaws
 pub mod Expression
 pub mod Environment
 pub mod Evaluate
+pub mod Makes
 pub mod Matches
 pub mod ExpressionLaws
 pub mod RuleLaws

@@ -1,0 +1,78 @@
+-- "The kind of every byte (letter, name, each sign, space, line end, stray) is one constant table of 256 entries." The reader knows bytes by their
+-- kinds only. The kinds are numbered so that those which begin an item, and those which go on with one, stand in a row.
+use mathlib.Core.Path.{_≡_, refl}
+use mathlib.Core.Bool.{Bool, true, false, _&&_}
+use mathlib.Core.Logic.{inl, inr}
+use mathlib.Core.List.{List, [], _∷_}
+use Prim.Native.Nat.{ℕ, zero, suc, _+_, _≤_}
+use native.Mathlib.Omega.{arith}
+use lib.Dec.{eqb, leb}
+use lib.ListN.{getD}
+use Rattle.automata.specs.Booleans.{choose}
+use Rattle.automata.specs.Basics.{SameCases, nat-test, same-cases}
+
+-- the signs, the space and the line end:  . @ ( ! * + ? & - | ) space line-end : = > / _
+abbrev pub signs : List ℕ
+signs = 46 ∷ 64 ∷ 40 ∷ 33 ∷ 42 ∷ 43 ∷ 63 ∷ 38 ∷ 45 ∷ 124 ∷ 41 ∷ 32 ∷ 10 ∷ 58 ∷ 61 ∷ 62 ∷ 47 ∷ 95 ∷ []
+
+-- 0 for a stray byte
+abbrev pub signKind : ℕ → List ℕ → ℕ → ℕ
+signKind b [] k = 0
+signKind b (s ∷ ss) k = choose (eqb b s) (λ _. k) (λ _. signKind b ss (suc k))
+
+-- "A letter is a byte 0x61 to 0x7A (a to z)"; "a name (one byte A to Z)"; then the signs in their order, from 3 on.
+abbrev pub kindOf : ℕ → ℕ
+kindOf b =
+    choose (leb 97 b && leb b 122) (λ _. 1) λ _.
+    choose (leb 65 b && leb b 90) (λ _. 2) λ _.
+    signKind b signs 3
+
+abbrev pub isLetter : ℕ → Bool
+isLetter b = eqb (kindOf b) 1
+
+abbrev pub isName : ℕ → Bool
+isName b = eqb (kindOf b) 2
+
+-- a letter, a name, `.`, `@`, `(`, `!` begin an item
+abbrev pub itemKind : ℕ → Bool
+itemKind k = leb 1 k && leb k 6
+
+abbrev pub startsItem : ℕ → Bool
+startsItem b = itemKind (kindOf b)
+
+-- ---- a sign is known by its kind
+
+module _ (b : ℕ) where
+  -- a sign's kind, counted from k, is k and its place
+  sign-place : (ss : List ℕ) (k i : ℕ) → 1 ≤ k → eqb (signKind b ss k) (k + i) ≡ true → b ≡ getD ss i 0
+  sign-place [] k i h e = absurd (omega (arith, nat-test .sound 0 (k + i) e))
+  sign-place (s ∷ ss) k i h e = go (same-cases nat-test b s) i e (sign-place ss (suc k))
+    where
+      above : (ss : List ℕ) (k : ℕ) → 1 ≤ k → (signKind b ss k ≡ 0 → ⊥) → k ≤ signKind b ss k
+      above [] k h n = absurd (n refl)
+      above (s ∷ ss) k h n = at (eqb b s) n (above ss (suc k) (omega arith))
+        where
+          at : (t : Bool) → (choose t (λ _. k) (λ _. signKind b ss (suc k)) ≡ 0 → ⊥) → ((signKind b ss (suc k) ≡ 0 → ⊥) → suc k ≤ signKind b ss (suc k)) → k ≤ choose t (λ _. k) (λ _. signKind b ss (suc k))
+          at true n f = omega arith
+          at false n f = omega (arith, f n)
+
+      go : SameCases nat-test b s → (i : ℕ) → eqb (choose (eqb b s) (λ _. k) (λ _. signKind b ss (suc k))) (k + i) ≡ true
+          → ((i : ℕ) → 1 ≤ suc k → eqb (signKind b ss (suc k)) (suc k + i) ≡ true → b ≡ getD ss i 0) → b ≡ getD (s ∷ ss) i 0
+      go (inl p) zero e f = p .0
+      go (inl p) (suc i) e f = let z : k ≡ k + suc i = nat-test .sound k (k + suc i) (rw (p .1) at e) in absurd (omega arith)
+      go (inr p) zero e f =
+          let z : signKind b ss (suc k) ≡ k + zero = nat-test .sound (signKind b ss (suc k)) (k + zero) (rw (p .1) at e) in
+          absurd (omega (arith, above ss (suc k) (omega arith) (λ x. omega arith)))
+      go (inr p) (suc i) e f = let z : k + suc i ≡ suc k + i = omega arith in f i (omega arith) (subst-eq z (rw (p .1) at e))
+        where
+          subst-eq : k + suc i ≡ suc k + i → eqb (signKind b ss (suc k)) (k + suc i) ≡ true → eqb (signKind b ss (suc k)) (suc k + i) ≡ true
+          subst-eq z e = rw (← z) e
+
+  -- The byte of a sign, from its kind.
+  pub sign-byte : (i : ℕ) → eqb (kindOf b) (3 + i) ≡ true → b ≡ getD signs i 0
+  sign-byte i e = go (leb 97 b && leb b 122) (leb 65 b && leb b 90) e
+    where
+      go : (s t : Bool) → eqb (choose s (λ _. 1) (λ _. choose t (λ _. 2) (λ _. signKind b signs 3))) (3 + i) ≡ true → b ≡ getD signs i 0
+      go true t e = absurd (omega (arith, nat-test .sound 1 (3 + i) e))
+      go false true e = absurd (omega (arith, nat-test .sound 2 (3 + i) e))
+      go false false e = sign-place signs 3 i (omega arith) e

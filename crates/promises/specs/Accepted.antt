@@ -1,0 +1,92 @@
+-- A book that compiling accepts: what follows from the answer alone. The letters are 1 to 26 and rise, the kept machine is within the limits, and
+-- its words are the plans that the book allows: nothing is left to assume.
+use mathlib.Core.Path.{_≡_, sym, ap, _∙_}
+use mathlib.Core.List.{List}
+use Prim.Native.Nat.{ℕ, _≤_, _<_}
+use native.Mathlib.Omega.{arith}
+use lib.ListN.{length, getD}
+use Rattle.automata.specs.Format.{Format}
+use Rattle.card.specs.Alphabet.{Alphabet}
+use Rattle.card.specs.Same.{cardOf}
+use Rattle.card.specs.Demand.{Compiled}
+use Rattle.book.specs.Text.{linesOf}
+use Rattle.book.specs.HeadLaws.{Letters}
+use Rattle.compiler.specs.Allows.{bookLetters, allows}
+use Rattle.compiler.specs.Book.{Draft, done, compileBook}
+use Rattle.compiler.specs.BookLaws.{accepted-right, accepted-letters, accepted-alphabet}
+use Rattle.compiler.specs.Bounds.{accepted-within}
+use Rattle.compiler.specs.Outcome.{Outcome, card, stop, most, outcome}
+use Rattle.compiler.specs.Table.{Outcomes, text-too-long, buffer-too-short, book-stops, output-too-short, gives, outcomes, book-says-only}
+use Rattle.compiler.specs.Peak.{most-greatest, most-attained, book-counted}
+
+-- What was made of an accepted text.
+pub record Accepted (fmt : Format) (text c : List ℕ) (room peak : ℕ) : Type 0 where
+  pub draft : Draft
+  pub compiled : compileBook fmt text ≡ done (bookLetters (linesOf text)) draft
+  pub bytes : c ≡ cardOf fmt (bookLetters (linesOf text)) (draft .kept)
+  pub fits : length c ≤ room
+  pub peak-is : peak ≡ most (draft .counts)
+
+module _ (fmt : Format) (needs text lent : List ℕ) (room : ℕ) (c : List ℕ) (peak : ℕ) (e : outcome fmt needs text lent room ≡ card c peak) where
+  pub accepted : Accepted fmt text c room peak
+  accepted = go (outcome fmt needs text lent room) e (outcomes fmt needs text lent room)
+    where
+      no-card : (r at : ℕ) → _≡_ {A = Outcome} (stop r at) (card c peak) → ⊥
+      no-card r at e = let z : _≡_ {A = ℕ} 0 1 = cc in omega arith
+
+      bytesIn : Outcome → List ℕ
+      bytesIn (card b p) = b
+      bytesIn (stop r at) = c
+
+      peakIn : Outcome → ℕ
+      peakIn (card b p) = p
+      peakIn (stop r at) = peak
+
+      go : (o : Outcome) → o ≡ card c peak → Outcomes fmt needs text lent room o → Accepted fmt text c room peak
+      go o e (text-too-long h) = absurd (no-card 1 0 e)
+      go o e (buffer-too-short h b) = absurd (no-card 2 0 e)
+      go o e (book-stops h b r at s) = absurd (no-card r at e)
+      go o e (output-too-short h b ls d s x) = absurd (no-card 11 0 e)
+      go o e (gives h b ls d s x) =
+          let z : c ≡ cardOf fmt ls (d .kept) = sym (ap bytesIn e) in
+          let q : compileBook fmt text ≡ done ls d = unfold compileBook in book-says-only fmt (linesOf text) (done ls d) s in
+          let l : ls ≡ bookLetters (linesOf text) = accepted-letters fmt text ls d q in
+          record {
+            draft = d;
+            compiled = rw (← l) q;
+            bytes = rw (← l) z;
+            fits = rw z x;
+            peak-is = sym (ap peakIn e);
+          }
+
+  abbrev ls : List ℕ
+  ls = bookLetters (linesOf text)
+
+  pub letters-form : Letters fmt (bookLetters (linesOf text))
+  letters-form = accepted-alphabet fmt text ls (accepted .draft) (accepted .compiled)
+
+  pub alphabet : Alphabet (bookLetters (linesOf text))
+  alphabet = record { letter = letters-form .letter; rising = letters-form .rises }
+
+  -- the kept machine, as the card's laws ask for it
+  pub compiled : 2 ≤ fmt .mostStates → Compiled fmt (bookLetters (linesOf text)) (allows text) (accepted .draft .kept)
+  compiled two =
+      let r = accepted-right fmt text ls (accepted .draft) (accepted .compiled) in
+      record {
+        alphabet = alphabet;
+        letters-least = letters-form .least;
+        letters-most = letters-form .most;
+        states-most = accepted-within fmt two text ls (accepted .draft) (accepted .compiled) .states;
+        canonical = r .recognizes .canonical;
+        exact = r .recognizes .exact;
+        letters = r .letters;
+      }
+
+  -- THE PEAK is the count of one stage of the book, and no stage made more.
+  pub peak-attained : (i : ℕ) × (i < length (accepted .draft .counts)) × (getD (accepted .draft .counts) i 0 ≡ peak)
+  peak-attained =
+      let (i, b, q) = most-attained (accepted .draft .counts) (book-counted fmt text ls (accepted .draft) (accepted .compiled)) in
+      (i, b, q ∙ sym (accepted .peak-is))
+
+  pub peak-greatest : (i : ℕ) → i < length (accepted .draft .counts) → getD (accepted .draft .counts) i 0 ≤ peak
+  peak-greatest i b = omega (arith, accepted .peak-is, most-greatest (accepted .draft .counts) i b)

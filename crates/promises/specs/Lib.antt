@@ -1,0 +1,4 @@
+-- The customer's demands, joined from the laws of the other crates; and the starred cases of 01.
+pub mod Accepted
+pub mod Demands
+pub mod Cases
