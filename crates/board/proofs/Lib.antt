@@ -5,3 +5,4 @@ pub mod ClassLaws
 pub mod SplitLaws
 pub mod KeyLaws
 pub mod ReducedLaws
+pub mod LoadLaws

@@ -3,3 +3,4 @@ pub mod Holds
 pub mod Rows
 pub mod LiveRounds
 pub mod Classes
+pub mod Answers

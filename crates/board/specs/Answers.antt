@@ -1,0 +1,9 @@
+-- The board's answers, each read as the answer of the card's definitions, with the paper's number and values for each case. Assumes nothing.
+use Rattle.card.specs.Answer.{Loading, holds, rejected}
+use Rattle.board.specs.declared.Loaded.{Loaded}
+use Rattle.board.specs.declared.Loaded.the-variants.{Accepted, Refused}
+
+-- Loading: how many letters and states, or the number of the refusal, 21 to 26.
+abbrev pub loading : Loaded → Loading
+loading (Accepted m n) = holds m n
+loading (Refused number) = rejected number
