@@ -6,3 +6,4 @@ pub mod SplitLaws
 pub mod KeyLaws
 pub mod ReducedLaws
 pub mod LoadLaws
+pub mod EntryLaws
