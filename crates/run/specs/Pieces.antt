@@ -24,6 +24,10 @@ module _ (c : List ℕ) (n : ℕ) where
     underway = b .underway;
   }
 
+  -- The first piece, after `start`.
+  pub after-start : (v : List ℕ) (r s : Run′) → Runs c n (runStart narrow c) r → Runs c n (runOn narrow c (runOf r) v) s → After c n v s
+  after-start v r s a b = record { is = b .is ∙ ap (λ x. runOn narrow c x v) (a .is); underway = b .underway }
+
   -- The answer of the run over all letters, as `reply` ensures it, is the answer of judging.
   pub after-reply : (m : ℕ) → Ready c m n → (u : List ℕ) (r : Run′) (a : Answer) → After c n u r → replyOf a ≡ runReply narrow c (runOf r) → replyOf a ≡ judge narrow c u
   after-reply m y u r a w e = e ∙ ap (runReply narrow c) (w .is) ∙ sym (judge-run narrow c (y .loads) u)

@@ -1,6 +1,7 @@
 // The walk over a card that was tested, whole or in pieces. These are parts: what they require, one load establishes. So a plan has no longest length,
 // while the letters so far fit in 64 bits.
 mod columns;
+
 ghost use mathlib.Core.Path.{_≡_};
 ghost use Prim.Native.Nat.{_+_, _-_, _≤_, _<_, _^_};
 ghost use lib.ListN.{length, drop};
@@ -88,7 +89,17 @@ fn known(card: &[u8], m: usize, n: usize, table: &[u8; 256], plan: &[u8], from: 
 }
 
 // Past a dead state, which stays: only the letters are tested. The run has taken `letters` letters, those of the piece before `from` among them.
-fn past_dead(card: &[u8], m: usize, n: usize, table: &[u8; 256], plan: &[u8], from: usize, state: usize, letters: usize, place: usize) -> Run
+fn past_dead(
+    card: &[u8],
+    m: usize,
+    n: usize,
+    table: &[u8; 256],
+    plan: &[u8],
+    from: usize,
+    state: usize,
+    letters: usize,
+    place: usize,
+) -> Run
     requires { ⌜ Ready (now card) m n × ColumnTable (lettersOf narrow (now card)) (now table) ⌝ }
     requires { ⌜ (from ≤ length (now plan)) × (letters + (length (now plan) - from) < 2 ^ 64) ⌝ }
     requires { ⌜ (state < n) × (markAt narrow (now card) state ≡ 2) ⌝ }

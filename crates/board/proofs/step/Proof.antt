@@ -1,92 +1,62 @@
+-- `step` meets its contract, test by test. Assumes nothing.
+use mathlib.Core.Path.{sym, _∙_}
+use Prim.Native.Nat.{_+_, _*_}
+use native.Mathlib.Omega.{arith}
 use borrow.Author.Needs.{needs}
+use Rattle.card.proofs.ReadLaws.{of-counted, bad-counted}
+use Rattle.board.proofs.EntryLaws.{step-21, step-27, step-28, step-room, step-small, step-23, mark-room, step-moved}
 use Rattle.board.proofs.step.Statement.{statement}
 use Rattle.board.proofs.step.Tie as tie
-use Rattle.board.proofs.step.Reads as reads
-use Rattle.board.proofs.step.Lts as lts
-use Rattle.card.proofs.column.Reads as column-reads
-use Rattle.card.proofs.contents.Reads as contents-reads
-use Rattle.card.proofs.letters.Reads as letters-reads
-use Rattle.card.proofs.marks.Reads as marks-reads
-use Rattle.card.proofs.moves.Reads as moves-reads
 
--- src/lib.rt:46:34
-contents-requires : tie.Need-contents-requires
-contents-requires c κs = search needs
-
--- src/lib.rt:46:26
-enum-known-m : tie.Need-enum-known-m
-enum-known-m c = search needs
-
--- src/lib.rt:47:9
-enum-told : tie.Need-enum-told
-enum-told c = search needs
-
--- src/lib.rt:47:9
 returns : tie.Need-returns
-returns c = ?
+returns c = step-21 _ _ _ (bad-counted _ (sym (c .enum-told .given .1) ∙ c .before .before .contents .ensures))
 
--- src/lib.rt:49:26
 letters-requires : tie.Need-letters-requires
-letters-requires c κs = ?
+letters-requires c κs = of-counted _ _ _ (sym (c .before .m .given .1) ∙ c .before .before .before .contents .ensures)
 
--- src/lib.rt:49:9
-column-requires : tie.Need-column-requires
-column-requires c κs = search needs
-
--- src/lib.rt:51:9
 returns-2 : tie.Need-returns-2
-returns-2 c = ?
+returns-2 c = step-27 _ _ _ (of-counted _ _ _ (sym (c .before .before .before .before .m .given .1) ∙ c .before .before .before .before .before .before .contents .ensures)) (c .before .before .before .before .before .before .before .before .args .state) (c .before .before .before .before .before .before .before .before .args .letter) _ _ (c .before .before .letters .ensures) (c .before .column .ensures) (c .if1 .taken)
 
--- src/lib.rt:54:9
 returns-3 : tie.Need-returns-3
-returns-3 c = ?
+returns-3 c = step-28 _ _ _ (of-counted _ _ _ (sym (c .before .before .before .before .before .m .given .1) ∙ c .before .before .before .before .before .before .before .contents .ensures)) (c .before .before .before .before .before .before .before .before .before .args .state) (c .before .before .before .before .before .before .before .before .before .args .letter) _ _ (c .before .before .before .letters .ensures) (c .before .before .column .ensures) (c .before .if1 .left) (c .if2 .taken)
 
--- src/lib.rt:56:9
 moves-requires : tie.Need-moves-requires
-moves-requires c κs = ?
+moves-requires c κs = of-counted _ _ _ (sym (c .before .before .before .before .before .m .given .1) ∙ c .before .before .before .before .before .before .before .contents .ensures)
 
--- src/lib.rt:57:22
 mul-next : tie.Need-mul-next
-mul-next c = ?
+mul-next c = omega (arith, step-small _ _ _ (of-counted _ _ _ (sym (c .before .before .before .before .before .before .m .given .1) ∙ c .before .before .before .before .before .before .before .before .contents .ensures)) (c .before .before .before .before .before .before .before .before .before .before .args .state) (c .before .before .before .before .before .before .before .before .before .before .args .letter) _ _ (c .before .before .before .before .letters .ensures) (c .before .before .before .column .ensures) (c .before .before .if1 .left) (c .before .if2 .left))
 
--- src/lib.rt:57:22
 add-next : tie.Need-add-next
-add-next c = ?
+add-next c = omega (arith, step-small _ _ _ (of-counted _ _ _ (sym (c .before .before .before .before .before .before .m .given .1) ∙ c .before .before .before .before .before .before .before .before .contents .ensures)) (c .before .before .before .before .before .before .before .before .before .before .args .state) (c .before .before .before .before .before .before .before .before .before .before .args .letter) _ _ (c .before .before .before .before .letters .ensures) (c .before .before .before .column .ensures) (c .before .before .if1 .left) (c .before .if2 .left))
 
--- src/lib.rt:57:16
 shared-slice-read-next : tie.Need-shared-slice-read-next
-shared-slice-read-next c = ?
+shared-slice-read-next c = step-room _ _ _ (of-counted _ _ _ (sym (c .before .before .before .before .before .before .before .m .given .1) ∙ c .before .before .before .before .before .before .before .before .before .contents .ensures)) (c .before .before .before .before .before .before .before .before .before .before .before .args .state) (c .before .before .before .before .before .before .before .before .before .before .before .args .letter) _ _ (c .before .before .before .before .before .letters .ensures) (c .before .before .before .before .column .ensures) (c .before .before .before .if1 .left) (c .before .before .if2 .left) _ (c .before .moves .ensures)
 
--- src/lib.rt:57:16
 cast-next : tie.Need-cast-next
-cast-next c = ?
+cast-next c = omega (arith, c .shared-slice-known2 .given (c .before .before .before .before .before .before .before .before .before .before .before .args .state * c .before .before .before .before .before .before .before .m .given .0 .0 + c .before .before .before .before .column .result))
 
--- src/lib.rt:59:9
 returns-4 : tie.Need-returns-4
-returns-4 c = ?
+returns-4 c = step-23 _ _ _ (of-counted _ _ _ (sym (c .before .before .before .before .before .before .before .before .m .given .1) ∙ c .before .before .before .before .before .before .before .before .before .before .contents .ensures)) (c .before .before .before .before .before .before .before .before .before .before .before .before .args .state) (c .before .before .before .before .before .before .before .before .before .before .before .before .args .letter) _ _ (c .before .before .before .before .before .before .letters .ensures) (c .before .before .before .before .before .column .ensures) (c .before .before .before .before .if1 .left) (c .before .before .before .if2 .left) _ (c .before .before .moves .ensures) (c .if3 .taken)
 
--- src/lib.rt:61:9
 marks-requires : tie.Need-marks-requires
-marks-requires c κs = ?
+marks-requires c κs = of-counted _ _ _ (sym (c .before .before .before .before .before .before .before .before .m .given .1) ∙ c .before .before .before .before .before .before .before .before .before .before .contents .ensures)
 
--- src/lib.rt:62:26
 shared-slice-read-t16 : tie.Need-shared-slice-read-t16
-shared-slice-read-t16 c = ?
+shared-slice-read-t16 c = mark-room _ _ _ (of-counted _ _ _ (sym (c .before .before .before .before .before .before .before .before .before .before .m .given .1) ∙ c .before .before .before .before .before .before .before .before .before .before .before .before .contents .ensures)) (c .before .before .before .before .before .before .before .before .before .before .before .before .before .before .args .state) (c .before .before .before .before .before .before .before .before .before .before .before .before .before .before .args .letter) _ _ (c .before .before .before .before .before .before .before .before .letters .ensures) (c .before .before .before .before .before .before .before .column .ensures) (c .before .before .before .before .before .before .if1 .left) (c .before .before .before .before .before .if2 .left) _ _ (c .before .marks .ensures) (c .before .before .if3 .left)
 
--- src/lib.rt:43:1
 returns-5 : tie.Need-returns-5
-returns-5 c = ?
+returns-5 c = step-moved _ _ _ (of-counted _ _ _ (sym (c .before .before .before .before .before .before .before .before .before .before .m .given .1) ∙ c .before .before .before .before .before .before .before .before .before .before .before .before .contents .ensures)) (c .before .before .before .before .before .before .before .before .before .before .before .before .before .before .args .state) (c .before .before .before .before .before .before .before .before .before .before .before .before .before .before .args .letter) _ _ (c .before .before .before .before .before .before .before .before .letters .ensures) (c .before .before .before .before .before .before .before .column .ensures) (c .before .before .before .before .before .before .if1 .left) (c .before .before .before .before .before .if2 .left) _ _ (c .before .before .before .before .moves .ensures) (c .before .marks .ensures) (c .before .before .if3 .left)
 
 pub step-spec : {M : Type 1} → statement M
 step-spec =
     tie.close
     (tie.spec
-    contents-requires
-    enum-known-m
-    enum-told
+    (λ c κs. search needs)
+    (λ c. search needs)
+    (λ c. search needs)
     returns
     letters-requires
-    column-requires
+    (λ c κs. search needs)
     returns-2
     returns-3
     moves-requires

@@ -18,15 +18,15 @@ add-total c = omega (arith, c .known .ensures .most, c .known .ensures .low, c .
 returns : tie.Need-returns
 returns c =
     record {
-    is = sym (past-unknown _ _ _ (c .before .before .before .before .pre .0 .0) _ _ _ _ _ _ (c .before .known .ensures) (c .before .before .before .before .pre .1 .1 .0) (c .before .before .before .before .pre .1 .1 .1) (c .if1 .taken));
-    underway = record { inside = c .before .before .before .before .pre .1 .1 .0; dead = λ k e. c .before .before .before .before .pre .1 .1 .1 };
+      is = sym (past-unknown _ _ _ (c .before .before .before .before .pre .0 .0) _ _ _ _ _ _ (c .before .known .ensures) (c .before .before .before .before .pre .1 .1 .0) (c .before .before .before .before .pre .1 .1 .1) (c .if1 .taken));
+      underway = record { inside = c .before .before .before .before .pre .1 .1 .0; dead = λ k e. c .before .before .before .before .pre .1 .1 .1 };
     }
 
 returns-2 : tie.Need-returns-2
 returns-2 c =
     record {
-    is = sym (past-end _ _ _ (c .before .before .before .before .pre .0 .0) _ _ _ _ _ _ (c .before .known .ensures) (c .before .before .before .before .pre .1 .1 .0) (c .before .before .before .before .pre .1 .1 .1) (c .if1 .left));
-    underway = record { inside = c .before .before .before .before .pre .1 .1 .0; dead = λ k e. c .before .before .before .before .pre .1 .1 .1 };
+      is = sym (past-end _ _ _ (c .before .before .before .before .pre .0 .0) _ _ _ _ _ _ (c .before .known .ensures) (c .before .before .before .before .pre .1 .1 .0) (c .before .before .before .before .pre .1 .1 .1) (c .if1 .left));
+      underway = record { inside = c .before .before .before .before .pre .1 .1 .0; dead = λ k e. c .before .before .before .before .pre .1 .1 .1 };
     }
 
 pub past-dead-spec : {M : Type 1} → statement M

@@ -20,8 +20,8 @@ returns c =
 returns-2 : tie.Need-returns-2
 returns-2 c =
     record {
-    is = start-live (c .before .before .before .before .args .card .now) (λ e. c .if1 .left (mark-is _ _ _ (c .before .before .before .before .pre) 0 _ (c .before .before .marks .ensures) (some-state _ _ _ (c .before .before .before .before .pre)) ∙ e));
-    underway = record { inside = some-state _ _ _ (c .before .before .before .before .pre); dead = λ k e. never k e };
+      is = start-live (c .before .before .before .before .args .card .now) (λ e. c .if1 .left (mark-is _ _ _ (c .before .before .before .before .pre) 0 _ (c .before .before .marks .ensures) (some-state _ _ _ (c .before .before .before .before .pre)) ∙ e));
+      underway = record { inside = some-state _ _ _ (c .before .before .before .before .pre); dead = λ k e. never k e };
     }
 
 pub start-spec : {M : Type 1} → statement M

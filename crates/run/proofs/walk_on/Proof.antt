@@ -37,8 +37,8 @@ cast-i c = omega (arith, column-most _ _ _ (c .before .before .before .before .b
 returns : tie.Need-returns Inv-loop μ-loop
 returns c =
     record {
-    is = walk-unknown _ _ _ _ _ (c .before .before .before .loop-test .taken) (c .before .before .before .before .loop .inv .2) (omega (arith, c .before .before .before .before .before .before .before .before .before .pre .1 .entry (getD (c .before .before .before .before .before .before .before .before .before .args .plan .now) (c .before .before .before .before .loop .k) 0) (omega (arith, c .before .before .shared-slice-known3 .given (c .before .before .before .before .loop .k))), letters-many _ _ _ (c .before .before .before .before .before .before .before .before .before .pre .0), c .if1 .taken));
-    end = (c .before .before .before .before .loop .inv .1, omega arith);
+      is = walk-unknown _ _ _ _ _ (c .before .before .before .loop-test .taken) (c .before .before .before .before .loop .inv .2) (omega (arith, c .before .before .before .before .before .before .before .before .before .pre .1 .entry (getD (c .before .before .before .before .before .before .before .before .before .args .plan .now) (c .before .before .before .before .loop .k) 0) (omega (arith, c .before .before .shared-slice-known3 .given (c .before .before .before .before .loop .k))), letters-many _ _ _ (c .before .before .before .before .before .before .before .before .before .pre .0), c .if1 .taken));
+      end = (c .before .before .before .before .loop .inv .1, omega arith);
     }
 
 mul-s : tie.Need-mul-s Inv-loop μ-loop
@@ -59,8 +59,8 @@ shared-slice-read-if2 c = mark-room _ _ _ (c .before .before .before .before .be
 returns-2 : tie.Need-returns-2 Inv-loop μ-loop
 returns-2 c =
     record {
-    is = walk-dead _ _ _ _ _ (c .before .before .before .before .before .before .loop-test .taken) (c .before .before .before .before .before .before .before .loop .inv .2) _ (move-is _ _ _ (c .before .before .before .before .before .before .before .before .before .before .before .before .pre .0) (c .before .before .before .before .before .before .before .loop .s) (getD (c .before .before .before .before .before .before .before .before .before .before .before .before .args .table .now) (getD (c .before .before .before .before .before .before .before .before .before .before .before .before .args .plan .now) (c .before .before .before .before .before .before .before .loop .k) 0) 0) (c .before .before .before .before .before .before .before .loop .inv .1) (c .before .before .before .if1 .left) _ (c .before .before .before .before .before .before .before .before .moves .ensures) ∙ ap (moveAt narrow (c .before .before .before .before .before .before .before .before .before .before .before .before .args .card .now) (c .before .before .before .before .before .before .before .loop .s)) (c .before .before .before .before .before .before .before .before .before .before .before .before .pre .1 .entry (getD (c .before .before .before .before .before .before .before .before .before .before .before .before .args .plan .now) (c .before .before .before .before .before .before .before .loop .k) 0) (omega (arith, c .before .before .before .before .before .shared-slice-known3 .given (c .before .before .before .before .before .before .before .loop .k))))) (omega (arith, c .before .before .before .before .before .before .before .before .before .before .before .before .pre .1 .entry (getD (c .before .before .before .before .before .before .before .before .before .before .before .before .args .plan .now) (c .before .before .before .before .before .before .before .loop .k) 0) (omega (arith, c .before .before .before .before .before .shared-slice-known3 .given (c .before .before .before .before .before .before .before .loop .k))), letters-many _ _ _ (c .before .before .before .before .before .before .before .before .before .before .before .before .pre .0), c .before .before .before .if1 .left)) (sym (mark-is _ _ _ (c .before .before .before .before .before .before .before .before .before .before .before .before .pre .0) _ _ (c .before .before .before .before .before .before .before .before .before .marks .ensures) (rw (move-is _ _ _ (c .before .before .before .before .before .before .before .before .before .before .before .before .pre .0) (c .before .before .before .before .before .before .before .loop .s) (getD (c .before .before .before .before .before .before .before .before .before .before .before .before .args .table .now) (getD (c .before .before .before .before .before .before .before .before .before .before .before .before .args .plan .now) (c .before .before .before .before .before .before .before .loop .k) 0) 0) (c .before .before .before .before .before .before .before .loop .inv .1) (c .before .before .before .if1 .left) _ (c .before .before .before .before .before .before .before .before .moves .ensures)) (move-inside _ _ _ (c .before .before .before .before .before .before .before .before .before .before .before .before .pre .0) (c .before .before .before .before .before .before .before .loop .s) (getD (c .before .before .before .before .before .before .before .before .before .before .before .before .args .table .now) (getD (c .before .before .before .before .before .before .before .before .before .before .before .before .args .plan .now) (c .before .before .before .before .before .before .before .loop .k) 0) 0) (c .before .before .before .before .before .before .before .loop .inv .1) (c .before .before .before .if1 .left)))) ∙ c .if2 .taken);
-    end = ((rw (move-is _ _ _ (c .before .before .before .before .before .before .before .before .before .before .before .before .pre .0) (c .before .before .before .before .before .before .before .loop .s) (getD (c .before .before .before .before .before .before .before .before .before .before .before .before .args .table .now) (getD (c .before .before .before .before .before .before .before .before .before .before .before .before .args .plan .now) (c .before .before .before .before .before .before .before .loop .k) 0) 0) (c .before .before .before .before .before .before .before .loop .inv .1) (c .before .before .before .if1 .left) _ (c .before .before .before .before .before .before .before .before .moves .ensures)) (move-inside _ _ _ (c .before .before .before .before .before .before .before .before .before .before .before .before .pre .0) (c .before .before .before .before .before .before .before .loop .s) (getD (c .before .before .before .before .before .before .before .before .before .before .before .before .args .table .now) (getD (c .before .before .before .before .before .before .before .before .before .before .before .before .args .plan .now) (c .before .before .before .before .before .before .before .loop .k) 0) 0) (c .before .before .before .before .before .before .before .loop .inv .1) (c .before .before .before .if1 .left))), sym (mark-is _ _ _ (c .before .before .before .before .before .before .before .before .before .before .before .before .pre .0) _ _ (c .before .before .before .before .before .before .before .before .before .marks .ensures) (rw (move-is _ _ _ (c .before .before .before .before .before .before .before .before .before .before .before .before .pre .0) (c .before .before .before .before .before .before .before .loop .s) (getD (c .before .before .before .before .before .before .before .before .before .before .before .before .args .table .now) (getD (c .before .before .before .before .before .before .before .before .before .before .before .before .args .plan .now) (c .before .before .before .before .before .before .before .loop .k) 0) 0) (c .before .before .before .before .before .before .before .loop .inv .1) (c .before .before .before .if1 .left) _ (c .before .before .before .before .before .before .before .before .moves .ensures)) (move-inside _ _ _ (c .before .before .before .before .before .before .before .before .before .before .before .before .pre .0) (c .before .before .before .before .before .before .before .loop .s) (getD (c .before .before .before .before .before .before .before .before .before .before .before .before .args .table .now) (getD (c .before .before .before .before .before .before .before .before .before .before .before .before .args .plan .now) (c .before .before .before .before .before .before .before .loop .k) 0) 0) (c .before .before .before .before .before .before .before .loop .inv .1) (c .before .before .before .if1 .left)))) ∙ c .if2 .taken, omega arith);
+      is = walk-dead _ _ _ _ _ (c .before .before .before .before .before .before .loop-test .taken) (c .before .before .before .before .before .before .before .loop .inv .2) _ (move-is _ _ _ (c .before .before .before .before .before .before .before .before .before .before .before .before .pre .0) (c .before .before .before .before .before .before .before .loop .s) (getD (c .before .before .before .before .before .before .before .before .before .before .before .before .args .table .now) (getD (c .before .before .before .before .before .before .before .before .before .before .before .before .args .plan .now) (c .before .before .before .before .before .before .before .loop .k) 0) 0) (c .before .before .before .before .before .before .before .loop .inv .1) (c .before .before .before .if1 .left) _ (c .before .before .before .before .before .before .before .before .moves .ensures) ∙ ap (moveAt narrow (c .before .before .before .before .before .before .before .before .before .before .before .before .args .card .now) (c .before .before .before .before .before .before .before .loop .s)) (c .before .before .before .before .before .before .before .before .before .before .before .before .pre .1 .entry (getD (c .before .before .before .before .before .before .before .before .before .before .before .before .args .plan .now) (c .before .before .before .before .before .before .before .loop .k) 0) (omega (arith, c .before .before .before .before .before .shared-slice-known3 .given (c .before .before .before .before .before .before .before .loop .k))))) (omega (arith, c .before .before .before .before .before .before .before .before .before .before .before .before .pre .1 .entry (getD (c .before .before .before .before .before .before .before .before .before .before .before .before .args .plan .now) (c .before .before .before .before .before .before .before .loop .k) 0) (omega (arith, c .before .before .before .before .before .shared-slice-known3 .given (c .before .before .before .before .before .before .before .loop .k))), letters-many _ _ _ (c .before .before .before .before .before .before .before .before .before .before .before .before .pre .0), c .before .before .before .if1 .left)) (sym (mark-is _ _ _ (c .before .before .before .before .before .before .before .before .before .before .before .before .pre .0) _ _ (c .before .before .before .before .before .before .before .before .before .marks .ensures) (rw (move-is _ _ _ (c .before .before .before .before .before .before .before .before .before .before .before .before .pre .0) (c .before .before .before .before .before .before .before .loop .s) (getD (c .before .before .before .before .before .before .before .before .before .before .before .before .args .table .now) (getD (c .before .before .before .before .before .before .before .before .before .before .before .before .args .plan .now) (c .before .before .before .before .before .before .before .loop .k) 0) 0) (c .before .before .before .before .before .before .before .loop .inv .1) (c .before .before .before .if1 .left) _ (c .before .before .before .before .before .before .before .before .moves .ensures)) (move-inside _ _ _ (c .before .before .before .before .before .before .before .before .before .before .before .before .pre .0) (c .before .before .before .before .before .before .before .loop .s) (getD (c .before .before .before .before .before .before .before .before .before .before .before .before .args .table .now) (getD (c .before .before .before .before .before .before .before .before .before .before .before .before .args .plan .now) (c .before .before .before .before .before .before .before .loop .k) 0) 0) (c .before .before .before .before .before .before .before .loop .inv .1) (c .before .before .before .if1 .left)))) ∙ c .if2 .taken);
+      end = ((rw (move-is _ _ _ (c .before .before .before .before .before .before .before .before .before .before .before .before .pre .0) (c .before .before .before .before .before .before .before .loop .s) (getD (c .before .before .before .before .before .before .before .before .before .before .before .before .args .table .now) (getD (c .before .before .before .before .before .before .before .before .before .before .before .before .args .plan .now) (c .before .before .before .before .before .before .before .loop .k) 0) 0) (c .before .before .before .before .before .before .before .loop .inv .1) (c .before .before .before .if1 .left) _ (c .before .before .before .before .before .before .before .before .moves .ensures)) (move-inside _ _ _ (c .before .before .before .before .before .before .before .before .before .before .before .before .pre .0) (c .before .before .before .before .before .before .before .loop .s) (getD (c .before .before .before .before .before .before .before .before .before .before .before .before .args .table .now) (getD (c .before .before .before .before .before .before .before .before .before .before .before .before .args .plan .now) (c .before .before .before .before .before .before .before .loop .k) 0) 0) (c .before .before .before .before .before .before .before .loop .inv .1) (c .before .before .before .if1 .left))), sym (mark-is _ _ _ (c .before .before .before .before .before .before .before .before .before .before .before .before .pre .0) _ _ (c .before .before .before .before .before .before .before .before .before .marks .ensures) (rw (move-is _ _ _ (c .before .before .before .before .before .before .before .before .before .before .before .before .pre .0) (c .before .before .before .before .before .before .before .loop .s) (getD (c .before .before .before .before .before .before .before .before .before .before .before .before .args .table .now) (getD (c .before .before .before .before .before .before .before .before .before .before .before .before .args .plan .now) (c .before .before .before .before .before .before .before .loop .k) 0) 0) (c .before .before .before .before .before .before .before .loop .inv .1) (c .before .before .before .if1 .left) _ (c .before .before .before .before .before .before .before .before .moves .ensures)) (move-inside _ _ _ (c .before .before .before .before .before .before .before .before .before .before .before .before .pre .0) (c .before .before .before .before .before .before .before .loop .s) (getD (c .before .before .before .before .before .before .before .before .before .before .before .before .args .table .now) (getD (c .before .before .before .before .before .before .before .before .before .before .before .before .args .plan .now) (c .before .before .before .before .before .before .before .loop .k) 0) 0) (c .before .before .before .before .before .before .before .loop .inv .1) (c .before .before .before .if1 .left)))) ∙ c .if2 .taken, omega arith);
     }
 
 loop-again : tie.Need-loop-again Inv-loop μ-loop
