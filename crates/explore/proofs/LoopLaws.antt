@@ -1,18 +1,18 @@
 -- The rows found so far: what one more transition, one more row, and one row too many make of them. For any automaton of rows. Assumes nothing.
-use mathlib.Core.Path.{_≡_, refl, sym, ap, _∙_, subst}
-use mathlib.Core.Bool.{Bool, true, false, cond}
+use mathlib.Core.Path.{_≡_, sym, ap, _∙_, subst}
+use mathlib.Core.Bool.{Bool, cond}
 use mathlib.Core.Logic.{_⊎_, inl, inr}
 use mathlib.Core.List.{List, []}
-use Prim.Native.Nat.{ℕ, zero, suc, _+_, _*_, _%_, _≤_, _<_}
+use Prim.Native.Nat.{ℕ, suc, _+_, _*_, _%_, _≤_, _<_}
 use native.Mathlib.Nat.{mod-eq-of-lt}
 use native.Mathlib.Omega.{arith}
 use lib.Dec.{ltb}
 use lib.ListN.{length, getD, set}
 use lib.Seq.{getD-set-same, getD-set-other}
-use Rattle.automata.specs.Basics.{SameCases, same-cases, nat-test, LtCases, lt-cases, Inj, lt-ltb, ltb-false}
+use Rattle.automata.specs.Basics.{LtCases, lt-cases, Inj, lt-ltb, ltb-false}
 use Rattle.automata.specs.Automaton.{Automaton, Reachable, reached-step}
 use Rattle.automata.specs.Stage.{MoreThan}
-use Rattle.explore.specs.Rows.{rowAt, bit}
+use Rattle.explore.specs.Rows.{rowAt}
 use Rattle.explore.specs.Steps.{rowHash}
 use Rattle.explore.specs.Answer.{Appended, AllRows, Earlier, Partial, Place, Flagged}
 use Rattle.explore.proofs.RowLaws.{row-within}

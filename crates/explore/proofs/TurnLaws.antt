@@ -1,9 +1,8 @@
 -- One turn of the loop: what its calls ask, and what it leaves; and the flags of the rows. Assumes nothing.
-use mathlib.Core.Path.{_≡_, refl, sym, ap, _∙_, subst}
-use mathlib.Core.Bool.{Bool}
+use mathlib.Core.Path.{_≡_, refl, ap, _∙_}
 use mathlib.Core.Logic.{inl, inr}
 use mathlib.Core.List.{List}
-use Prim.Native.Nat.{ℕ, zero, suc, _+_, _*_, _-_, _%_, _≤_, _<_}
+use Prim.Native.Nat.{ℕ, _+_, _*_, _-_, _%_, _≤_, _<_}
 use native.Mathlib.Nat.{mul-le-mul-right, le-refl}
 use native.Mathlib.Omega.{arith}
 use lib.ListN.{length, getD, set, take, drop, length-set}
@@ -13,10 +12,9 @@ use Rattle.automata.specs.Automaton.{Automaton}
 use Rattle.automata.specs.Stage.{MoreThan}
 use Rattle.explore.specs.Rows.{rowAt, bit, operationOf}
 use Rattle.explore.specs.Steps.{rowHash}
-use Rattle.explore.specs.Answer.{rowsFor, RowFits, Fits, Room, Source, Step, Looked, Appended, Partial, Turning, Turned, Flagging, Flagged}
+use Rattle.explore.specs.Answer.{rowsFor, RowFits, Source, Step, Looked, Appended, Turning, Turned, Flagging, Flagged}
 use Rattle.explore.specs.declared.Shape.{Shape}
-use Rattle.explore.specs.declared.Explored.{Explored}
-use Rattle.explore.specs.declared.Explored.the-variants.{Sets, TooMany}
+use Rattle.explore.specs.declared.Explored.the-variants.{Sets}
 use Rattle.explore.specs.declared.rows.Found.{Found}
 use Rattle.explore.specs.declared.rows.Found.the-variants.{At, Nothing}
 use Rattle.explore.proofs.RowLaws.{row-within, cell-within, row-part, row-length}

@@ -2,9 +2,8 @@
 -- limit. Nothing is said of the order in which the rows are found.
 use mathlib.Core.Path.{_≡_}
 use mathlib.Core.Logic.{_⊎_}
-use mathlib.Core.Bool.{Bool, true, false}
 use mathlib.Core.List.{List}
-use Prim.Native.Nat.{ℕ, suc, _+_, _*_, _-_, _≤_, _<_}
+use Prim.Native.Nat.{ℕ, _+_, _*_, _-_, _≤_, _<_}
 use lib.ListN.{length, getD}
 use Rattle.automata.specs.Automaton.{Automaton, Reachable}
 use Rattle.automata.specs.Machine.{automaton}
