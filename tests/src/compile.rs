@@ -196,7 +196,7 @@ pub struct Accepted {
 
 /// The buffers that a caller lends: work buffers as (needed, lent) lengths,
 /// and the card buffer's length.
-#[derive(Clone, PartialEq, Eq, Debug)]
+#[derive(Clone, PartialEq, Eq, Hash, Debug)]
 pub struct Lent {
     pub bench: Vec<(usize, usize)>,
     pub card: usize,

@@ -2,8 +2,9 @@
 
 use crate::board_examples;
 use crate::effort::Effort;
-use crate::entry::{BoardEntry, Reference};
+use crate::entry::{BoardEntry, Judged, Loaded, Reference, Stepped};
 use crate::examples::{self, Due};
+use crate::last_case;
 use crate::random_cards;
 use crate::rng::Rng;
 use crate::shrink::shrink;
@@ -90,15 +91,18 @@ impl Comparison<'_> {
 
     fn examples(&self, tally: &mut Tally) {
         for (title, card, due) in board_examples::loads() {
-            tally.same(title, &due, &self.product.load(&card));
+            tally.same(title, &due, &self.loaded(&card));
         }
         for (title, card, state, letter, due) in board_examples::steps() {
-            tally.same(title, &due, &self.product.step(&card, state, letter));
+            tally.same(title, &due, &self.stepped(&card, state, letter));
         }
         for (title, card, plan, due) in board_examples::judgings() {
-            tally.same(title, &due, &self.product.judge(&card, &plan));
+            tally.same(title, &due, &self.judged(&card, &plan));
         }
         for example in [examples::paper(), examples::reading(), examples::staging()].concat() {
+            if tally.is_over() {
+                return;
+            }
             let Due::Accepted { verdicts, .. } = &example.due else { continue };
             let Ok(accepted) = compile(&example.text, &Lent::plenty()) else { continue };
             self.load(tally, &accepted.card);
@@ -142,28 +146,39 @@ impl Comparison<'_> {
         }
     }
 
-    fn stop(&self, tally: &Tally) -> bool {
-        self.effort.first_only && tally.failed > 0
+    fn loaded(&self, card: &[u8]) -> Loaded {
+        last_case::note(|| format!("loading {}", hex(card)));
+        self.product.load(card)
+    }
+
+    fn stepped(&self, card: &[u8], state: usize, letter: u8) -> Stepped {
+        last_case::note(|| format!("a step from state {state} with letter {letter} on {}", hex(card)));
+        self.product.step(card, state, letter)
+    }
+
+    fn judged(&self, card: &[u8], plan: &[u8]) -> Judged {
+        last_case::note(|| format!("judging {} by {}", shown(plan), hex(card)));
+        self.product.judge(card, plan)
     }
 
     fn load(&self, tally: &mut Tally, card: &[u8]) {
-        if self.stop(tally) {
+        if tally.is_over() {
             return;
         }
-        let differs = |card: &[u8]| self.product.load(card) != self.reference.load(card);
+        let differs = |card: &[u8]| self.loaded(card) != self.reference.load(card);
         let failed = differs(card);
         let small = if failed && tally.prints_failures() { shrink(card, 500, differs) } else { card.to_vec() };
         tally.check(!failed, || {
-            let (reference, product) = (self.reference.load(&small), self.product.load(&small));
+            let (reference, product) = (self.reference.load(&small), self.loaded(&small));
             format!("loading {}\n  reference: {reference:?}\n  product:   {product:?}", hex(&small))
         });
     }
 
     fn step(&self, tally: &mut Tally, card: &[u8], state: usize, letter: u8) {
-        if self.stop(tally) {
+        if tally.is_over() {
             return;
         }
-        let (reference, product) = (self.reference.step(card, state, letter), self.product.step(card, state, letter));
+        let (reference, product) = (self.reference.step(card, state, letter), self.stepped(card, state, letter));
         tally.check(reference == product, || {
             let call = format!("a step from state {state} with letter {letter} on {}", hex(card));
             format!("{call}\n  reference: {reference:?}\n  product:   {product:?}")
@@ -171,14 +186,14 @@ impl Comparison<'_> {
     }
 
     fn judge(&self, tally: &mut Tally, card: &[u8], plan: &[u8]) {
-        if self.stop(tally) {
+        if tally.is_over() {
             return;
         }
-        let differs = |plan: &[u8]| self.product.judge(card, plan) != self.reference.judge(card, plan);
+        let differs = |plan: &[u8]| self.judged(card, plan) != self.reference.judge(card, plan);
         let failed = differs(plan);
         let small = if failed && tally.prints_failures() { shrink(plan, 500, differs) } else { plan.to_vec() };
         tally.check(!failed, || {
-            let (reference, product) = (self.reference.judge(card, &small), self.product.judge(card, &small));
+            let (reference, product) = (self.reference.judge(card, &small), self.judged(card, &small));
             let call = format!("judging {} by {}", shown(&small), hex(card));
             format!("{call}\n  reference: {reference:?}\n  product:   {product:?}")
         });

@@ -3,6 +3,8 @@
 use crate::effort::Effort;
 use crate::entry::{Buffer, CompileEntry, Compiled, Reference, Request};
 use crate::examples::{self, Due, Example};
+use crate::extra_books;
+use crate::last_case;
 use crate::limits;
 use crate::random_books;
 use crate::rng::Rng;
@@ -47,6 +49,11 @@ impl Comparison<'_> {
                 for expression in [left, right] {
                     self.text(tally, expression, format!(":abc\n>{expression}/.*a_@|{expression}\n").as_bytes());
                 }
+            }
+        });
+        tally.group("compile: further books", |tally| {
+            for (name, text) in extra_books::all() {
+                self.text(tally, &name, &text);
             }
         });
         tally.group("compile: each work buffer exact and one short", |tally| self.benches(tally));
@@ -128,11 +135,11 @@ impl Comparison<'_> {
 
     /// The product against the written result itself, then the reference.
     fn example(&self, tally: &mut Tally, example: &Example) {
-        if self.stop(tally) {
+        if tally.is_over() {
             return;
         }
         let request = self.request(&example.text);
-        let found = self.product.compile(&request);
+        let found = self.answer(&request);
         let fits = match &example.due {
             Due::Refused { number, line } => (found.number, found.line) == (u64::from(*number), *line as u64),
             Due::Accepted { peak, card, .. } => {
@@ -147,16 +154,20 @@ impl Comparison<'_> {
         self.compare(tally, example.title, &request);
     }
 
-    fn stop(&self, tally: &Tally) -> bool {
-        self.effort.first_only && tally.failed > 0
+    fn answer(&self, request: &Request) -> Compiled {
+        last_case::note(|| {
+            let (text, bench, card) = (shown(&request.text), &request.bench, request.card_length);
+            format!("compiling {text}\n  lent: {bench:?}, card buffer {card}, rubbish {}", request.rubbish)
+        });
+        self.product.compile(request)
     }
 
     fn agrees(&self, request: &Request) -> bool {
-        self.product.compile(request) == self.reference.compile(request)
+        self.answer(request) == self.reference.compile(request)
     }
 
     fn compare(&self, tally: &mut Tally, title: &str, request: &Request) {
-        if self.stop(tally) {
+        if tally.is_over() {
             return;
         }
         let agrees = self.agrees(request);
@@ -176,7 +187,7 @@ impl Comparison<'_> {
                 small.card_length,
                 small.rubbish,
                 told(&self.reference.compile(&small)),
-                told(&self.product.compile(&small)),
+                told(&self.answer(&small)),
             )
         });
     }

@@ -3,6 +3,7 @@
 use crate::effort::Effort;
 use crate::examples;
 use crate::expected_output::{card_or_line, verdicts, written_out};
+use crate::extra_books;
 use crate::limits;
 use crate::program::{Handing, Program, WorkingDirectory};
 use crate::random_books;
@@ -17,13 +18,13 @@ use reference::reader::LONGEST_TEXT;
 
 /// The judging program.
 pub fn judge(tally: &mut Tally, program: &Program, effort: Effort) {
-    let judge = Judge { program, place: WorkingDirectory::new(), effort };
+    let judge = Judge { program, place: WorkingDirectory::new() };
     if effort.fixed {
         judge.fixed(tally);
     }
     tally.group("programs: random cards and plans", |tally| {
         let mut rng = tally.rng("programs: random cards and plans");
-        for _ in 0..effort.of(400) {
+        for _ in 0..effort.of(300) {
             judge.random(tally, &mut rng);
         }
     });
@@ -32,7 +33,6 @@ pub fn judge(tally: &mut Tally, program: &Program, effort: Effort) {
 struct Judge<'p> {
     program: &'p Program,
     place: WorkingDirectory,
-    effort: Effort,
 }
 
 impl Judge<'_> {
@@ -158,7 +158,7 @@ impl Judge<'_> {
     }
 
     fn compare(&self, tally: &mut Tally, card: Option<&[u8]>, input: &[u8], handing: Handing) {
-        if self.effort.first_only && tally.failed > 0 {
+        if tally.is_over() {
             return;
         }
         self.place.set_board(card);
@@ -188,13 +188,13 @@ fn text_of(bytes: Vec<u8>) -> String {
 
 /// The compiling program.
 pub fn compiler(tally: &mut Tally, program: &Program, effort: Effort) {
-    let compiler = Compiler { program, place: WorkingDirectory::new(), effort };
+    let compiler = Compiler { program, place: WorkingDirectory::new() };
     if effort.fixed {
         compiler.fixed(tally);
     }
     tally.group("programs: random and damaged books", |tally| {
         let mut rng = tally.rng("programs: random and damaged books");
-        for case in 0..effort.of(800) {
+        for case in 0..effort.of(500) {
             let text = random_books::book(&mut rng);
             let text = if case % 2 == 0 { text } else { random_books::damaged(&mut rng, &text) };
             compiler.compare(tally, &text, Handing::AtOnce);
@@ -205,7 +205,6 @@ pub fn compiler(tally: &mut Tally, program: &Program, effort: Effort) {
 struct Compiler<'p> {
     program: &'p Program,
     place: WorkingDirectory,
-    effort: Effort,
 }
 
 impl Compiler<'_> {
@@ -213,6 +212,11 @@ impl Compiler<'_> {
         tally.group("programs: compiling, examples", |tally| {
             for example in [examples::paper(), examples::reading(), examples::staging()].concat() {
                 self.compare(tally, &example.text, Handing::AtOnce);
+            }
+        });
+        tally.group("programs: compiling, further books", |tally| {
+            for (_, text) in extra_books::all() {
+                self.compare(tally, &text, Handing::AtOnce);
             }
         });
         tally.group("programs: compiling, limits", |tally| {
@@ -240,7 +244,7 @@ impl Compiler<'_> {
     }
 
     fn compare(&self, tally: &mut Tally, text: &[u8], handing: Handing) {
-        if self.effort.first_only && tally.failed > 0 {
+        if tally.is_over() {
             return;
         }
         let run = |text: &[u8]| self.program.run(&self.place, text, handing);

@@ -6,17 +6,15 @@ pub struct Effort {
     pub fixed: bool,
     /// Random cases, in percent of the usual number.
     pub percent: usize,
-    /// Stop at the first failure.
-    pub first_only: bool,
 }
 
 impl Effort {
     /// The usual run.
-    pub const USUAL: Effort = Effort { fixed: true, percent: 100, first_only: false };
+    pub const USUAL: Effort = Effort { fixed: true, percent: 100 };
     /// A further round of a long run: new random cases only.
-    pub const ROUND: Effort = Effort { fixed: false, percent: 100, first_only: false };
+    pub const ROUND: Effort = Effort { fixed: false, percent: 100 };
     /// To find a planted fault.
-    pub const HUNT: Effort = Effort { fixed: true, percent: 4, first_only: true };
+    pub const HUNT: Effort = Effort { fixed: true, percent: 4 };
 
     pub fn of(self, usual: usize) -> usize {
         usual * self.percent / 100

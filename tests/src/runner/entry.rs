@@ -5,7 +5,10 @@
 
 use crate::rng::Rng;
 use reference::board::{self, Refused, Verdict};
-use reference::compile::{self, Lent};
+use reference::compile::{self, Accepted, Lent};
+use reference::refusal::Refusal;
+use std::cell::RefCell;
+use std::collections::HashMap;
 
 /// What loading answers.
 #[derive(Clone, PartialEq, Eq, Debug)]
@@ -119,12 +122,36 @@ impl CompileEntry for Reference {
     fn compile(&self, request: &Request) -> Compiled {
         let needed = self.bench.iter().map(|buffer| buffer.needed);
         let lent = Lent { bench: needed.zip(request.bench.iter().copied()).collect(), card: request.card_length };
-        answer(request, compile::compile(&request.text, &lent))
+        answer(request, remembered(&request.text, lent))
     }
 }
 
+type Outcome = Result<Accepted, Refusal>;
+
+thread_local! {
+    static ANSWERS: RefCell<HashMap<(Vec<u8>, Lent), Outcome>> = RefCell::new(HashMap::new());
+}
+
+/// The reference's result. It is remembered, since every hunt after a planted
+/// fault asks for the same ones.
+fn remembered(text: &[u8], lent: Lent) -> Outcome {
+    const MOST: usize = 4000;
+    let key = (text.to_vec(), lent);
+    if let Some(outcome) = ANSWERS.with_borrow(|answers| answers.get(&key).cloned()) {
+        return outcome;
+    }
+    let outcome = compile::compile(text, &key.1);
+    ANSWERS.with_borrow_mut(|answers| {
+        if answers.len() >= MOST {
+            answers.clear();
+        }
+        answers.insert(key, outcome.clone());
+    });
+    outcome
+}
+
 /// A result of the reference as the numbers and the buffer that are due.
-pub fn answer(request: &Request, result: Result<compile::Accepted, reference::refusal::Refusal>) -> Compiled {
+pub fn answer(request: &Request, result: Outcome) -> Compiled {
     let mut card_buffer = request.card_before();
     let (number, line, length, peak) = match result {
         Ok(accepted) => {

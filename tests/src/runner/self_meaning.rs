@@ -4,6 +4,7 @@
 //! by derivatives. Neither way makes a stage.
 
 use crate::effort::Effort;
+use crate::extra_books;
 use crate::grammar;
 use crate::random_books;
 use crate::random_cards;
@@ -25,6 +26,15 @@ pub fn run(tally: &mut Tally, effort: Effort) {
         for case in 0..effort.of(2000) {
             let text = random_books::book(&mut rng);
             card_by_derivatives(tally, &text, case);
+        }
+    });
+    tally.group("reference: further books by derivatives", |tally| {
+        if !effort.fixed {
+            return;
+        }
+        for (name, text) in extra_books::all() {
+            let agrees = agrees_by_derivatives(&text);
+            tally.check(agrees != Some(false), || format!("{name}: stages and derivatives give two cards"));
         }
     });
     tally.group("reference: cards by trying all short plans", |tally| {

@@ -16,10 +16,13 @@ use reference::derivative::Derivatives;
 use reference::minimise::minimise;
 use reference::reader;
 
+/// Planted faults are looked for with the same cases in every run.
+const SEED: u64 = 1;
+
 pub fn run(tally: &mut Tally) {
     tally.group("reference: faults planted in compilers are found", |tally| {
         let hunt = |planted: &planted_compilers::Planted| {
-            let mut found = Tally::quiet(tally_seed());
+            let mut found = Tally::hunting(SEED);
             compare_compile::run(&mut found, planted, Effort::HUNT);
             found.failed
         };
@@ -30,7 +33,7 @@ pub fn run(tally: &mut Tally) {
     });
     tally.group("reference: faults planted in boards are found", |tally| {
         let hunt = |planted: &planted_boards::Planted| {
-            let mut found = Tally::quiet(tally_seed());
+            let mut found = Tally::hunting(SEED);
             compare_board::run(&mut found, planted, Effort::HUNT);
             found.failed
         };
@@ -46,25 +49,20 @@ pub fn run(tally: &mut Tally) {
             arguments: vec!["--act".into(), part.into(), fault.into()],
         };
         for fault in acting::JUDGING {
-            let mut found = Tally::quiet(tally_seed());
+            let mut found = Tally::hunting(SEED);
             compare_programs::judge(&mut found, &acting("judge", fault), Effort::HUNT);
             tally.check((found.failed > 0) == (*fault != "none"), || format!("judging program: {fault}"));
         }
         for fault in acting::COMPILING {
-            let mut found = Tally::quiet(tally_seed());
+            let mut found = Tally::hunting(SEED);
             compare_programs::compiler(&mut found, &acting("compile", fault), Effort::HUNT);
             tally.check((found.failed > 0) == (*fault != "none"), || format!("compiling program: {fault}"));
         }
-        let mut found = Tally::quiet(tally_seed());
+        let mut found = Tally::hunting(SEED);
         compare_programs::both(&mut found, &acting("compile", "none"), &acting("judge", "none"), Effort::HUNT);
         tally.same("both programs without a fault", &0, &found.failed);
     });
     tally.group("reference: wrong recipes are found by derivatives", wrong_recipes);
-}
-
-/// Planted faults are looked for with the same cases in every run.
-fn tally_seed() -> u64 {
-    1
 }
 
 fn wrong_recipes(tally: &mut Tally) {

@@ -10,17 +10,23 @@ pub struct Tally {
     pub passed: usize,
     pub failed: usize,
     pub seed: u64,
-    loud: bool,
+    /// Prints nothing and is content with the first failure.
+    hunting: bool,
 }
 
 impl Tally {
     pub fn new(seed: u64) -> Tally {
-        Tally { passed: 0, failed: 0, seed, loud: true }
+        Tally { passed: 0, failed: 0, seed, hunting: false }
     }
 
-    /// Counts without printing.
-    pub fn quiet(seed: u64) -> Tally {
-        Tally { passed: 0, failed: 0, seed, loud: false }
+    /// For a hunt after a planted fault.
+    pub fn hunting(seed: u64) -> Tally {
+        Tally { passed: 0, failed: 0, seed, hunting: true }
+    }
+
+    /// Whether a hunt has found what it was after.
+    pub fn is_over(&self) -> bool {
+        self.hunting && self.failed > 0
     }
 
     /// A source of random numbers that the seed and the title fix.
@@ -30,17 +36,20 @@ impl Tally {
     }
 
     pub fn group(&mut self, title: &str, cases: impl FnOnce(&mut Tally)) {
+        if self.is_over() {
+            return;
+        }
         let (passed, failed, since) = (self.passed, self.failed, Instant::now());
         cases(self);
-        if self.loud {
-            let (passed, failed) = (self.passed - passed, self.failed - failed);
+        let (passed, failed) = (self.passed - passed, self.failed - failed);
+        if !self.hunting && passed + failed > 0 {
             let seconds = since.elapsed().as_secs_f64();
             println!("{title}: {passed} passed, {failed} failed ({seconds:.1} s)");
         }
     }
 
     pub fn skip(&self, title: &str, why: &str) {
-        if self.loud {
+        if !self.hunting {
             println!("{title}: skipped, {why}");
         }
     }
@@ -52,7 +61,7 @@ impl Tally {
             return;
         }
         self.failed += 1;
-        if self.loud && self.failed <= PRINTED {
+        if !self.hunting && self.failed <= PRINTED {
             println!("FAILED (seed {}) {}", self.seed, report());
         }
     }
@@ -65,19 +74,26 @@ impl Tally {
     /// Whether a failure would still be printed, so that it is worth the
     /// time to make it small.
     pub fn prints_failures(&self) -> bool {
-        self.loud && self.failed < PRINTED
+        !self.hunting && self.failed < PRINTED
     }
 }
 
-/// Bytes as text, with escapes; long ones are cut.
+/// Bytes as text, with escapes; a long run of one byte is told by its
+/// length, and what is too long is cut.
 pub fn shown(bytes: &[u8]) -> String {
-    let longest = 600;
-    let text = bytes[..bytes.len().min(longest)].escape_ascii().to_string();
-    if bytes.len() > longest {
-        format!("\"{text}...\" ({} bytes)", bytes.len())
-    } else {
-        format!("\"{text}\"")
+    let (longest, long_run) = (800, 24);
+    let mut text = String::new();
+    for run in bytes.chunk_by(|one, other| one == other) {
+        if run.len() >= long_run {
+            text += &format!("<{} times {}>", run.len(), run[..1].escape_ascii());
+        } else {
+            text += &run.escape_ascii().to_string();
+        }
+        if text.len() > longest {
+            return format!("\"{text}...\" ({} bytes)", bytes.len());
+        }
     }
+    format!("\"{text}\"")
 }
 
 /// Bytes in hexadecimal; long ones are cut.
