@@ -74,6 +74,7 @@ impl Comparison<'_> {
                     self.text(tally, &format!("{length} bytes"), &text);
                 }
             }
+            self.text(tally, "many stages of 512 sets", &limits::many_crowds());
             self.text(tally, "100,000 bytes", &[b"\n".repeat(100_000), b">a".to_vec()].concat());
         });
     }

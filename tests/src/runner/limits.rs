@@ -22,12 +22,13 @@ fn multiple(count: usize, x: char, y: char) -> String {
     format!("({y}|{spread})*")
 }
 
-/// 511, 512 and 513 sets in each kind of stage (the last of the three is
-/// crowded), 120 and 121 states (the last of the two is oversize).
+/// Up to 512 sets and over it in each kind of stage (over it is crowded), 120
+/// and 121 states (the second is oversize).
 pub fn stages() -> Vec<Limit> {
     use Nearest::{Sets, States};
     let pair = |left: String, right: String| format!(":ab\n=A{left}\n=B{right}\n=CA&B\n>a\n");
     let counted = |p: usize, x, y| multiple(p, x, y);
+    let whole_days = |p, q| format!(":a\n{}{}", whole_day(p), whole_day(q));
     let listed = vec![
         (pair(counted(17, 'a', 'b') + "aa", counted(26, 'b', 'a') + "b"), Sets("&", 511)),
         (pair(counted(18, 'a', 'b') + "a", counted(26, 'b', 'a') + "b"), Sets("&", 512)),
@@ -37,6 +38,11 @@ pub fn stages() -> Vec<Limit> {
         (format!(":a\n=A({})*&({})*\n>a\n", a(19), a(27)), Sets("&", 514)),
         (format!(":a\n=A({})*|({})*\n>a\n", a(7), a(73)), Sets("|", 512)),
         (format!(":a\n=A({})*-({})*\n>a\n", a(7), a(73)), Sets("-", 512)),
+        (whole_days(17, 30), Sets("&", 511)),
+        (whole_days(7, 73), Sets("&", 512)),
+        (whole_days(19, 27), Sets("&", 514)),
+        (format!(":a\n>aa/({})*_.*/({})*_.*\n", a(7), a(71)), Sets("-", 510)),
+        (format!(":a\n>a/({})*_.*/({})*_.*\n", a(8), a(63)), Sets("-", 514)),
         (":ab\n=A(.(b|(b....)*)(.&a)(bbb)*)*\n>a\n".into(), Sets("*", 511)),
         (":ab\n>((a!(aaaa)(aaabb)*)*bbbbb....)*\n".into(), Sets("*", 512)),
         (":ab\n=A(((a&b)|b)bbbb!(..)b....aaa)*\n>a\n".into(), Sets("*", 513)),
@@ -62,10 +68,20 @@ pub fn stages() -> Vec<Limit> {
     listed.into_iter().map(|(text, nearest): (String, _)| Limit { text: text.into_bytes(), nearest }).collect()
 }
 
+/// A rule that the whole day is a multiple of so many letters a.
+fn whole_day(count: usize) -> String {
+    format!(">@/@_({})*/.+_.*\n", a(count))
+}
+
 /// The book with the longest card there is.
 pub fn longest_card_book() -> Vec<u8> {
-    let whole_day = |count| format!(">@/@_({})*/.+_.*\n", a(count));
     let text = format!(":abcdefghijklmnopqrstuvwxyz\n{}{}", whole_day(7), whole_day(17));
+    text.into_bytes()
+}
+
+/// A book with many stages of 512 sets each.
+pub fn many_crowds() -> Vec<u8> {
+    let text = format!(":ab\n=A(a!(aaaa)(aaabb)*)*bbbbb....\n>{}\n", vec!["A*"; 40].join("|"));
     text.into_bytes()
 }
 

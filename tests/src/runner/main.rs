@@ -25,6 +25,7 @@ mod random_books;
 mod random_cards;
 mod rng;
 mod self_board;
+mod self_coverage;
 mod self_examples;
 mod self_meaning;
 mod self_planted;
@@ -109,6 +110,7 @@ fn run(tally: &mut Tally, options: &Options, effort: Effort) {
         if effort.fixed {
             self_examples::run(tally);
             self_planted::run(tally);
+            self_coverage::run(tally);
         }
         self_meaning::run(tally, effort);
         self_board::run(tally, effort);

@@ -20,7 +20,7 @@ pub fn book(rng: &mut Rng) -> Vec<u8> {
         },
         names: Vec::new(),
         spaces: rng.once_in(4),
-        heavy: flavour >= 13,
+        heavy: flavour >= 12,
         out: Vec::new(),
     };
     writer.out.push(b':');
@@ -80,7 +80,7 @@ impl Writer {
         let name = *rng.pick(&free);
         self.out.push(b'=');
         self.put(rng, name);
-        let size = rng.between(1, if self.heavy { 12 } else { 7 });
+        let size = rng.between(1, if self.heavy { 16 } else { 7 });
         self.choice(rng, size, 0);
         self.end_line(rng);
         self.names.push(name);
@@ -88,7 +88,7 @@ impl Writer {
 
     fn rule(&mut self, rng: &mut Rng) {
         self.out.push(b'>');
-        let size = rng.between(1, if self.heavy { 9 } else { 5 });
+        let size = rng.between(1, if self.heavy { 12 } else { 5 });
         self.choice(rng, size, 0);
         let contexts = *rng.pick(&[0, 1, 1, 1, 1, 2, 2, 2, 3, 4]);
         for _ in 0..contexts {
@@ -216,7 +216,7 @@ fn damage(rng: &mut Rng, text: &mut Vec<u8>) {
         return;
     }
     let place = rng.below(text.len());
-    match rng.below(12) {
+    match rng.below(15) {
         0..=3 => text[place] = byte,
         4..=6 => text.insert(place, byte),
         7..=8 => {
@@ -226,6 +226,13 @@ fn damage(rng: &mut Rng, text: &mut Vec<u8>) {
         10 => {
             let other = rng.below(text.len());
             text.swap(place, other);
+        }
+        11 | 12 => {
+            // Near the limits that count one sign along a line.
+            let sign = *rng.pick(b"((_");
+            for _ in 0..rng.between(2, 6) {
+                text.insert(place, sign);
+            }
         }
         _ => {
             let lines: Vec<Vec<u8>> = text.split_inclusive(|&byte| byte == b'\n').map(<[u8]>::to_vec).collect();

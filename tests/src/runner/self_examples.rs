@@ -133,6 +133,9 @@ fn long_texts_and_cards(tally: &mut Tally) {
         let found = compile(&text, &Lent::plenty());
         tally.same(&shown(&text), &Err(Refusal::of_book(1)), &found);
     }
+    let crowds = compile_traced(&limits::many_crowds()).1;
+    let greatest = crowds.iter().filter(|stage| stage.sets == LIMITS.sets).count();
+    tally.check(greatest >= 40, || format!("{greatest} stages of 512 sets"));
     match compile(&limits::longest_card_book(), &Lent::plenty()) {
         Err(refusal) => tally.check(false, || format!("the book of the longest card: {refusal:?}")),
         Ok(accepted) => {

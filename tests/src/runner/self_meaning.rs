@@ -33,8 +33,9 @@ pub fn run(tally: &mut Tally, effort: Effort) {
             return;
         }
         for (name, text) in extra_books::all() {
-            let agrees = agrees_by_derivatives(&text);
-            tally.check(agrees != Some(false), || format!("{name}: stages and derivatives give two cards"));
+            // Where the derivatives are too many, short plans have to do.
+            let agrees = agrees_by_derivatives(&text).unwrap_or_else(|| wrong_by_short_plans(&text).is_none());
+            tally.check(agrees, || format!("{name}: its card isn't that of its meaning"));
         }
     });
     tally.group("reference: cards by trying all short plans", |tally| {
