@@ -54,19 +54,21 @@ mod board {
             }
         }
 
-        /// out: number; with number 0 the verdict (0, 1, 2) and the hopeless
-        /// place; with number 27 the letters before the foreign one.
+        /// out: number, verdict, place; with number 0 the verdict is a marks
+        /// byte (1 allowed, 0 unfinished, 2 hopeless) and the place that of
+        /// hopeless; with number 27 the place is the letters before the
+        /// foreign one.
         fn judge(&self, card: &[u8], plan: &[u8]) -> Judged {
-            let mut out = [UNSET; 4];
+            let mut out = [UNSET; 3];
             unsafe {
                 pier_judge(card.as_ptr(), card.len(), plan.as_ptr(), plan.len(), out.as_mut_ptr(), out.len())
             };
             match out {
-                [0, 0, ..] => Judged::Allowed,
-                [0, 1, ..] => Judged::Unfinished,
-                [0, 2, place, _] => Judged::Hopeless(place),
+                [0, 1, 0] => Judged::Allowed,
+                [0, 0, 0] => Judged::Unfinished,
+                [0, 2, place] => Judged::Hopeless(place),
                 [0, ..] => Judged::Unknown(out.to_vec()),
-                [27, before, ..] => Judged::ForeignLetter { before },
+                [27, 0, before] => Judged::ForeignLetter { before },
                 [number, ..] => Judged::Refused(number),
             }
         }
