@@ -1,7 +1,7 @@
 //! `pier check`: load's answer in words.
 
 use crate::proved::{self, Loaded};
-use crate::{files, read_card, refused_card, Arguments, Done, Status};
+use crate::{count, files, read_card, refused_card, Arguments, Done, Status};
 
 pub const HELP: &str = "\
 usage: pier check CARD
@@ -16,7 +16,12 @@ pub fn run(arguments: &Arguments) -> Done {
     let path = &arguments.files[0];
     match proved::load(&read_card(path)?) {
         Loaded::Card { letters, states } => {
-            let text = format!("{}: loads, with {letters} letters and {states} states\n", path.display());
+            let (letters, states) = (count(letters, "letter"), count(states, "state"));
+            let text = format!(
+                "{}: loads, with {letters} and {states}
+",
+                files::shown(path)
+            );
             files::print(text.as_bytes()).map(|()| Status::Fine)
         }
         Loaded::Refused(number) => {

@@ -1,7 +1,7 @@
 //! `pier compare`: did a season change anything? It proposes no plan.
 
 use crate::card::{self, Table};
-use crate::{files, read_card, refused_card, Arguments, Done, Status};
+use crate::{count, files, read_card, refused_card, Arguments, Done, Status};
 
 pub const HELP: &str = "\
 usage: pier compare OLD NEW
@@ -28,12 +28,13 @@ pub fn run(arguments: &Arguments) -> Done {
     let mut text = String::new();
     for (path, bytes, table) in &cards {
         text += &format!(
-            "{}: {} letters ({}), {} states, {} bytes\n",
-            path.display(),
-            table.letters.len(),
+            "{}: {} ({}), {}, {}
+",
+            files::shown(path),
+            count(table.letters.len(), "letter"),
             card::spaced(&table.letters),
-            table.marks.len(),
-            bytes.len()
+            count(table.marks.len(), "state"),
+            count(bytes.len(), "byte")
         );
     }
     let same = cards[0].1 == cards[1].1;

@@ -60,7 +60,7 @@ fn envelope(bytes: &[u8], peak: u64) -> Result<String, Failure> {
 fn refused(book: &Path, text: &[u8], number: u64, line: usize) -> String {
     let entry = refusal::of(number);
     let place = if line == 0 { String::new() } else { format!(", line {line}") };
-    let mut message = format!("{}: refused {number} ({}){place}: {}\n", book.display(), entry.word, entry.when);
+    let mut message = format!("{}: refused {number} ({}){place}: {}\n", files::shown(book), entry.word, entry.when);
     let hint = hint::hint(text, number, line);
     if let Some((bytes, _)) = hint::line_of(text, line) {
         message += &hint::picture(line, bytes, hint.as_ref().and_then(|hint| hint.column));

@@ -11,6 +11,15 @@ pub fn is_dash(path: &Path) -> bool {
     path.as_os_str() == "-"
 }
 
+/// A file's name in a message.
+pub fn shown(path: &Path) -> String {
+    if is_dash(path) {
+        "standard input".into()
+    } else {
+        path.display().to_string()
+    }
+}
+
 /// At most `most` bytes of a file.
 pub fn read(path: &Path, most: usize) -> Result<Vec<u8>, Failure> {
     let mut bytes = Vec::new();
@@ -51,7 +60,7 @@ fn name_beside(path: &Path) -> Option<PathBuf> {
 }
 
 pub fn trouble(what: &str, path: &Path, error: &io::Error) -> Failure {
-    Failure::Trouble(format!("can't {what} {}: {error}", path.display()))
+    Failure::Trouble(format!("can't {what} {}: {error}", shown(path)))
 }
 
 /// Prints to standard output; a reader that went away ends the program quietly.

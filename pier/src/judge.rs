@@ -1,7 +1,7 @@
 //! `pier judge`: plans, one a line, and the board's reply to each.
 
 use crate::proved::{self, Judged, Loaded};
-use crate::{files, read_card, refused_card, Arguments, Done, Failure, Status};
+use crate::{count, files, read_card, refused_card, Arguments, Done, Failure, Status};
 use std::fs::File;
 use std::io::{self, BufRead, BufReader, BufWriter, IsTerminal, Read, Write};
 use std::path::Path;
@@ -92,6 +92,18 @@ fn write_reply(out: &mut impl Write, plan: &[u8], judged: Judged, explain: bool)
     }
 }
 
+/// The byte that is not on the card, in words.
+fn foreign(plan: &[u8], before: usize) -> String {
+    let place = count(before, "letter");
+    match plan.get(before) {
+        Some(b'\r') => format!("byte 0x0D after {place}: the file has the line ends of Windows"),
+        Some(b' ') => format!("a space after {place}: a plan has letters only"),
+        Some(&byte @ 0x21..=0x7E) => format!("{} after {place} is not on the card", byte as char),
+        Some(byte) => format!("byte 0x{byte:02X} after {place} is not on the card"),
+        None => format!("after {place}"),
+    }
+}
+
 /// The refused plans: how many, and the first one in words.
 #[derive(Default)]
 struct Refused {
@@ -102,12 +114,7 @@ struct Refused {
 impl Refused {
     fn note(&mut self, line: u64, plan: &[u8], judged: Judged) {
         let what = match judged {
-            Judged::UnknownLetter { before } => match plan[before as usize] {
-                b'\r' => format!("byte 0x0D after {before} letters: the file has the line ends of Windows"),
-                byte @ 0x21..=0x7E => format!("{} after {before} letters is not on the card", byte as char),
-                b' ' => format!("a space after {before} letters; a plan has letters only"),
-                byte => format!("byte 0x{byte:02X} after {before} letters is not on the card"),
-            },
+            Judged::UnknownLetter { before } => foreign(plan, before as usize),
             Judged::Refused(number) => format!("number {number}"),
             _ => return,
         };
@@ -120,7 +127,7 @@ impl Refused {
     fn message(&self, plans: u64) -> String {
         match self.count {
             0 => String::new(),
-            count => format!("pier: {count} of {plans} plans refused; {}\n", self.first),
+            refused => format!("pier: {refused} of {} refused; {}\n", count(plans as usize, "plan"), self.first),
         }
     }
 }
@@ -156,9 +163,9 @@ impl Progress {
     fn line(&self) -> String {
         match self.length {
             Some(length) if length > 0 => {
-                format!("{} plans judged, {} %", self.plans, (self.bytes.min(length) * 100) / length)
+                format!("{} judged, {} %", count(self.plans as usize, "plan"), (self.bytes.min(length) * 100) / length)
             }
-            _ => format!("{} plans judged", self.plans),
+            _ => format!("{} judged", count(self.plans as usize, "plan")),
         }
     }
 
@@ -206,8 +213,8 @@ mod tests {
     fn progress_in_words() {
         let mut progress = Progress { plans: 0, bytes: 0, length: Some(6), shown: false, due: None };
         progress.judged(3);
-        assert_eq!(progress.line(), "1 plans judged, 50 %");
+        assert_eq!(progress.line(), "1 plan judged, 50 %");
         progress.length = None;
-        assert_eq!(progress.line(), "1 plans judged");
+        assert_eq!(progress.line(), "1 plan judged");
     }
 }

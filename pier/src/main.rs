@@ -167,7 +167,13 @@ pub fn read_card(path: &Path) -> Result<Vec<u8>, Failure> {
 /// The message for a card that is refused.
 pub fn refused_card(path: &Path, number: u64) -> String {
     let refusal = refusal::of(number);
-    format!("{}: refused {number} ({}): {}\n  {}\n", path.display(), refusal.word, refusal.when, refusal.advice)
+    let name = files::shown(path);
+    format!("{name}: refused {number} ({}): {}\n  advice: {}\n", refusal.word, refusal.when, refusal.advice)
+}
+
+/// A number and its noun: 1 state, 2 states.
+pub fn count(number: usize, noun: &str) -> String {
+    format!("{number} {noun}{}", if number == 1 { "" } else { "s" })
 }
 
 #[cfg(test)]
@@ -177,6 +183,11 @@ mod tests {
     fn parsed(line: &str) -> Result<Arguments, Failure> {
         let words: Vec<OsString> = line.split_whitespace().map(OsString::from).collect();
         parse(find(&words[0]).expect("a command"), &words[1..])
+    }
+
+    #[test]
+    fn one_thing_or_several() {
+        assert_eq!((count(1, "state"), count(2, "state")), ("1 state".into(), "2 states".into()));
     }
 
     #[test]
