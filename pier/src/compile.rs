@@ -19,7 +19,7 @@ pub fn run(arguments: &Arguments) -> Done {
     let output = arguments.output()?;
     let text = files::read(book, LONGEST_BOOK + 1)?;
     let compiled = proved::compile(&text)
-        .ok_or_else(|| Failure::Trouble("this build holds no compiler: build it with pier/build".into()))?;
+        .ok_or_else(|| Failure::Trouble("this pier was built over a library without a compiler".into()))?;
     match compiled {
         Compiled::Refused { number, line } => {
             files::complain(&refused(book, &text, number, line as usize));

@@ -70,7 +70,8 @@ fn picture(text: &[u8]) -> io::Result<Vec<u8>> {
 fn dot(table: &Table, name: &str) -> String {
     let name: String = name.chars().filter(|c| !c.is_control() && !"\"\\".contains(*c)).collect();
     let mut text = String::from("digraph card {\n  rankdir=LR;\n");
-    text += &format!("  label=\"{name}: double ring, the plan may end; grey box, hopeless\";\n");
+    text +=
+        &format!("  label=\"{name}. Double ring: the plan may end; single ring: on the way; grey box: hopeless\";\n");
     text += "  node [fontname=\"sans-serif\"];\n  edge [fontname=\"sans-serif\"];\n";
     text += "  start [shape=point, style=invis];\n  start -> 0;\n";
     for (state, &mark) in table.marks.iter().enumerate() {
@@ -89,7 +90,7 @@ fn dot(table: &Table, name: &str) -> String {
         }
     }
     for ((state, next), letters) in arrows {
-        let pale = if table.marks[next] == card::HOPELESS { ", color=grey, fontcolor=grey" } else { "" };
+        let pale = if table.marks[next] == card::HOPELESS { ", color=grey60, fontcolor=grey40" } else { "" };
         text += &format!("  {state} -> {next} [label=\"{}\"{pale}];\n", card::ranges(&letters));
     }
     text + "}\n"
@@ -104,12 +105,12 @@ mod tests {
         let table = card::table(&card::FIRST_CARD).ok().expect("it loads");
         let text = dot(&table, "a\"b");
         for part in [
-            "label=\"ab: ",
+            "label=\"ab. ",
             "start -> 0;",
             "0 [shape=doublecircle]",
             "2 [shape=box, style=filled",
             "0 -> 1 [label=\"a\"];",
-            "0 -> 2 [label=\"b\", color=grey, fontcolor=grey];",
+            "0 -> 2 [label=\"b\", color=grey60, fontcolor=grey40];",
             "1 -> 0 [label=\"b\"];",
             "2 -> 2 [label=\"a b\"",
         ] {

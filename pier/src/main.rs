@@ -116,7 +116,7 @@ fn dispatch(arguments: &[OsString]) -> Done {
     let Some((name, rest)) = arguments.split_first() else {
         return Err(Failure::Usage("which command?".into()));
     };
-    if is_help(name) {
+    if is_help(name) || name == "help" {
         return files::print(HELP.as_bytes()).map(|()| Status::Fine);
     }
     let command = find(name).ok_or_else(|| Failure::Usage(format!("no command {}", name.to_string_lossy())))?;
@@ -128,7 +128,7 @@ fn dispatch(arguments: &[OsString]) -> Done {
 }
 
 fn is_help(argument: &OsString) -> bool {
-    argument == "--help" || argument == "-h" || argument == "help"
+    argument == "--help" || argument == "-h"
 }
 
 fn parse(command: &Command, rest: &[OsString]) -> Result<Arguments, Failure> {
