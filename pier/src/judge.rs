@@ -1,7 +1,7 @@
 //! `pier judge`: plans, one a line, and the board's reply to each.
 
 use crate::proved::{self, Judged, Loaded};
-use crate::{count, files, read_card, refused_card, Arguments, Done, Failure, Status};
+use crate::{count, files, read_card, refusal, refused_card, Arguments, Done, Failure, Status};
 use std::fs::File;
 use std::io::{self, BufRead, BufReader, BufWriter, IsTerminal, Read, Write};
 use std::path::Path;
@@ -17,7 +17,8 @@ a reply for each:
   hopeless K    no allowed plan begins with the first K letters
   refused 27    a letter that is not on the card
 An empty line is the empty plan. --explain prints the plan before each reply,
-with a ! after the first K letters of a hopeless one.
+with a ! behind the first K letters of a hopeless one, and a ? before a letter
+that is not on the card.
 Status: 0 all judged, 1 the card or a plan refused, 2 wrong usage or a file that
 can't be read.
 ";
@@ -72,16 +73,15 @@ pub fn run(arguments: &Arguments) -> Done {
 
 fn write_reply(out: &mut impl Write, plan: &[u8], judged: Judged, explain: bool) -> io::Result<()> {
     if explain {
-        let place = match judged {
-            Judged::Hopeless(place) => place as usize,
-            _ => plan.len(),
+        let (place, sign): (u64, &[u8]) = match judged {
+            Judged::Hopeless(place) => (place, b"!"),
+            Judged::UnknownLetter { before } => (before, b"?"),
+            _ => (0, b""),
         };
-        out.write_all(&plan[..place])?;
-        if place < plan.len() || matches!(judged, Judged::Hopeless(_)) {
-            out.write_all(b"!")?;
-            out.write_all(&plan[place..])?;
+        let (before, after) = plan.split_at(place as usize);
+        for part in [before, sign, after, b"\t"] {
+            out.write_all(part)?;
         }
-        out.write_all(b"\t")?;
     }
     match judged {
         Judged::Allowed => out.write_all(b"allowed\n"),
@@ -94,13 +94,13 @@ fn write_reply(out: &mut impl Write, plan: &[u8], judged: Judged, explain: bool)
 
 /// The byte that is not on the card, in words.
 fn foreign(plan: &[u8], before: usize) -> String {
-    let place = count(before, "letter");
+    let place = if before == 0 { "at the beginning".into() } else { format!("after {}", count(before, "letter")) };
     match plan.get(before) {
-        Some(b'\r') => format!("byte 0x0D after {place}: the file has the line ends of Windows"),
-        Some(b' ') => format!("a space after {place}: a plan has letters only"),
-        Some(&byte @ 0x21..=0x7E) => format!("{} after {place} is not on the card", byte as char),
-        Some(byte) => format!("byte 0x{byte:02X} after {place} is not on the card"),
-        None => format!("after {place}"),
+        Some(b'\r') => format!("byte 0x0D {place}: the file has the line ends of Windows"),
+        Some(b' ') => format!("a space {place}: a plan has letters only"),
+        Some(&byte @ 0x21..=0x7E) => format!("{} {place} is not on the card", byte as char),
+        Some(byte) => format!("byte 0x{byte:02X} {place} is not on the card"),
+        None => place,
     }
 }
 
@@ -115,11 +115,11 @@ impl Refused {
     fn note(&mut self, line: u64, plan: &[u8], judged: Judged) {
         let what = match judged {
             Judged::UnknownLetter { before } => foreign(plan, before as usize),
-            Judged::Refused(number) => format!("number {number}"),
+            Judged::Refused(number) => refusal::of(number).when.into(),
             _ => return,
         };
         if self.count == 0 {
-            self.first = format!("the first is plan {line}: refused 27 (foreign letter), {what}");
+            self.first = format!("the first is plan {line}: {what}");
         }
         self.count += 1;
     }
@@ -197,6 +197,7 @@ mod tests {
         assert_eq!(reply(b"bab", true), "b!ab\thopeless 1\n");
         assert_eq!(reply(b"abb", true), "abb!\thopeless 3\n");
         assert_eq!(reply(b"", true), "\tallowed\n");
+        assert_eq!(reply(b"abc", true), "ab?c\trefused 27\n");
     }
 
     #[test]
