@@ -60,7 +60,7 @@ fn picture(text: &[u8]) -> io::Result<Vec<u8>> {
     let sent = child.stdin.take().map_or(Ok(()), |mut input| input.write_all(text));
     let answer = child.wait_with_output()?;
     if !answer.status.success() {
-        return Err(io::Error::new(ErrorKind::Other, format!("{}", answer.status)));
+        return Err(io::Error::other(answer.status.to_string()));
     }
     sent.map(|()| answer.stdout)
 }

@@ -130,18 +130,9 @@ mod entries {
         );
     }
 
-    /// The documented lengths of the lent buffers, in entries.
+    /// What each work buffer is lent, in bytes: none needs more.
     #[cfg(feature = "compile")]
-    mod needed {
-        pub const LOW: usize = 43_706;
-        pub const HIGH: usize = 43_706;
-        pub const REGISTERS: usize = 10_086;
-        pub const STACK: usize = 63_878;
-        pub const ROWS: usize = 62_464;
-        pub const TABLE: usize = 14_336;
-        pub const WORK: usize = 1_536;
-        pub const CODE: usize = 32_832;
-    }
+    const LENT: usize = 65_536;
 
     pub fn load(card: &[u8], out: &mut [u64]) {
         unsafe { pier_load(card.as_ptr(), card.len(), out.as_mut_ptr(), out.len()) }
@@ -162,14 +153,14 @@ mod entries {
 
     #[cfg(feature = "compile")]
     pub fn compile(text: &[u8], card: &mut [u8], out: &mut [u64]) -> bool {
-        let mut low = vec![0u8; needed::LOW];
-        let mut high = vec![0u8; needed::HIGH];
-        let mut registers = vec![0u8; needed::REGISTERS];
-        let mut stack = vec![0u8; needed::STACK];
-        let mut rows = vec![0u8; needed::ROWS];
-        let mut table = vec![0u16; needed::TABLE];
-        let mut work = vec![0u16; needed::WORK];
-        let mut code = vec![0u8; needed::CODE];
+        let mut low = vec![0u8; LENT];
+        let mut high = vec![0u8; LENT];
+        let mut registers = vec![0u8; LENT];
+        let mut stack = vec![0u8; LENT];
+        let mut rows = vec![0u8; LENT];
+        let mut table = vec![0u16; LENT / 2];
+        let mut work = vec![0u16; LENT / 2];
+        let mut code = vec![0u8; LENT];
         unsafe {
             pier_compile(
                 text.as_ptr(),
