@@ -97,9 +97,24 @@ fn later_line(bytes: &[u8]) -> Option<Hint> {
             return at(column, "a definition has no contexts; only a rule has");
         }
     }
-    unbalanced(bytes).or_else(|| contexts(bytes)).or_else(|| {
-        whole("something is missing: a sign stands at an end or beside another (@ is the empty plan), or brackets are empty")
-    })
+    unbalanced(bytes).or_else(|| contexts(bytes)).or_else(|| gap(bytes))
+}
+
+/// The first place where a letter, a name, `.`, `@` or a bracket is missing.
+fn gap(bytes: &[u8]) -> Option<Hint> {
+    let first = if bytes[0] == b'=' { name_of(bytes)?.0 + 1 } else { 1 };
+    let mut missing = true;
+    for (column, &byte) in bytes.iter().enumerate().skip(first) {
+        match byte {
+            b' ' => {}
+            b'(' | b'!' => missing = true,
+            b')' | b'*' | b'+' | b'?' if !missing => {}
+            b'|' | b'&' | b'-' | b'/' | b'_' if !missing => missing = true,
+            _ if byte.is_ascii_alphabetic() || b".@".contains(&byte) => missing = false,
+            _ => return at(column, "something is missing before this sign (the empty plan is written @)"),
+        }
+    }
+    at(bytes.len(), "something is missing at the end (the empty plan is written @)")
 }
 
 fn is_sign(byte: u8) -> bool {
@@ -194,6 +209,9 @@ pub fn picture(line: usize, bytes: &[u8], column: Option<usize>) -> String {
             _ => shown.push_str(&format!("\\x{byte:02X}")),
         }
     }
+    if column == Some(last) {
+        arrow = shown.len();
+    }
     if last < bytes.len() {
         shown.push_str("...");
     }
@@ -235,7 +253,7 @@ mod tests {
             (":ab\n>(a\n", 5, 2, Some(1), "not closed"),
             (":ab\n>a)\n", 5, 2, Some(2), "not opened"),
             (":ab\n>a/b\n", 5, 2, None, "lacks its _"),
-            (":ab\n>a|\n", 5, 2, None, "something is missing"),
+            (":ab\n>a|\n", 5, 2, Some(3), "at the end"),
             (":ab\n=C aD\n", 6, 2, Some(4), "D is not defined"),
             (":ab\n=A a\n=A b\n", 7, 3, Some(1), "line 2"),
         ];
@@ -247,6 +265,11 @@ mod tests {
         assert_eq!(of(":ab\n>ac\n", 6, 2), (Some(2), "c is not among the letters of line 1".into()));
         assert_eq!(of(":ab\n>a/(b_b)\n", 5, 2).0, Some(5));
         assert_eq!(of(":ab\n>a_b\n", 5, 2).0, Some(2));
+        for (text, column) in
+            [(":ab\n>a||b\n", 3), (":ab\n>()a\n", 2), (":ab\n>a/_b\n", 3), (":ab\n>!*a\n", 2), (":ab\n=A\n", 2)]
+        {
+            assert_eq!(of(text, 5, 2).0, Some(column), "{text:?}");
+        }
     }
 
     #[test]
@@ -256,5 +279,32 @@ mod tests {
         let (line, arrow) = picture.split_once('\n').unwrap();
         assert_eq!(line.find("\\x09"), arrow.find('^'));
         assert!(line.len() < 130);
+    }
+
+    /// Random texts: each refusal by 3 to 7 has a hint, inside its line.
+    #[test]
+    fn every_refused_line_has_a_hint() {
+        use crate::proved::{compile, Compiled};
+        let signs = b"ab ab AB c.@!*+?|&-()/_\n\n=>:1\r\xFF";
+        let mut seed = 1u64;
+        let mut refused = [0; 8];
+        for _ in 0..4000 {
+            let mut text = b":ab\n>".to_vec();
+            for _ in 0..30 {
+                seed = seed.wrapping_mul(6364136223846793005).wrapping_add(1442695040888963407);
+                text.push(signs[(seed >> 33) as usize % signs.len()]);
+                if text.ends_with(b"\n") && seed >> 62 != 0 {
+                    text.extend_from_slice(if seed >> 63 == 0 { b">" } else { b"=A" });
+                }
+            }
+            if let Some(Compiled::Refused { number: number @ 3..=7, line }) = compile(&text) {
+                refused[number as usize] += 1;
+                let hint = hint(&text, number, line as usize).unwrap_or_else(|| panic!("{number} {text:?}"));
+                let bytes = line_of(&text, line as usize).expect("the line").0;
+                assert!(hint.column.is_none_or(|column| column <= bytes.len()));
+                picture(line as usize, bytes, hint.column);
+            }
+        }
+        assert!(refused[5] > 1000 && refused[6] > 10, "{refused:?}");
     }
 }
