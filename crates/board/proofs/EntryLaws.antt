@@ -11,7 +11,7 @@ use lib.Dec.{ltb, eqb}
 use borrow.Author.Tests.{lt-ltb, le-ltb}
 use Rattle.automata.specs.Booleans.{bool-cases, choose, not-true}
 use Rattle.automata.specs.Basics.{nat-test}
-use Rattle.automata.specs.Decide.{unless}
+use Rattle.automata.specs.Decide.{unless, contradict}
 use Rattle.automata.specs.Rows.{cell-below}
 use Rattle.automata.specs.Format.{narrow}
 use Rattle.card.specs.Layout.{letterCount, stateCount, markAt, moveAt, lettersOf, marksOf, movesOf, Contents}
@@ -101,3 +101,12 @@ refused-judge c plan k e = go (bool-cases (eqb (loadTest narrow c) 0))
 -- a run before the first letter has taken none
 pub start-fits : (c : List ℕ) (n : ℕ) (r : Run′) (plan : List ℕ) → Runs c n (runStart narrow c) r → length plan < 2 ^ 64 → r .letters + length plan < 2 ^ 64
 start-fits c n r plan w h = omega (arith, ap (λ x. x .letters) (w .is))
+
+-- a refusal has a number
+pub rejected-some : (c : List ℕ) (k : ℕ) → rejected k ≡ load narrow c → k ≢ 0
+unfolding load
+rejected-some c k e z = go (bool-cases (eqb (loadTest narrow c) 0))
+  where
+    go : (eqb (loadTest narrow c) 0 ≡ true) ⊎ (eqb (loadTest narrow c) 0 ≡ false) → ⊥
+    go (inl t) = let f : rejected k ≡ holds (letterCount narrow c) (stateCount narrow c) = rw t at e in let y : _≡_ {A = ℕ} 0 1 = cc in omega arith
+    go (inr t) = let f : rejected k ≡ rejected (loadTest narrow c) = rw t at e in let y : loadTest narrow c ≡ 0 = cc in contradict (rw y (nat-test .whole 0)) t
