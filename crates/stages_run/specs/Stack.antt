@@ -1,17 +1,14 @@
 -- A stack of four machines over the letter a and the mark, in slots of 362 bytes: 2 for the number of states, 120 flags, 240 transitions.
-use mathlib.Core.Path.{_≡_, refl, sym, ap, ap₂, _∙_}
+use mathlib.Core.Path.{_≡_, sym, ap₂, _∙_}
 use mathlib.Core.Logic.{_⊎_, inl, inr, _≢_}
 use mathlib.Core.List.{List}
-use Prim.Native.Nat.{ℕ, suc, _+_, _*_, _-_, _≤_, _<_}
-use native.Mathlib.Nat.{mul-le-mul-right}
+use Prim.Native.Nat.{ℕ, _+_, _*_, _-_, _≤_, _<_}
 use native.Mathlib.Omega.{arith}
 use lib.ListN.{length, getD, drop, length-drop}
 use lib.Seq.{getD-drop}
 use Rattle.automata.specs.Basics.{LtCases, lt-cases, SameCases, same-cases, nat-test}
 use Rattle.automata.specs.Machine.{Machine}
-use Rattle.automata.specs.Table.{ClosedTable}
 use Rattle.explore.specs.Rows.{numberAt}
-use Rattle.stages.specs.declared.stage.Limits.{Limits}
 use Rattle.stages.specs.declared.stage.Staged.{Staged}
 use Rattle.stages.specs.declared.stage.Staged.the-variants.{Made, TooManySets, TooManyStates}
 use Rattle.stages_run.specs.declared.Turn.{Turn}
