@@ -1,6 +1,6 @@
 -- The given machines in slots: the bytes that are written for one sign and for any number of signs, and that the slot then holds the given machine.
 use mathlib.Core.Path.{_≡_, refl, ap, ap₂, _∙_, subst}
-use mathlib.Core.Bool.{Bool, true, false, cond}
+use mathlib.Core.Bool.{Bool, false, cond}
 use mathlib.Core.Logic.{_⊎_, inl, inr, _≢_}
 use mathlib.Core.List.{List}
 use Prim.Native.Nat.{ℕ, suc, _+_, _*_, _-_, _≤_, _<_}
@@ -18,6 +18,7 @@ use Rattle.automata.specs.Table.{tableMachine, flagOf, ClosedTable, table-size,
 use Rattle.automata.specs.Given.{oneSign, manySigns, given, letterMachine, dotMachine, emptyMachine, allMachine}
 use Rattle.automata.specs.GivenTables.{one-written, many-written, cond-below}
 use Rattle.explore.specs.Rows.{numberAt, bit}
+use Rattle.stages.specs.RowSets.{flag-bit}
 use Rattle.stages.specs.Slot.{slotMachine, Holds, Written}
 
 -- the columns from lo on and below hi
@@ -133,10 +134,6 @@ module _ (most k n lo hi good bad : ℕ) (s : List ℕ) (S : Signs most k n lo h
     where
       past : (i : ℕ) → hi ≤ i → cond (within lo hi i) good bad ≡ bad
       past i l = rw (ltb-false i lo (omega (arith, R .range .0)), ltb-false i hi l)
-
-  flag-bit : (b : Bool) → flagOf (bit b) ≡ b
-  flag-bit true = refl
-  flag-bit false = refl
 
   signs-answers : (p : ℕ) → p < n → automaton M .accepting p ≡ eqb p good
   signs-answers p h = table-accepting most n k t signs-closed p h ∙ ap flagOf (getD-drop 2 s p 0 ∙ S .flag p h) ∙ flag-bit (eqb p good)

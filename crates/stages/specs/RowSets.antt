@@ -47,7 +47,7 @@ bit-one true false e = absurd (omega arith)
 bit-one false true e = absurd (omega arith)
 bit-one false false e = refl
 
-flag-bit : (a : Bool) → flagOf (bit a) ≡ a
+pub flag-bit : (a : Bool) → flagOf (bit a) ≡ a
 flag-bit true = refl
 flag-bit false = refl
 
