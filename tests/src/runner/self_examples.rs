@@ -152,7 +152,7 @@ fn lent_buffers(tally: &mut Tally) {
     let card_length = examples::NO_A_CARD.len();
     let short = vec![(10, 10), (20, 19)];
     let enough = vec![(10, 10), (20, 20)];
-    let cases: Vec<(&str, Vec<u8>, Vec<(usize, usize)>, usize, Option<u8>)> = vec![
+    let cases = vec![
         ("enough of everything", good.to_vec(), enough.clone(), card_length, None),
         ("more than enough", good.to_vec(), vec![(10, 11), (20, 9999)], 9999, None),
         ("a short bench", good.to_vec(), short.clone(), card_length, Some(2)),
