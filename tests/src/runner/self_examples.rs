@@ -58,6 +58,7 @@ fn one(tally: &mut Tally, example: &Example) {
 }
 
 fn counts(tally: &mut Tally) {
+    tally.same("brackets make no stage", &Vec::new(), &compile_traced(b":ab\n=A((a))\n").1);
     for (text, index, operation, sets) in examples::counts() {
         let (_, stages) = compile_traced(text.as_bytes());
         let found = stages.get(index).map(|stage| (stage.operation, stage.sets));
