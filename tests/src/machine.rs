@@ -35,10 +35,10 @@ impl Machine {
         let mut done = 0;
         while done < order.len() {
             for &target in &self.next[order[done]] {
-                if !number.contains_key(&target) {
-                    number.insert(target, order.len());
+                number.entry(target).or_insert_with(|| {
                     order.push(target);
-                }
+                    order.len() - 1
+                });
             }
             done += 1;
         }

@@ -20,9 +20,9 @@ pub fn representatives(machine: &Machine) -> Vec<usize> {
     }
     let sources = sources(machine);
     while let Some((low, high)) = waiting.pop() {
-        for symbol in 0..machine.symbols {
-            for &one in &sources[symbol][low] {
-                for &other in &sources[symbol][high] {
+        for by_symbol in &sources {
+            for &one in &by_symbol[low] {
+                for &other in &by_symbol[high] {
                     let pair = (one.min(other), one.max(other));
                     let entry = &mut told_apart[pair.0 * states + pair.1];
                     if !*entry {
@@ -33,9 +33,7 @@ pub fn representatives(machine: &Machine) -> Vec<usize> {
             }
         }
     }
-    (0..states)
-        .map(|state| (0..state).find(|&low| !told_apart[low * states + state]).unwrap_or(state))
-        .collect()
+    (0..states).map(|state| (0..state).find(|&low| !told_apart[low * states + state]).unwrap_or(state)).collect()
 }
 
 /// sources[symbol][state]: the states that the symbol leads to the state.

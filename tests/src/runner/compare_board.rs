@@ -116,7 +116,9 @@ impl Comparison<'_> {
         for length in [255, 256, 257, 65_535, 65_536, 65_537, 1_000_000] {
             let plain = b"ab".repeat(length)[..length].to_vec();
             self.judge(tally, examples::FIRST_CARD, &plain);
-            for (place, byte) in [(0, b'b'), (length / 2, b'b'), (length - 1, b'b'), (length - 1, b'c'), (length / 2, 0)] {
+            for (place, byte) in
+                [(0, b'b'), (length / 2, b'b'), (length - 1, b'b'), (length - 1, b'c'), (length / 2, 0)]
+            {
                 let mut plan = plain.clone();
                 plan[place] = byte;
                 self.judge(tally, examples::FIRST_CARD, &plan);

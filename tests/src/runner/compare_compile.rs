@@ -150,7 +150,13 @@ impl Comparison<'_> {
             }
         };
         tally.check(fits, || {
-            format!("{}: {}\n  due: {:?}\n  product: {}", example.title, shown(&example.text), example.due, told(&found))
+            format!(
+                "{}: {}\n  due: {:?}\n  product: {}",
+                example.title,
+                shown(&example.text),
+                example.due,
+                told(&found)
+            )
         });
         self.compare(tally, example.title, &request);
     }
@@ -173,9 +179,8 @@ impl Comparison<'_> {
         }
         let agrees = self.agrees(request);
         let small = if !agrees && tally.prints_failures() {
-            let text = shrink(&request.text, 1500, |text| {
-                !self.agrees(&Request { text: text.to_vec(), ..request.clone() })
-            });
+            let text =
+                shrink(&request.text, 1500, |text| !self.agrees(&Request { text: text.to_vec(), ..request.clone() }));
             Request { text, ..request.clone() }
         } else {
             request.clone()
@@ -267,10 +272,8 @@ impl Comparison<'_> {
 
 /// An answer in words.
 fn told(answer: &Compiled) -> String {
-    let numbers = format!(
-        "number {} line {} length {} peak {}",
-        answer.number, answer.line, answer.length, answer.peak
-    );
+    let numbers =
+        format!("number {} line {} length {} peak {}", answer.number, answer.line, answer.length, answer.peak);
     let spilled = if answer.spilled { ", WROTE OUTSIDE A LENT BUFFER" } else { "" };
     let shown_bytes = (answer.length as usize + 4).min(answer.card_buffer.len());
     format!("{numbers}{spilled}, card buffer begins {}", hex(&answer.card_buffer[..shown_bytes]))

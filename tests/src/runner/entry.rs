@@ -31,7 +31,9 @@ pub enum Judged {
     Unfinished,
     Hopeless(u64),
     Refused(u64),
-    ForeignLetter { before: u64 },
+    ForeignLetter {
+        before: u64,
+    },
     #[allow(dead_code)]
     Unknown(Vec<u64>),
 }

@@ -91,6 +91,7 @@ pub fn paper() -> Vec<Example> {
             .card(NO_A_CARD)
             .verdict("", Allowed)
             .verdict("bb", Allowed)
+            .verdict("a", Hopeless(1))
             .verdict("ba", Hopeless(2)),
         accepted("two marks are due", ":ab\n>a|ab / @ _ b\n").card(NO_A_CARD),
         accepted("the empty plan has a call at place 0", ":ab\n>@ / a _ .*\n")
@@ -235,6 +236,10 @@ pub fn staging() -> Vec<Example> {
         accepted("119 states by letters and one by the mark", format!(":a\n=A({})*|({})*\n>a\n", a(7), a(17))),
         refused("the left operand first: oversize", format!(":a\n=A {}|{}\n", a(119), crowd()), 9, 2),
         refused("the left operand first: crowded", format!(":a\n=A {}|{}\n", crowd(), a(119)), 8, 2),
+        accepted("an unused definition has the peak", format!(":a\n=A({})*|({})*\n>a\n", a(5), a(7))).peak(36),
+        accepted("a complement of 119 states has 120", format!(":a\n=A{}\n=B!A\n>a\n", a(117))),
+        refused("a complement of 120 states has 121", format!(":a\n=A{}\n=B!A\n>a\n", a(118)), 9, 3),
+        refused("two complements are two stages", format!(":a\n=A{}\n=B!!A\n>a\n", a(118)), 9, 3),
         refused("crowded in a group", format!(":a\n>a({})\n", crowd()), 8, 2),
         refused("crowded on the left", format!(":a\n>a/{}_a\n", crowd()), 8, 2),
         refused("crowded on the right", format!(":a\n>a/a_{}\n", crowd()), 8, 2),
@@ -246,14 +251,13 @@ pub fn staging() -> Vec<Example> {
             .verdict("a", Unfinished)
             .verdict("ba", Hopeless(2))
             .verdict("aba", Hopeless(3)),
-        accepted("every rule counts", ":ab\n>a\n>b\n").verdict("", Allowed).verdict("a", Hopeless(1)).verdict(
-            "b",
-            Hopeless(1),
-        ),
-        accepted("overlapping calls all count", ":ab\n>aba / .* _ @\n").verdict("aba", Allowed).verdict(
-            "ababa",
-            Hopeless(4),
-        ),
+        accepted("every rule counts", ":ab\n>a\n>b\n")
+            .verdict("", Allowed)
+            .verdict("a", Hopeless(1))
+            .verdict("b", Hopeless(1)),
+        accepted("overlapping calls all count", ":ab\n>aba / .* _ @\n")
+            .verdict("aba", Allowed)
+            .verdict("ababa", Hopeless(4)),
         accepted("no extension of contexts", ":ab\n>b / a _ @\n").verdict("ab", Allowed).verdict("aab", Hopeless(3)),
         accepted("each of four contexts", ":abcde\n>e / a _ a / b _ b / c _ c / d _ d\n")
             .verdict("aea", Allowed)

@@ -39,8 +39,11 @@ pub fn card_or_line(text: &[u8]) -> Vec<u8> {
     }
 }
 
-/// Inputs and outputs that document 01 writes out, or that follow at once.
-pub fn written_out() -> Vec<(Option<&'static [u8]>, &'static [u8], &'static [u8])> {
+type Bytes = &'static [u8];
+
+/// Cards, inputs and outputs that document 01 writes out, or that follow at
+/// once.
+pub fn written_out() -> Vec<(Option<Bytes>, Bytes, Bytes)> {
     vec![
         (Some(FIRST_CARD), b"ab\nabb\n\n", b"allowed\nhopeless 3\nallowed\n"),
         (Some(FIRST_CARD), b"", b""),

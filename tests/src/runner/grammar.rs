@@ -99,7 +99,8 @@ pub fn choice_form(bytes: &[u8]) -> Option<String> {
 
 /// A later line as its sign and the bracketed forms of its choices.
 pub fn line_form(line: &[u8]) -> Option<Vec<String>> {
-    let packed: Vec<u8> = line.iter().enumerate().filter(|&(place, &byte)| place == 0 || byte != b' ').map(|(_, &byte)| byte).collect();
+    let packed: Vec<u8> =
+        line.iter().enumerate().filter(|&(place, &byte)| place == 0 || byte != b' ').map(|(_, &byte)| byte).collect();
     match packed.first()? {
         b'=' if packed.get(1)?.is_ascii_uppercase() => {
             Some(vec![format!("={}", packed[1] as char), choice_form(&packed[2..])?])
@@ -208,9 +209,8 @@ pub fn refusal(text: &[u8]) -> Option<(u8, usize)> {
             return refused(4);
         }
         if index == 0 {
-            let rising = (1..bytes.len().max(1)).all(|at| {
-                bytes[at] >= b'a' && bytes[at] <= b'z' && (at == 1 || bytes[at - 1] < bytes[at])
-            });
+            let rising = (1..bytes.len().max(1))
+                .all(|at| bytes[at] >= b'a' && bytes[at] <= b'z' && (at == 1 || bytes[at - 1] < bytes[at]));
             if line.is_none() || bytes.len() < 2 || bytes[0] != b':' || !rising {
                 return refused(5);
             }

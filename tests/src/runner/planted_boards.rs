@@ -77,7 +77,11 @@ pub fn all() -> Vec<Planted> {
         load("moves before letters", |card, found| match board::bodies(card) {
             Ok(bodies) if found == Loaded::Refused(22) => {
                 let astray = bodies.moves.iter().any(|&target| target as usize >= bodies.states());
-                if astray { Loaded::Refused(23) } else { found }
+                if astray {
+                    Loaded::Refused(23)
+                } else {
+                    found
+                }
             }
             _ => found,
         }),
@@ -93,7 +97,11 @@ pub fn all() -> Vec<Planted> {
             }
             let Ok(bodies) = board::bodies(card) else { return found };
             let all_reached = board::machine(&bodies).numbered().states() == bodies.states();
-            if all_reached { taken(card) } else { found }
+            if all_reached {
+                taken(card)
+            } else {
+                found
+            }
         }),
         load("lets a dead state be marked 0", |card, found| match board::bodies(card) {
             Ok(bodies) if found == Loaded::Refused(25) => {
@@ -102,13 +110,21 @@ pub fn all() -> Vec<Planted> {
                     let due = card::marks_byte(&machine, state);
                     bodies.marks[state] == due || (due == 2 && bodies.marks[state] == 0)
                 };
-                if (0..bodies.states()).all(fits) { taken(card) } else { found }
+                if (0..bodies.states()).all(fits) {
+                    taken(card)
+                } else {
+                    found
+                }
             }
             _ => found,
         }),
         load("127 states at most", |card, found| {
             let states = card.get(6).copied().unwrap_or(0);
-            if found == Loaded::Refused(21) && states == 121 && card.len() > 200 { taken(card) } else { found }
+            if found == Loaded::Refused(21) && states == 121 && card.len() > 200 {
+                taken(card)
+            } else {
+                found
+            }
         }),
         load("119 states at most", |_, found| match found {
             Loaded::Card { states: 120, .. } => Loaded::Refused(21),
@@ -139,7 +155,11 @@ pub fn all() -> Vec<Planted> {
         step("tests all moves", |card, _, _, found| match board::bodies(card) {
             Ok(bodies) if matches!(found, Stepped::To { .. }) => {
                 let astray = bodies.moves.iter().any(|&target| target as usize >= bodies.states());
-                if astray { Stepped::Refused(23) } else { found }
+                if astray {
+                    Stepped::Refused(23)
+                } else {
+                    found
+                }
             }
             _ => found,
         }),
@@ -159,7 +179,11 @@ pub fn all() -> Vec<Planted> {
             _ => found,
         }),
         step("only a to z are letters", |card, _, letter, found| {
-            if board::bodies(card).is_ok() && !letter.is_ascii_lowercase() { Stepped::Refused(27) } else { found }
+            if board::bodies(card).is_ok() && !letter.is_ascii_lowercase() {
+                Stepped::Refused(27)
+            } else {
+                found
+            }
         }),
         step("states below 256 only", |card, state, letter, _| REFERENCE.step(card, state & 255, letter)),
         step("no test of the card's length", |card, state, letter, found| match found {
@@ -210,12 +234,10 @@ pub fn all() -> Vec<Planted> {
             (other, _) => other,
         }),
         judge("letters before the card", |card, plan, found| match (&found, board::bodies(card)) {
-            (Judged::Refused(_), Ok(bodies)) => {
-                match plan.iter().position(|letter| !bodies.letters.contains(letter)) {
-                    Some(before) => Judged::ForeignLetter { before: before as u64 },
-                    None => found,
-                }
-            }
+            (Judged::Refused(_), Ok(bodies)) => match plan.iter().position(|letter| !bodies.letters.contains(letter)) {
+                Some(before) => Judged::ForeignLetter { before: before as u64 },
+                None => found,
+            },
             _ => found,
         }),
         judge("judges without testing the card", |card, _, found| match (&found, board::bodies(card)) {

@@ -188,8 +188,9 @@ fn answers() -> Vec<Planted> {
         after("a peak of one more", |_, found| Compiled { peak: found.peak + u64::from(found.number == 0), ..found }),
         after("a peak of 0", |_, found| Compiled { peak: 0, ..found }),
         after("the greatest peak is 511", |_, found| Compiled { peak: found.peak.min(511), ..found }),
-        after("the peak of refused books too", |_, found| {
-            Compiled { peak: if found.number == 11 { 7 } else { found.peak }, ..found }
+        after("the peak of refused books too", |_, found| Compiled {
+            peak: if found.number == 11 { 7 } else { found.peak },
+            ..found
         }),
         after("lines from 0", |_, found| Compiled { line: found.line.saturating_sub(1), ..found }),
         after("a line for 10", |_, found| Compiled { line: if found.number == 10 { 1 } else { found.line }, ..found }),
@@ -249,11 +250,13 @@ fn answers() -> Vec<Planted> {
                 _ => found,
             }
         }),
-        after("spoiled before nested", |_, found| {
-            Compiled { number: if found.number == 3 { 5 } else { found.number }, ..found }
+        after("spoiled before nested", |_, found| Compiled {
+            number: if found.number == 3 { 5 } else { found.number },
+            ..found
         }),
-        after("crowds of contexts are spoiled", |_, found| {
-            Compiled { number: if found.number == 4 { 5 } else { found.number }, ..found }
+        after("crowds of contexts are spoiled", |_, found| Compiled {
+            number: if found.number == 4 { 5 } else { found.number },
+            ..found
         }),
         after("line 1 is only spoiled", |_, found| {
             let first = found.line == 1 && (found.number == 3 || found.number == 4);

@@ -12,14 +12,7 @@ mod board {
 
     extern "C" {
         fn pier_load(card: *const u8, card_length: usize, out: *mut u64, out_length: usize);
-        fn pier_step(
-            card: *const u8,
-            card_length: usize,
-            state: usize,
-            letter: u8,
-            out: *mut u64,
-            out_length: usize,
-        );
+        fn pier_step(card: *const u8, card_length: usize, state: usize, letter: u8, out: *mut u64, out_length: usize);
         fn pier_judge(
             card: *const u8,
             card_length: usize,
@@ -60,9 +53,7 @@ mod board {
         /// foreign one.
         fn judge(&self, card: &[u8], plan: &[u8]) -> Judged {
             let mut out = [UNSET; 3];
-            unsafe {
-                pier_judge(card.as_ptr(), card.len(), plan.as_ptr(), plan.len(), out.as_mut_ptr(), out.len())
-            };
+            unsafe { pier_judge(card.as_ptr(), card.len(), plan.as_ptr(), plan.len(), out.as_mut_ptr(), out.len()) };
             match out {
                 [0, 1, 0] => Judged::Allowed,
                 [0, 0, 0] => Judged::Unfinished,

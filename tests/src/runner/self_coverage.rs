@@ -17,8 +17,23 @@ pub fn run(tally: &mut Tally) {
         }
         let cards = cards(tally);
         for answer in [
-            "loaded", "load 21", "load 22", "load 23", "load 24", "load 25", "load 26", "step 21", "step 23", "step 27",
-            "step 28", "stepped", "allowed", "unfinished", "hopeless", "hopeless 0", "foreign",
+            "loaded",
+            "load 21",
+            "load 22",
+            "load 23",
+            "load 24",
+            "load 25",
+            "load 26",
+            "step 21",
+            "step 23",
+            "step 27",
+            "step 28",
+            "stepped",
+            "allowed",
+            "unfinished",
+            "hopeless",
+            "hopeless 0",
+            "foreign",
         ] {
             tally.check(cards.get(answer).is_some_and(|&times| times >= 5), || format!("cards: {answer} in {cards:?}"));
         }

@@ -58,6 +58,7 @@ fn one(tally: &mut Tally, example: &Example) {
 }
 
 fn counts(tally: &mut Tally) {
+    tally.same("brackets make no stage", &Vec::new(), &compile_traced(b":ab\n=A((a))\n").1);
     for (text, index, operation, sets) in examples::counts() {
         let (_, stages) = compile_traced(text.as_bytes());
         let found = stages.get(index).map(|stage| (stage.operation, stage.sets));
@@ -152,7 +153,7 @@ fn lent_buffers(tally: &mut Tally) {
     let card_length = examples::NO_A_CARD.len();
     let short = vec![(10, 10), (20, 19)];
     let enough = vec![(10, 10), (20, 20)];
-    let cases: Vec<(&str, Vec<u8>, Vec<(usize, usize)>, usize, Option<u8>)> = vec![
+    let cases = vec![
         ("enough of everything", good.to_vec(), enough.clone(), card_length, None),
         ("more than enough", good.to_vec(), vec![(10, 11), (20, 9999)], 9999, None),
         ("a short bench", good.to_vec(), short.clone(), card_length, Some(2)),

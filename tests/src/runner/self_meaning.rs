@@ -168,9 +168,11 @@ fn reading(tally: &mut Tally, text: &[u8]) {
         (Err(refusal), Some(due)) => (refusal.number, refusal.line) == due,
         (Ok(book), None) => {
             let lines = reader::lines(text);
-            book.lines.iter().zip(&lines).skip(1).all(|(line, raw)| {
-                grammar::line_form(raw.bytes) == Some(grammar::tree_form(line))
-            })
+            book.lines
+                .iter()
+                .zip(&lines)
+                .skip(1)
+                .all(|(line, raw)| grammar::line_form(raw.bytes) == Some(grammar::tree_form(line)))
         }
         _ => false,
     };
