@@ -1,8 +1,8 @@
 use mathlib.Core.Path.{_≡_, refl}
-use Prim.Native.Nat.{ℕ, _-_, _≤_}
+use Prim.Native.Nat.{_-_, _≤_}
 use native.Mathlib.Omega.{arith}
 use borrow.Author.Needs.{needs}
-use Rattle.stages.specs.Slot.{Written, written-none, written-more}
+use Rattle.stages.specs.Slot.{Written, written-more}
 use Rattle.stages.proofs.given.fill.Statement.{statement}
 use Rattle.stages.proofs.given.fill.Tie as tie
 use Rattle.stages.proofs.given.fill.Reads as reads

@@ -1,7 +1,6 @@
 use mathlib.Core.Path.{_≡_, refl, _∙_}
-use Prim.Native.Nat.{_+_, _*_, _≤_}
 use native.Mathlib.Omega.{arith}
-use lib.ListN.{length, drop}
+use lib.ListN.{drop}
 use Rattle.explore.specs.Rows.{numberAt}
 use Rattle.stages.specs.Slot.{slot-ends, number-drop, unpacked}
 use borrow.Author.Needs.{needs}

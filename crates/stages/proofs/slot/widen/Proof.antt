@@ -1,9 +1,9 @@
 use mathlib.Core.Path.{_≡_, refl}
-use Prim.Native.Nat.{ℕ, _+_, _-_, _≤_}
+use Prim.Native.Nat.{_+_, _-_, _≤_}
 use native.Mathlib.Omega.{arith}
 use lib.ListN.{getD}
 use borrow.Author.Needs.{needs}
-use Rattle.stages.specs.Slot.{Written, written-none, written-more}
+use Rattle.stages.specs.Slot.{Written, written-more}
 use Rattle.stages.proofs.slot.widen.Statement.{statement}
 use Rattle.stages.proofs.slot.widen.Tie as tie
 use Rattle.stages.proofs.slot.widen.Reads as reads
