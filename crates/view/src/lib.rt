@@ -3,6 +3,8 @@
 ghost use mathlib.Core.Path.{_≡_};
 ghost use Rattle.automata.specs.Format.{narrow};
 ghost use Rattle.card.specs.Answer.{load as loadOf, loadNumbers};
+ghost use Rattle.card.specs.Judge.{judge as judgeOf};
+ghost use Rattle.run.specs.Reading.{replyOf};
 ghost use Rattle.view.specs.Numbers.{numbersOf, viewNumbers};
 
 // What loading answers, as a struct: letters, states and 0; or 0, 0 and the number of the refusal, 21 to 26.
@@ -49,4 +51,18 @@ pub fn load<'a>(card: &'a [u8]) -> View<'a>
         states: k.states,
         number: k.number,
     }
+}
+
+// Judges a plan by the view's bytes, whatever stands beside them: the card is tested, then all letters, then the plan.
+pub fn judge<'a, 'p>(view: View<'a>, plan: &'p [u8]) -> run::Answer
+    ensures { λ r. ⌜ replyOf r ≡ judgeOf narrow (now (view .entry .bytes)) (now (plan .entry)) ⌝ }
+{
+    board::judge(view.bytes, plan)
+}
+
+// The same on plain parameters, by a view made here: a caller of it holds no view.
+pub fn judge_card<'a, 'p>(card: &'a [u8], plan: &'p [u8]) -> run::Answer
+    ensures { λ r. ⌜ replyOf r ≡ judgeOf narrow (now (card .entry)) (now (plan .entry)) ⌝ }
+{
+    judge(load(card), plan)
 }
