@@ -38,7 +38,7 @@ use denote.Triple.Walked.{says, Stays, stay-none-slice, walkOf, goes-none-slice,
 use denote.Exit.{yes}
 use denote.Triple.Clauses.{ensured, lasts}
 use Rattle.automata.specs.Format.{narrow}
-use Rattle.card.specs.Answer.{Numbers, load as loadOf, loadNumbers}
+use Rattle.card.specs.Answer.{load as loadOf, loadNumbers}
 use Rattle.card.specs.Judge.{Reply, judge as judgeOf}
 use Rattle.run.specs.Reading.{replyOf}
 use Rattle.run.specs.declared.Answer.{Answer}
