@@ -1,0 +1,2 @@
+-- Definitions that the view's contracts cite.
+pub mod Numbers
