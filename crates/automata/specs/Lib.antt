@@ -28,3 +28,7 @@ pub mod Stage
 pub mod Exactly
 pub mod Given
 pub mod Stages
+pub mod Correspondence
+pub mod Members
+pub mod Orbit
+pub mod GivenTables

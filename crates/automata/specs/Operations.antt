@@ -68,17 +68,17 @@ module _ (k : ℕ) (M N : Machine) (F : WellFormed k M) (G : WellFormed k N) whe
   high-epsilon : (x : ℕ) → size M ≤ x → J .epsilon x ≡ x
   high-epsilon x h = rw (ltb-false x (size M) h)
 
-  high-epsilons : (i x : ℕ) → size M ≤ x → epsilons J i x ≡ x
+  pub high-epsilons : (i x : ℕ) → size M ≤ x → epsilons J i x ≡ x
   high-epsilons zero x h = refl
   high-epsilons (suc i) x h = rw (high-epsilon x h) (high-epsilons i x h)
 
-  high-move : (x c : ℕ) → size M ≤ x → J .move x c ≡ size M + automaton N .step (x - size M) c
+  pub high-move : (x c : ℕ) → size M ≤ x → J .move x c ≡ size M + automaton N .step (x - size M) c
   high-move x c h = rw (ltb-false x (size M) h)
 
   high-accepting : (x : ℕ) → size M ≤ x → J .accepting x ≡ automaton N .accepting (x - size M)
   high-accepting x h = rw (ltb-false x (size M) h)
 
-  low-epsilons : (i p : ℕ) → p < size M → (epsilons J i p ≡ p) ⊎ ((automaton M .accepting p ≡ true) × (epsilons J i p ≡ size M))
+  pub low-epsilons : (i p : ℕ) → p < size M → (epsilons J i p ≡ p) ⊎ ((automaton M .accepting p ≡ true) × (epsilons J i p ≡ size M))
   low-epsilons zero p h = inl refl
   low-epsilons (suc i) p h = go (bool-cases (automaton M .accepting p)) (low-epsilons i p h)
     where
@@ -90,7 +90,7 @@ module _ (k : ℕ) (M N : Machine) (F : WellFormed k M) (G : WellFormed k N) whe
       go (inl t) r = inr (t, rw (lt-ltb p (size M) h, t) (high-epsilons i (size M) (le-refl (size M))))
       go (inr t) r = subst (λ y. (epsilons J i y ≡ p) ⊎ ((automaton M .accepting p ≡ true) × (epsilons J i y ≡ size M))) (sym (stay t)) r
 
-  low-move : (p c : ℕ) → p < size M → J .move p c ≡ automaton M .step p c
+  pub low-move : (p c : ℕ) → p < size M → J .move p c ≡ automaton M .step p c
   low-move p c h = rw (lt-ltb p (size M) h)
 
   pub concat-inside : (x : ℕ) → x < J .nodes → J .epsilon x < J .nodes
@@ -188,10 +188,10 @@ module _ (k : ℕ) (M : Machine) (F : WellFormed k M) where
   star-inside x h = elim (ltb x (size M)) as (λ b. cond b (cond (automaton M .accepting x) (size M) x) zero < suc (size M))
       [ true ↦ elim (automaton M .accepting x) as (λ b. cond b (size M) x < suc (size M)) [ true ↦ le-refl (suc (size M)) | false ↦ h ] | false ↦ zero-lt-suc (size M) ]
 
-  epsilon-end : R .epsilon (size M) ≡ zero
+  pub epsilon-end : R .epsilon (size M) ≡ zero
   epsilon-end = rw (ltb-false (size M) (size M) (le-refl (size M)))
 
-  epsilon-accepting : (p : ℕ) → p < size M → automaton M .accepting p ≡ true → R .epsilon p ≡ size M
+  pub epsilon-accepting : (p : ℕ) → p < size M → automaton M .accepting p ≡ true → R .epsilon p ≡ size M
   epsilon-accepting p h t = rw (lt-ltb p (size M) h, t)
 
   epsilon-stays : (p : ℕ) → p < size M → automaton M .accepting p ≡ false → R .epsilon p ≡ p
@@ -202,11 +202,11 @@ module _ (k : ℕ) (M : Machine) (F : WellFormed k M) where
   Loop x = (x ≡ size M) ⊎ (x ≡ zero)
 
   mutual
-    end-epsilons : (i : ℕ) → Loop (epsilons R i (size M))
+    pub end-epsilons : (i : ℕ) → Loop (epsilons R i (size M))
     end-epsilons zero = inl refl
     end-epsilons (suc i) = subst (λ y. Loop (epsilons R i y)) (sym epsilon-end) (zero-epsilons i)
 
-    zero-epsilons : (i : ℕ) → Loop (epsilons R i zero)
+    pub zero-epsilons : (i : ℕ) → Loop (epsilons R i zero)
     zero-epsilons zero = inr refl
     zero-epsilons (suc i) = go (bool-cases (automaton M .accepting zero)) (end-epsilons i) (zero-epsilons i)
       where
@@ -214,7 +214,7 @@ module _ (k : ℕ) (M : Machine) (F : WellFormed k M) where
         go (inl t) a b = subst (λ y. Loop (epsilons R i y)) (sym (epsilon-accepting zero (F .some) t)) a
         go (inr t) a b = subst (λ y. Loop (epsilons R i y)) (sym (epsilon-stays zero (F .some) t)) b
 
-  state-epsilons : (i p : ℕ) → p < size M → (epsilons R i p ≡ p) ⊎ ((automaton M .accepting p ≡ true) × Loop (epsilons R i p))
+  pub state-epsilons : (i p : ℕ) → p < size M → (epsilons R i p ≡ p) ⊎ ((automaton M .accepting p ≡ true) × Loop (epsilons R i p))
   state-epsilons zero p h = inl refl
   state-epsilons (suc i) p h = go (bool-cases (automaton M .accepting p)) (state-epsilons i p h)
     where
@@ -223,10 +223,10 @@ module _ (k : ℕ) (M : Machine) (F : WellFormed k M) where
       go (inl t) r = inr (t, subst (λ y. Loop (epsilons R i y)) (sym (epsilon-accepting p h t)) (end-epsilons i))
       go (inr t) r = subst (λ y. (epsilons R i y ≡ p) ⊎ ((automaton M .accepting p ≡ true) × Loop (epsilons R i y))) (sym (epsilon-stays p h t)) r
 
-  state-move : (p c : ℕ) → p < size M → R .move p c ≡ automaton M .step p c
+  pub state-move : (p c : ℕ) → p < size M → R .move p c ≡ automaton M .step p c
   state-move p c h = rw (lt-ltb p (size M) h)
 
-  end-move : (c : ℕ) → R .move (size M) c < R .nodes → ⊥
+  pub end-move : (c : ℕ) → R .move (size M) c < R .nodes → ⊥
   end-move c b = lt-irrefl (suc (size M)) (rw (ltb-false (size M) (size M) (le-refl (size M))) at b)
 
   -- from state p to an accepting one, and then words in a row
@@ -306,7 +306,7 @@ module _ (k : ℕ) (M : Machine) (F : WellFormed (suc k) M) where
   pub erase-inside : (x : ℕ) → x < X .nodes → X .epsilon x < X .nodes
   erase-inside x h = F .inside x k h (le-refl (suc k))
 
-  other : (c : ℕ) → c < k → eqb c k ≡ false
+  pub other : (c : ℕ) → c < k → eqb c k ≡ false
   other c h = go (same-cases nat-test c k)
     where
       go : SameCases nat-test c k → eqb c k ≡ false

@@ -5,13 +5,11 @@ use mathlib.Core.List.{[], _∷_}
 use Prim.Native.Nat.{ℕ, zero, suc, _≤_, _<_}
 use native.Mathlib.Nat.{le-refl}
 use native.Mathlib.Omega.{arith}
-use lib.ListN.{length}
 use lib.Dec.{eqb, ltb}
 use Rattle.automata.specs.Basics.{nat-test, tab, lt-ltb, ltb-false}
 use Rattle.automata.specs.Automaton.{Automaton, Over, run, accepts}
-use Rattle.automata.specs.Listing.{listing, listing-bound}
 use Rattle.automata.specs.Machine.{Machine, size, automaton, minimal-numbers, at-least}
-use Rattle.automata.specs.Smallest.{smallestOf-canonical, smallestOf-words}
+use Rattle.automata.specs.GivenTables.{given-smallest, cond-below}
 use Rattle.automata.specs.Given.{oneSign, manySigns, given, letterMachine, dotMachine, emptyMachine, allMachine, markMachine}
 use Rattle.language.specs.Cuts.{Word}
 use Rattle.language.specs.Language.{Language, emptyWord, symbol, single, anySymbol, allWords}
@@ -20,18 +18,7 @@ use Rattle.language.specs.Recognizes.{Recognizes}
 -- ---- what they accept
 
 given-recognizes : (k : ℕ) (A : Automaton ℕ) (L : Language) → A .start < 3 → ((s c : ℕ) → s < 3 → A .step s c < 3) → ((w : Word) → accepts A w ≡ L w) → Recognizes k (given k A) L
-given-recognizes k A L h f e = record { canonical = smallestOf-canonical nat-test A k 3 bound; exact = λ w o. sym (smallestOf-words nat-test A k 3 bound w o) ∙ e w }
-  where
-    stay : (s : ℕ) (w : Word) → s < 3 → run A s w < 3
-    stay s [] b = b
-    stay s (c ∷ w) b = stay (A .step s c) w (f s c b)
-
-    bound : length (listing nat-test A k 3) ≤ 3
-    bound = listing-bound nat-test A k (λ s. s) 3 (λ s r. rw (r .2) at (stay (A .start) (r .0) h)) (λ s t _ _ e. e) 3
-
-cond-below : (b : Bool) (x y n : ℕ) → x < n → y < n → cond b x y < n
-cond-below true x y n h g = h
-cond-below false x y n h g = g
+given-recognizes k A L h f e = let s = given-smallest k A h f in record { canonical = s .canonical; exact = λ w o. sym (s .words w o) ∙ e w }
 
 module _ (good : ℕ → Bool) where
   one-lost : (w : Word) → oneSign good .accepting (run (oneSign good) 2 w) ≡ false

@@ -1,0 +1,114 @@
+-- The loop over all transitions: what holds where it begins, on its way and at its end. Assumes nothing.
+use mathlib.Core.Path.{_≡_, refl, sym, ap, _∙_, subst}
+use mathlib.Core.List.{List}
+use Prim.Native.Nat.{ℕ, zero, suc, _+_, _*_, _-_, _≤_, _<_}
+use native.Mathlib.Nat.{mul-le-mul-right, suc-mul, zero-mul}
+use native.Mathlib.Numerals.{add-one}
+use native.Mathlib.Omega.{arith}
+use lib.ListN.{length}
+use Rattle.automata.specs.Stage.{MoreThan}
+use Rattle.explore.specs.Rows.{rowAt}
+use Rattle.explore.specs.Answer.{rowsFor, Fits, Room, Explores, Appended, AllRows, Partial, Turning, Turned, Flagging, Flagged}
+use Rattle.explore.specs.declared.Shape.{Shape}
+use Rattle.explore.specs.declared.Explored.{Explored}
+use Rattle.explore.specs.declared.Explored.the-variants.{Sets, TooMany}
+use Rattle.explore.proofs.RowLaws.{row-within, cell-within}
+use Rattle.explore.proofs.FitLaws.{reach-fits}
+use Rattle.explore.proofs.LoopLaws.{partial-start, partial-wrap, partial-done}
+
+-- The transitions before the q-th are laid out; it is that of the row p by the column c.
+pub record Running (s : Shape) (a b rows row table : List ℕ) (count p c q : ℕ) : Type 0 where
+  pub fits : Fits s a b
+  pub room : Room s rows row table
+  pub state : p ≤ count
+  pub column : c < s .k
+  pub cell : q ≡ p * s .k + c
+  pub partial : Partial (rowsFor s a b) (s .k) (s .w) (s .limit) count p c rows table
+
+pub room-kept : {s : Shape} {rows row table : List ℕ} → Room s rows row table → (rows′ row′ table′ : List ℕ) → length rows′ ≡ length rows → length row′ ≡ length row → length table′ ≡ length table → Room s rows′ row′ table′
+room-kept R rows′ row′ table′ x y z = record {
+  some = R .some;
+  small = R .small;
+  rowsLong = omega (arith, R .rowsLong);
+  rowLong = y ∙ R .rowLong;
+  tableLong = omega (arith, R .tableLong);
+}
+
+pub first-room : {s : Shape} {rows row table : List ℕ} → Room s rows row table → 0 * s .w + s .w ≤ length rows
+first-room {s} R = omega (arith, row-within 0 (s .limit) (s .w) (R .some), R .rowsLong)
+
+pub run-start : (s : Shape) (a b rows row table rows′ row′ : List ℕ) → Explores s a b rows row table → row′ ≡ rowsFor s a b .start → length row′ ≡ length row
+    → Appended (s .w) 0 rows row′ rows′ → length rows′ ≡ length rows → Running s a b rows′ row′ table 1 0 0 0
+run-start s a b rows row table rows′ row′ E e y A x = record {
+  fits = E .fits;
+  room = room-kept (E .room) rows′ row′ table x y refl;
+  state = omega arith;
+  column = omega (arith, E .fits .columns);
+  cell = omega (arith, zero-mul (s .k));
+  partial = partial-start (rowsFor s a b) (s .k) (s .w) (s .limit) rows′ table (E .room .some) (A .here ∙ e);
+}
+
+module _ (s : Shape) (a b rows row table : List ℕ) (count p c q : ℕ) (R : Running s a b rows row table count p c q) where
+  module _ (h : p < count) where
+    pub run-turning : Turning s a b rows row table count p c q
+    run-turning = record {
+      fits = R .fits;
+      room = R .room;
+      place = record { state = h; column = R .column; cell = R .cell };
+      partial = R .partial;
+    }
+
+    -- fewer transitions than room was made for
+    pub run-below : q < s .limit * s .k
+    run-below = omega (arith, cell-within p (s .limit) (s .k) c (omega (arith, R .partial .within)) (R .column), R .cell)
+
+    pub run-less : s .limit * s .k - (q + 1) < s .limit * s .k - q
+    run-less = omega (arith, run-below)
+
+    module _ (rows′ row′ table′ : List ℕ) (x : length rows′ ≡ length rows) (y : length row′ ≡ length row) (z : length table′ ≡ length table) (r : Explored)
+        (t : Turned (rowsFor s a b) (s .k) (s .w) (s .limit) count p c rows′ table′ r) where
+      -- the next column
+      pub run-on : (n : ℕ) → r ≡ Sets n → (c + 1 ≡ s .k → ⊥) → Running s a b rows′ row′ table′ n p (c + 1) (q + 1)
+      run-on n e o =
+          let u : Turned (rowsFor s a b) (s .k) (s .w) (s .limit) count p c rows′ table′ (Sets n) = rw e at t in
+          record {
+            fits = R .fits;
+            room = room-kept (R .room) rows′ row′ table′ x y z;
+            state = omega (arith, u .0);
+            column = omega (arith, R .column, o);
+            cell = omega (arith, R .cell);
+            partial = u .1;
+          }
+
+      -- the next row
+      pub run-wrap : (n : ℕ) → r ≡ Sets n → c + 1 ≡ s .k → Running s a b rows′ row′ table′ n (p + 1) 0 (q + 1)
+      run-wrap n e o =
+          let u : Turned (rowsFor s a b) (s .k) (s .w) (s .limit) count p c rows′ table′ (Sets n) = rw e at t in
+          let m : (p + 1) * s .k ≡ p * s .k + s .k = rw (add-one, suc-mul) in
+          record {
+            fits = R .fits;
+            room = room-kept (R .room) rows′ row′ table′ x y z;
+            state = omega (arith, u .0);
+            column = omega (arith, R .fits .columns);
+            cell = omega (arith, R .cell);
+            partial = partial-wrap (rowsFor s a b) (s .k) (s .w) (s .limit) n p (c + 1) rows′ table′ o (u .1);
+          }
+
+      pub run-many : r ≡ TooMany → MoreThan (s .k) (rowsFor s a b) (s .limit)
+      run-many e = rw e at t
+
+  module _ (h : count ≤ p) where
+    cells : count * s .k ≤ s .limit * s .k
+    cells = mul-le-mul-right {m = count} {n = s .limit} (s .k) (R .partial .within)
+
+    pub run-flagging : Flagging s a b count rows table
+    run-flagging = record {
+      fits = R .fits;
+      within = R .partial .within;
+      rowsLong = omega (arith, mul-le-mul-right {m = count} {n = s .limit} (s .w) (R .partial .within), R .room .rowsLong);
+      tableLong = omega (arith, R .partial .within, R .room .tableLong);
+      sources = λ i g. reach-fits s a b (R .fits) (rowAt (s .w) i rows) (R .partial .reached i g);
+    }
+
+    pub run-done : (table′ : List ℕ) → length table′ ≡ length table → Flagged (rowsFor s a b) (s .w) (s .limit) count rows table table′ → AllRows (rowsFor s a b) (s .k) (s .w) (s .limit) count rows table′
+    run-done table′ z F = partial-done (rowsFor s a b) (s .k) (s .w) (s .limit) count p c rows table table′ h (R .partial) F (omega (arith, cells, R .room .tableLong))

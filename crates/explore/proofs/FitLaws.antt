@@ -1,0 +1,66 @@
+-- The codes of the operations, and that the states which a reachable row names are states. Assumes nothing.
+use mathlib.Core.Path.{_≡_, refl, sym, ap, _∙_}
+use mathlib.Core.List.{List, [], _∷_}
+use Prim.Native.Nat.{ℕ, zero, suc, _+_, _*_, _-_, _/_, _%_, _≤_, _<_}
+use native.Mathlib.Omega.{arith}
+use lib.ListN.{length, replicate}
+use Rattle.automata.specs.Automaton.{Automaton, Over, run, Reachable}
+use Rattle.automata.specs.Table.{table-step}
+use Rattle.explore.specs.Rows.{numberAt, numberBytes, Operation, pairing, concatenation, star, erase, operationOf, rowsOf, pairRows, concatRows, starRows, eraseRows}
+use Rattle.explore.specs.Answer.{leftOf, rightOf, rowsFor, RowFits, Fits}
+use Rattle.explore.specs.declared.Shape.{Shape}
+use Rattle.explore.proofs.PairLaws.{pair-of}
+
+pub is-concatenation : (x : ℕ) → x ≡ 3 → operationOf x ≡ concatenation
+is-concatenation x e = rw e
+
+pub is-star : (x : ℕ) → x ≡ 4 → operationOf x ≡ star
+is-star x e = rw e
+
+pub is-erase : (x : ℕ) → 3 ≤ x → (x ≡ 3 → ⊥) → (x ≡ 4 → ⊥) → operationOf x ≡ erase
+is-erase zero h u v = absurd (omega arith)
+is-erase (suc zero) h u v = absurd (omega arith)
+is-erase (suc (suc zero)) h u v = absurd (omega arith)
+is-erase (suc (suc (suc zero))) h u v = absurd (u refl)
+is-erase (suc (suc (suc (suc zero)))) h u v = absurd (v refl)
+is-erase (suc (suc (suc (suc (suc x))))) h u v = refl
+
+pub pair-start : (s : Shape) (a b : List ℕ) → Fits s a b → s .op < 3 → (m : ℕ) (r : List ℕ) → m ≡ s .w → r ≡ replicate m 0 → r ≡ rowsFor s a b .start
+unfolding pairRows
+pair-start s a b F h m r w e =
+    let p = pair-of (s .op) h in
+    let z : m ≡ 4 = w ∙ F .width ∙ rw (p .1) in
+    rw (p .1) (rw z at e)
+
+number-bytes : (p : ℕ) → p % 256 + 256 * (p / 256) ≡ p
+number-bytes p = omega arith
+
+module _ (k m na nb : ℕ) (A B : Automaton ℕ) (sa : 1 ≤ na) (sb : 1 ≤ nb) (ia : (p c : ℕ) → p < na → c < k → A .step p c < na) (ib : (p c : ℕ) → p < nb → c < k → B .step p c < nb) where
+  start-fits : (o : Operation) → RowFits o na nb (rowsOf o m na A nb B .start)
+  unfolding pairRows concatRows starRows eraseRows
+  start-fits (pairing o) = (sa, sb)
+  start-fits concatenation = sa
+  start-fits star = tt
+  start-fits erase = tt
+
+  step-fits : (o : Operation) (r : List ℕ) (c : ℕ) → c < k → RowFits o na nb r → RowFits o na nb (rowsOf o m na A nb B .step r c)
+  unfolding pairRows concatRows starRows eraseRows
+  step-fits (pairing o) r c b (h, g) = (omega (arith, number-bytes (A .step (numberAt r 0) c), ia (numberAt r 0) c h b), omega (arith, number-bytes (B .step (numberAt r 2) c), ib (numberAt r 2) c g b))
+  step-fits concatenation r c b h = omega (arith, number-bytes (A .step (numberAt r 0) c), ia (numberAt r 0) c h b)
+  step-fits star r c b h = tt
+  step-fits erase r c b h = tt
+
+  run-fits : (o : Operation) (r : List ℕ) (w : List ℕ) → Over k w → RowFits o na nb r → RowFits o na nb (run (rowsOf o m na A nb B) r w)
+  run-fits o r [] v h = h
+  run-fits o r (c ∷ w) v h = run-fits o (rowsOf o m na A nb B .step r c) w (v .1) (step-fits o r c (v .0) h)
+
+pub reach-fits : (s : Shape) (a b : List ℕ) → Fits s a b → (r : List ℕ) → Reachable (s .k) (rowsFor s a b) r → RowFits (operationOf (s .op)) (s .na) (s .nb) r
+reach-fits s a b F r (w, o, e) =
+    rw e at (run-fits (s .k) (s .k - 1) (s .na) (s .nb) (leftOf s a) (rightOf s b) (F .left .some) (F .right .some)
+    (λ p c h b. rw (table-step (s .ba) (s .na) (s .k) a (F .left) p c h b) (F .left .inside p c h b))
+    (λ p c h v. rw (table-step (s .bb) (s .nb) (s .k) b (F .right) p c h v) (F .right .inside p c h v))
+    (operationOf (s .op)) (rowsFor s a b .start) w o
+    (start-fits (s .k) (s .k - 1) (s .na) (s .nb) (leftOf s a) (rightOf s b) (F .left .some) (F .right .some)
+    (λ p c h b. rw (table-step (s .ba) (s .na) (s .k) a (F .left) p c h b) (F .left .inside p c h b))
+    (λ p c h v. rw (table-step (s .bb) (s .nb) (s .k) b (F .right) p c h v) (F .right .inside p c h v))
+    (operationOf (s .op))))

@@ -1,0 +1,88 @@
+-- One turn of the loop: what its calls ask, and what it leaves; and the flags of the rows. Assumes nothing.
+use mathlib.Core.Path.{_≡_, refl, sym, ap, _∙_, subst}
+use mathlib.Core.Bool.{Bool}
+use mathlib.Core.Logic.{inl, inr}
+use mathlib.Core.List.{List}
+use Prim.Native.Nat.{ℕ, zero, suc, _+_, _*_, _-_, _%_, _≤_, _<_}
+use native.Mathlib.Nat.{mul-le-mul-right, le-refl}
+use native.Mathlib.Omega.{arith}
+use lib.ListN.{length, getD, set, take, drop}
+use lib.Seq.{getD-set-same, getD-set-other}
+use Rattle.automata.specs.Basics.{LtCases, lt-cases}
+use Rattle.automata.specs.Automaton.{Automaton}
+use Rattle.automata.specs.Stage.{MoreThan}
+use Rattle.explore.specs.Rows.{rowAt, bit, operationOf}
+use Rattle.explore.specs.Answer.{rowsFor, RowFits, Fits, Room, Source, Step, Looked, Appended, Partial, Turning, Turned, Flagging, Flagged}
+use Rattle.explore.specs.declared.Shape.{Shape}
+use Rattle.explore.specs.declared.Explored.{Explored}
+use Rattle.explore.specs.declared.Explored.the-variants.{Sets, TooMany}
+use Rattle.explore.specs.declared.rows.Found.{Found}
+use Rattle.explore.specs.declared.rows.Found.the-variants.{At, Nothing}
+use Rattle.explore.proofs.RowLaws.{row-within, cell-within, row-part, row-length}
+use Rattle.explore.proofs.FitLaws.{reach-fits}
+use Rattle.explore.proofs.LoopLaws.{partial-found, partial-new, partial-full}
+
+-- a row in the buffer is one from which the next is made
+pub row-source : (s : Shape) (rows : List ℕ) (p : ℕ) → p * s .w + s .w ≤ length rows → RowFits (operationOf (s .op)) (s .na) (s .nb) (rowAt (s .w) p rows)
+    → Source s (take (p * s .w + s .w - p * s .w) (drop (p * s .w) rows))
+row-source s rows p h f = rw (row-part (s .w) p rows) (record { long = row-length (s .w) p rows h; fits = f })
+
+module _ (s : Shape) (a b rows row table : List ℕ) (count state column q : ℕ) (T : Turning s a b rows row table count state column q) where
+  pub turn-row : state * s .w + s .w ≤ length rows
+  turn-row = omega (arith, row-within state (s .limit) (s .w) (omega (arith, T .place .state, T .partial .within)), T .room .rowsLong)
+
+  pub turn-rows : count * s .w ≤ length rows
+  turn-rows = omega (arith, mul-le-mul-right {m = count} {n = s .limit} (s .w) (T .partial .within), T .room .rowsLong)
+
+  pub turn-append : count < s .limit → count * s .w + s .w ≤ length rows
+  turn-append h = omega (arith, row-within count (s .limit) (s .w) h, T .room .rowsLong)
+
+  pub turn-cell : s .limit + q < length table
+  turn-cell = omega (arith, cell-within state (s .limit) (s .k) column (omega (arith, T .place .state, T .partial .within)) (T .place .column), T .place .cell, T .room .tableLong)
+
+  pub turn-step : Step s a b column (take (state * s .w + s .w - state * s .w) (drop (state * s .w) rows)) row
+  turn-step = record {
+    fits = T .fits;
+    column = T .place .column;
+    source = row-source s rows state turn-row (reach-fits s a b (T .fits) (rowAt (s .w) state rows) (T .partial .reached state (T .place .state)));
+    long = T .room .rowLong;
+  }
+
+  module _ (row′ : List ℕ) (e : row′ ≡ rowsFor s a b .step (take (state * s .w + s .w - state * s .w) (drop (state * s .w) rows)) column) where
+    next : row′ ≡ rowsFor s a b .step (rowAt (s .w) state rows) column
+    next = e ∙ ap (λ (r : List ℕ). rowsFor s a b .step r column) (row-part (s .w) state rows)
+
+    pub turn-found : (j : ℕ) (r : Found) → Looked (s .w) count rows row′ r → r ≡ At j → Turned (rowsFor s a b) (s .k) (s .w) (s .limit) count state column rows (set table (s .limit + q) (j % 65536)) (Sets count)
+    turn-found j r l f =
+        let h : Looked (s .w) count rows row′ (At j) = rw f at l in (
+          le-refl count,
+          partial-found (rowsFor s a b) (s .k) (s .w) (s .limit) count state column q rows table row′ (T .partial) (T .place) next j turn-cell
+              (omega (arith, h .0, T .partial .within, T .room .small)) (h .0) (h .1),
+        )
+
+    pub turn-new : (r : Found) → Looked (s .w) count rows row′ r → r ≡ Nothing → count < s .limit → (rows′ : List ℕ) → Appended (s .w) count rows row′ rows′
+        → Turned (rowsFor s a b) (s .k) (s .w) (s .limit) count state column rows′ (set table (s .limit + q) (count % 65536)) (Sets (count + 1))
+    turn-new r l f h rows′ A =
+        let n : Looked (s .w) count rows row′ Nothing = rw f at l in
+        (omega arith, partial-new (rowsFor s a b) (s .k) (s .w) (s .limit) count state column q rows table row′ (T .partial) (T .place) next turn-cell n rows′ h (T .room .small) A)
+
+    pub turn-full : (r : Found) → Looked (s .w) count rows row′ r → r ≡ Nothing → s .limit ≤ count → MoreThan (s .k) (rowsFor s a b) (s .limit)
+    turn-full r l f h =
+        let n : Looked (s .w) count rows row′ Nothing = rw f at l in
+        partial-full (rowsFor s a b) (s .k) (s .w) (s .limit) count state column q rows table row′ (T .partial) (T .place) next turn-cell n h
+
+-- ---- the flags
+
+pub flagged-none : (R : Automaton (List ℕ)) (w limit : ℕ) (rows table : List ℕ) → Flagged R w limit 0 rows table table
+flagged-none R w limit rows table = record { set = λ p h. absurd (omega arith); kept = λ i h. refl }
+
+pub flagged-more : (R : Automaton (List ℕ)) (w limit p v : ℕ) (rows table table′ : List ℕ) → Flagged R w limit p rows table table′ → p < limit → p < length table′
+    → v ≡ bit (R .accepting (take (p * w + w - p * w) (drop (p * w) rows))) → Flagged R w limit (p + 1) rows table (set table′ p v)
+flagged-more R w limit p v rows table table′ F h l e = record { set = λ x b. go x b (lt-cases x p); kept = λ i g. getD-set-other table′ p i v 0 (λ z. omega arith) ∙ F .kept i g }
+  where
+    go : (x : ℕ) → x < p + 1 → LtCases x p → getD (set table′ p v) x 0 ≡ bit (R .accepting (rowAt w x rows))
+    go x b (inl y) = getD-set-other table′ p x v 0 (λ z. let c = y .0 in omega arith) ∙ F .set x (y .0)
+    go x b (inr y) = let z : x ≡ p = omega arith in rw z (getD-set-same table′ p v 0 l ∙ e ∙ ap (λ (r : List ℕ). bit (R .accepting r)) (row-part w p rows))
+
+pub flagging-row : (s : Shape) (a b : List ℕ) (count : ℕ) (rows table : List ℕ) → Flagging s a b count rows table → (p : ℕ) → p < count → p * s .w + s .w ≤ length rows
+flagging-row s a b count rows table G p h = omega (arith, row-within p count (s .w) h, G .rowsLong)

@@ -1,0 +1,51 @@
+// The rows of an erase: a flag for each state of A, closed under the mark, which is the last column.
+use crate::Shape;
+use crate::bits;
+use crate::closure;
+ghost use mathlib.Core.Path.{_≡_};
+ghost use lib.ListN.{length};
+ghost use Rattle.explore.specs.Rows.{operationOf, erase};
+ghost use Rattle.explore.specs.Answer.{rowsFor, Fits, Step, Source};
+
+// The first row: A's 0, and what it gains.
+pub fn start(a: &[u16], b: &[u16], s: Shape, row: &mut [u8])
+    requires { ⌜ Fits s (now a) (now b) ⌝ }
+    requires { ⌜ length (now row) ≡ s .w ⌝ }
+    requires { ⌜ operationOf (s .op) ≡ erase ⌝ }
+    ensures { λ _. ⌜ now (row .exit) ≡ rowsFor s (now (a .entry)) (now (b .entry)) .start ⌝ }
+{
+    let k = s.k;
+    let ba = s.ba;
+    let na = s.na;
+    bits::clear(row);
+    row[0] = 1;
+    closure::close(a, ba, k, na, row);
+}
+
+// The row that `from` leads to by the column c: by the mark, the empty one.
+pub fn next(a: &[u16], b: &[u16], s: Shape, c: usize, from: &[u8], row: &mut [u8])
+    requires { ⌜ Step s (now a) (now b) c (now from) (now row) ⌝ }
+    requires { ⌜ operationOf (s .op) ≡ erase ⌝ }
+    ensures { λ _. ⌜ now (row .exit) ≡ rowsFor s (now (a .entry)) (now (b .entry)) .step (now (from .entry)) c ⌝ }
+{
+    let k = s.k;
+    let ba = s.ba;
+    let na = s.na;
+    if c + 1 == k {
+        bits::clear(row);
+    } else {
+        bits::lead(a, ba, k, c, from, na, row);
+        closure::close(a, ba, k, na, row);
+    }
+}
+
+// Whether a state in the row is accepting.
+pub fn accepts(a: &[u16], b: &[u16], s: Shape, from: &[u8]) -> bool
+    requires { ⌜ Fits s (now a) (now b) ⌝ }
+    requires { ⌜ Source s (now from) ⌝ }
+    requires { ⌜ operationOf (s .op) ≡ erase ⌝ }
+    ensures { λ r. ⌜ r ≡ rowsFor s (now (a .entry)) (now (b .entry)) .accepting (now (from .entry)) ⌝ }
+{
+    let na = s.na;
+    bits::some_accepting(a, from, na)
+}

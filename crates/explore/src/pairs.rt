@@ -1,0 +1,54 @@
+// The rows of `|`, `&` and `-`: a state of each operand, by its number.
+use crate::Shape;
+use crate::number;
+use crate::table;
+ghost use mathlib.Core.Path.{_≡_};
+ghost use Prim.Native.Nat.{_<_};
+ghost use lib.ListN.{length};
+ghost use Rattle.explore.specs.Steps.{pairAnswer};
+ghost use Rattle.explore.specs.Answer.{rowsFor, Fits, Step, Source};
+
+// The pair that `from` leads to by the column c.
+pub fn next(a: &[u16], b: &[u16], s: Shape, c: usize, from: &[u8], row: &mut [u8])
+    requires { ⌜ Step s (now a) (now b) c (now from) (now row) ⌝ }
+    requires { ⌜ s .op < 3 ⌝ }
+    ensures { λ _. ⌜ now (row .exit) ≡ rowsFor s (now (a .entry)) (now (b .entry)) .step (now (from .entry)) c ⌝ }
+{
+    let k = s.k;
+    let ba = s.ba;
+    let bb = s.bb;
+    let p = number::read(from, 0);
+    let q = number::read(from, 2);
+    let x = table::step(a, ba, k, p, c);
+    let y = table::step(b, bb, k, q, c);
+    number::write(row, 0, x);
+    number::write(row, 2, y);
+}
+
+// The answer of the operation from its operands' answers.
+fn combine(op: u8, x: bool, y: bool) -> bool
+    ensures { λ r. ⌜ r ≡ pairAnswer op x y ⌝ }
+{
+    if op == 0 {
+        x || y
+    } else if op == 1 {
+        x && y
+    } else {
+        x && !y
+    }
+}
+
+// Whether the pair is accepting.
+pub fn accepts(a: &[u16], b: &[u16], s: Shape, from: &[u8]) -> bool
+    requires { ⌜ Fits s (now a) (now b) ⌝ }
+    requires { ⌜ Source s (now from) ⌝ }
+    requires { ⌜ s .op < 3 ⌝ }
+    ensures { λ r. ⌜ r ≡ rowsFor s (now (a .entry)) (now (b .entry)) .accepting (now (from .entry)) ⌝ }
+{
+    let op = s.op;
+    let p = number::read(from, 0);
+    let q = number::read(from, 2);
+    let x = table::accepting(a, p);
+    let y = table::accepting(b, q);
+    combine(op, x, y)
+}
