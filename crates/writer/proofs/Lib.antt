@@ -1,0 +1,7 @@
+-- Laws that the proofs of several functions cite.
+pub mod LaidLaws
+pub mod ArrivalLaws
+pub mod NumberLaws
+pub mod MarkLaws
+pub mod MoveLaws
+pub mod WriteLaws
