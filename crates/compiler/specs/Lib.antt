@@ -3,7 +3,6 @@ pub mod Allows
 pub mod Book
 pub mod BookLaws
 pub mod Bounds
-pub mod Consequences
 pub mod Outcome
 pub mod Table
 pub mod Peak

@@ -3,13 +3,13 @@ use mathlib.Core.Path.{_≡_, refl, sym, ap, _∙_, subst}
 use mathlib.Core.Bool.{Bool, true, false, _&&_, false≢true}
 use mathlib.Core.Logic.{_⊎_, inl, inr}
 use mathlib.Core.List.{List, [], _∷_}
-use Prim.Native.Nat.{ℕ, zero, suc, _+_, _-_, _*_, _≤_, _<_, suc-le-suc}
+use Prim.Native.Nat.{ℕ, zero, suc, _+_, _-_, _≤_, _<_, suc-le-suc}
 use native.Mathlib.Nat.{le-refl, not-suc-le-zero, le-of-suc-le-suc}
 use native.Mathlib.Omega.{arith}
 use lib.Dec.{eqb}
 use lib.ListN.{length, getD, set, length-set}
 use lib.Seq.{getD-set-same, getD-set-other}
-use borrow.Author.Tests.{eq-eqb, ne-eqb}
+use borrow.Author.Tests.{eq-eqb}
 use Rattle.automata.specs.Booleans.{choose, bool-cases, bool-iff, and-left, and-right, and-both}
 use Rattle.automata.specs.Basics.{SameCases, same-cases, nat-test, LtCases, lt-cases, Inj, pigeonhole}
 use Rattle.automata.specs.Decide.{anyBelow, any-below, below-any}
@@ -17,8 +17,8 @@ use Rattle.automata.specs.Machine.{automaton}
 use Rattle.automata.specs.Table.{ClosedTable, tableMachine, table-step, flagOf}
 use Rattle.explore.specs.Rows.{bit, flagAt, flagRow, marks, gained}
 use Rattle.explore.specs.Steps.{cell}
-use Rattle.explore.specs.Closure.{times, unset, Bits, Closes, Chased, Gains}
-use Rattle.explore.proofs.FlagLaws.{Flags, flags-row, row-flags, flags-at, flag-set, flag-clear}
+use Rattle.explore.specs.Closure.{times, unset, Bits, Chased, Gains}
+use Rattle.explore.proofs.FlagLaws.{Flags, flags-row, row-flags, flags-at}
 
 -- ---- steps
 

@@ -1,11 +1,11 @@
 -- The rows of a concatenation: the first, the next, and whether one is accepting. Assumes nothing.
-use mathlib.Core.Path.{_≡_, refl, sym, ap, _∙_}
-use mathlib.Core.Bool.{Bool, true, false, _&&_, _||_}
+use mathlib.Core.Path.{_≡_, sym, ap, _∙_}
+use mathlib.Core.Bool.{Bool, true, false, _&&_}
 use mathlib.Core.Logic.{_⊎_, inl, inr}
 use mathlib.Core.List.{List, [], _∷_, _++_, append-nil}
-use Prim.Native.Nat.{ℕ, zero, suc, _+_, _-_, _*_, _/_, _%_, _≤_, _<_}
+use Prim.Native.Nat.{ℕ, suc, _+_, _-_, _*_, _/_, _%_, _≤_, _<_}
 use native.Mathlib.Omega.{arith}
-use lib.ListN.{length, getD, set, drop, take, replicate, length-drop, length-append, length-take, drop-of-length-le}
+use lib.ListN.{length, set, drop, take, replicate, length-drop, length-append, drop-of-length-le}
 use lib.Seq.{take-all, drop-at, getD-drop, length-take-le}
 use lib.Dec.{eqb}
 use Rattle.automata.specs.Booleans.{choose, bool-cases}
@@ -14,7 +14,7 @@ use Rattle.explore.specs.Rows.{flagAt, flagRow, leadsTo, someAccepting, 
 use Rattle.explore.specs.Steps.{cell, Leads, concatGain}
 use Rattle.explore.specs.Answer.{leftOf, rightOf, rowsFor, Fits, Source}
 use Rattle.explore.specs.declared.Shape.{Shape}
-use Rattle.explore.proofs.FlagLaws.{Flags, flags-none, flags-row, row-flags, flags-same, flags-add, flags-at, or-false, any-ext}
+use Rattle.explore.proofs.FlagLaws.{Flags, flags-none, flags-row, row-flags, flags-same, flags-add, or-false, any-ext}
 use Rattle.explore.proofs.TableLaws.{leads-of, leads-step, some-same, flag-in, cell-in}
 
 -- what is put into a row that has a flag at least

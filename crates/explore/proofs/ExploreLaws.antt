@@ -1,13 +1,15 @@
 -- The loop over all transitions: what holds where it begins, on its way and at its end. Assumes nothing.
-use mathlib.Core.Path.{_≡_, refl, sym, ap, _∙_, subst}
+use mathlib.Core.Path.{_≡_, sym, ap, _∙_}
 use mathlib.Core.List.{List}
-use Prim.Native.Nat.{ℕ, zero, suc, _+_, _*_, _-_, _≤_, _<_}
+use Prim.Native.Nat.{ℕ, _+_, _*_, _-_, _≤_, _<_}
 use native.Mathlib.Nat.{mul-le-mul-right, suc-mul, zero-mul}
 use native.Mathlib.Numerals.{add-one}
 use native.Mathlib.Omega.{arith}
-use lib.ListN.{length}
+use lib.ListN.{length, set, length-set}
+use lib.Seq.{getD-set-same}
 use Rattle.automata.specs.Stage.{MoreThan}
 use Rattle.explore.specs.Rows.{rowAt}
+use Rattle.explore.specs.Steps.{rowHash}
 use Rattle.explore.specs.Answer.{rowsFor, Fits, Room, Explores, Appended, AllRows, Partial, Turning, Turned, Flagging, Flagged}
 use Rattle.explore.specs.declared.Shape.{Shape}
 use Rattle.explore.specs.declared.Explored.{Explored}
@@ -37,15 +39,16 @@ room-kept R rows′ row′ table′ x y z = record {
 pub first-room : {s : Shape} {rows row table : List ℕ} → Room s rows row table → 0 * s .w + s .w ≤ length rows
 first-room {s} R = omega (arith, row-within 0 (s .limit) (s .w) (R .some), R .rowsLong)
 
-pub run-start : (s : Shape) (a b rows row table rows′ row′ : List ℕ) → Explores s a b rows row table → row′ ≡ rowsFor s a b .start → length row′ ≡ length row
-    → Appended (s .w) 0 rows row′ rows′ → length rows′ ≡ length rows → Running s a b rows′ row′ table 1 0 0 0
-run-start s a b rows row table rows′ row′ E e y A x = record {
+pub run-start : (s : Shape) (a b rows row table rows′ row′ : List ℕ) (v : ℕ) → Explores s a b rows row table → row′ ≡ rowsFor s a b .start → length row′ ≡ length row
+    → Appended (s .w) 0 rows row′ rows′ → length rows′ ≡ length rows → v ≡ rowHash row′ → Running s a b rows′ row′ (set table 0 v) 1 0 0 0
+run-start s a b rows row table rows′ row′ v E e y A x h = record {
   fits = E .fits;
-  room = room-kept (E .room) rows′ row′ table x y refl;
+  room = room-kept (E .room) rows′ row′ (set table 0 v) x y (length-set table 0 v);
   state = omega arith;
   column = omega (arith, E .fits .columns);
   cell = omega (arith, zero-mul (s .k));
-  partial = partial-start (rowsFor s a b) (s .k) (s .w) (s .limit) rows′ table (E .room .some) (A .here ∙ e);
+  partial = partial-start (rowsFor s a b) (s .k) (s .w) (s .limit) rows′ (set table 0 v) (E .room .some) (A .here ∙ e)
+      (getD-set-same table 0 v 0 (omega (arith, E .room .some, E .room .tableLong)) ∙ h ∙ ap rowHash (sym (A .here)));
 }
 
 module _ (s : Shape) (a b rows row table : List ℕ) (count p c q : ℕ) (R : Running s a b rows row table count p c q) where

@@ -1,12 +1,12 @@
 -- The codes of the operations, and that the states which a reachable row names are states. Assumes nothing.
-use mathlib.Core.Path.{_≡_, refl, sym, ap, _∙_}
+use mathlib.Core.Path.{_≡_, refl, _∙_}
 use mathlib.Core.List.{List, [], _∷_}
 use Prim.Native.Nat.{ℕ, zero, suc, _+_, _*_, _-_, _/_, _%_, _≤_, _<_}
 use native.Mathlib.Omega.{arith}
-use lib.ListN.{length, replicate}
+use lib.ListN.{replicate}
 use Rattle.automata.specs.Automaton.{Automaton, Over, run, Reachable}
 use Rattle.automata.specs.Table.{table-step}
-use Rattle.explore.specs.Rows.{numberAt, numberBytes, Operation, pairing, concatenation, star, erase, operationOf, rowsOf, pairRows, concatRows, starRows, eraseRows}
+use Rattle.explore.specs.Rows.{numberAt, Operation, pairing, concatenation, star, erase, operationOf, rowsOf, pairRows, concatRows, starRows, eraseRows}
 use Rattle.explore.specs.Answer.{leftOf, rightOf, rowsFor, RowFits, Fits}
 use Rattle.explore.specs.declared.Shape.{Shape}
 use Rattle.explore.proofs.PairLaws.{pair-of}

@@ -1,18 +1,17 @@
 -- Rows of flags, entry by entry. Assumes nothing.
-use mathlib.Core.Path.{_≡_, refl, sym, ap, ap₂, _∙_}
+use mathlib.Core.Path.{_≡_, refl, sym, ap, _∙_}
 use mathlib.Core.Bool.{Bool, true, false, _&&_, _||_, not, false≢true}
-use mathlib.Core.Logic.{_⊎_, inl, inr}
+use mathlib.Core.Logic.{inl, inr}
 use mathlib.Core.List.{List}
-use Prim.Native.Nat.{ℕ, zero, suc, _+_, _*_, _<_, _≤_}
-use native.Mathlib.Nat.{not-suc-le-zero}
+use Prim.Native.Nat.{ℕ, zero, suc, _+_, _<_, _≤_}
 use native.Mathlib.Numerals.{add-one}
 use native.Mathlib.Omega.{arith}
 use lib.Dec.{eqb}
 use lib.ListN.{length, getD, set, replicate, length-set, length-replicate, getD-replicate}
 use lib.Seq.{ext-getD, getD-set-same, getD-set-other}
 use borrow.Author.Tests.{eq-eqb, ne-eqb}
-use Rattle.automata.specs.Booleans.{choose, bool-cases, not-true, and-left, and-right}
-use Rattle.automata.specs.Basics.{tab, length-tab, getD-tab, SameCases, same-cases, nat-test}
+use Rattle.automata.specs.Booleans.{choose, not-true}
+use Rattle.automata.specs.Basics.{length-tab, getD-tab, SameCases, same-cases, nat-test}
 use Rattle.automata.specs.Decide.{anyBelow, any-below, below-any}
 use Rattle.explore.specs.Rows.{bit, flagAt, flagRow, leadsTo, someAccepting}
 

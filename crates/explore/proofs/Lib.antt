@@ -1,5 +1,6 @@
 -- What the proofs of several functions use.
 pub mod RowLaws
+pub mod HashLaws
 pub mod FlagLaws
 pub mod TableLaws
 pub mod PairLaws

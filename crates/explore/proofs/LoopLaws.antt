@@ -1,18 +1,19 @@
 -- The rows found so far: what one more transition, one more row, and one row too many make of them. For any automaton of rows. Assumes nothing.
-use mathlib.Core.Path.{_≡_, refl, sym, ap, _∙_, subst}
-use mathlib.Core.Bool.{Bool, true, false, cond}
+use mathlib.Core.Path.{_≡_, sym, ap, _∙_, subst}
+use mathlib.Core.Bool.{Bool, cond}
 use mathlib.Core.Logic.{_⊎_, inl, inr}
 use mathlib.Core.List.{List, []}
-use Prim.Native.Nat.{ℕ, zero, suc, _+_, _*_, _%_, _≤_, _<_}
+use Prim.Native.Nat.{ℕ, suc, _+_, _*_, _%_, _≤_, _<_}
 use native.Mathlib.Nat.{mod-eq-of-lt}
 use native.Mathlib.Omega.{arith}
 use lib.Dec.{ltb}
 use lib.ListN.{length, getD, set}
 use lib.Seq.{getD-set-same, getD-set-other}
-use Rattle.automata.specs.Basics.{SameCases, same-cases, nat-test, LtCases, lt-cases, Inj, lt-ltb, ltb-false}
+use Rattle.automata.specs.Basics.{LtCases, lt-cases, Inj, lt-ltb, ltb-false}
 use Rattle.automata.specs.Automaton.{Automaton, Reachable, reached-step}
 use Rattle.automata.specs.Stage.{MoreThan}
-use Rattle.explore.specs.Rows.{rowAt, bit}
+use Rattle.explore.specs.Rows.{rowAt}
+use Rattle.explore.specs.Steps.{rowHash}
 use Rattle.explore.specs.Answer.{Appended, AllRows, Earlier, Partial, Place, Flagged}
 use Rattle.explore.proofs.RowLaws.{row-within}
 
@@ -34,8 +35,8 @@ earlier-below p c state column count h (inl g) = omega arith
 earlier-below p c state column count h (inr (e, g)) = rw e h
 
 module _ (R : Automaton (List ℕ)) (k w limit : ℕ) where
-  pub partial-start : (rows table : List ℕ) → 1 ≤ limit → rowAt w 0 rows ≡ R .start → Partial R k w limit 1 0 0 rows table
-  partial-start rows table h e = record {
+  pub partial-start : (rows table : List ℕ) → 1 ≤ limit → rowAt w 0 rows ≡ R .start → getD table 0 0 ≡ rowHash (rowAt w 0 rows) → Partial R k w limit 1 0 0 rows table
+  partial-start rows table h e v = record {
     some = omega arith;
     within = h;
     start = e;
@@ -43,6 +44,7 @@ module _ (R : Automaton (List ℕ)) (k w limit : ℕ) where
     reached = λ i b. let z : i ≡ 0 = omega arith in ([], tt, rw z (sym e));
     inside = λ p c b f. absurd (none p c f);
     moves = λ p c b f. absurd (none p c f);
+    hashes = λ i b. let z : i ≡ 0 = omega arith in rw z v;
   }
     where
       none : (p c : ℕ) → Earlier p c 0 0 → ⊥
@@ -59,6 +61,7 @@ module _ (R : Automaton (List ℕ)) (k w limit : ℕ) where
     reached = P .reached;
     inside = λ p c b f. P .inside p c b (back p c b f);
     moves = λ p c b f. P .moves p c b (back p c b f);
+    hashes = P .hashes;
   }
     where
       back : (p c : ℕ) → c < k → Earlier p c (state + 1) 0 → Earlier p c state column
@@ -68,6 +71,22 @@ module _ (R : Automaton (List ℕ)) (k w limit : ℕ) where
           go : LtCases p state → Earlier p c state column
           go (inl x) = inl (x .0)
           go (inr x) = inr (omega arith, omega arith)
+
+  -- a place for a hash that is not used yet
+  pub partial-store : (count state column x v : ℕ) (rows table : List ℕ) → count ≤ x → x < limit → Partial R k w limit count state column rows table → Partial R k w limit count state column rows (set table x v)
+  partial-store count state column x v rows table h b P = record {
+    some = P .some;
+    within = P .within;
+    start = P .start;
+    distinct = P .distinct;
+    reached = P .reached;
+    inside = λ p c l f. rw (other (limit + (p * k + c)) (omega arith)) (P .inside p c l f);
+    moves = λ p c l f. rw (other (limit + (p * k + c)) (omega arith)) (P .moves p c l f);
+    hashes = λ i l. getD-set-other table x i v 0 (λ z. omega arith) ∙ P .hashes i l;
+  }
+    where
+      other : (i : ℕ) → limit ≤ i → getD (set table x v) i 0 ≡ getD table i 0
+      other i g = getD-set-other table x i v 0 (λ z. omega arith)
 
   module _ (count state column q : ℕ) (rows table row : List ℕ) (P : Partial R k w limit count state column rows table) (L : Place k count state column q) (e : row ≡ R .step (rowAt w state rows) column) where
     reach : Reachable k R row
@@ -84,6 +103,10 @@ module _ (R : Automaton (List ℕ)) (k w limit : ℕ) where
       new : getD table′ (limit + (state * k + column)) 0 ≡ j
       new = ap (λ (i : ℕ). getD table′ (limit + i) 0) (sym (L .cell)) ∙ getD-set-same table (limit + q) (j % 65536) 0 long ∙ mod-eq-of-lt small
 
+      -- what lies before the transitions is unchanged
+      apart : (i : ℕ) → i < limit → getD table′ i 0 ≡ getD table i 0
+      apart i h = getD-set-other table (limit + q) i (j % 65536) 0 (λ z. omega arith)
+
       -- the row is there already
       pub partial-found : j < count → rowAt w j rows ≡ row → Partial R k w limit count state (column + 1) rows table′
       partial-found b f = record {
@@ -94,6 +117,7 @@ module _ (R : Automaton (List ℕ)) (k w limit : ℕ) where
         reached = P .reached;
         inside = λ p c l g. inside p c l (earlier-split p c state column g);
         moves = λ p c l g. moves p c l (earlier-split p c state column g);
+        hashes = λ i l. apart i (omega (arith, P .within)) ∙ P .hashes i l;
       }
         where
           inside : (p c : ℕ) → c < k → Earlier p c state column ⊎ ((p ≡ state) × (c ≡ column)) → getD table′ (limit + (p * k + c)) 0 < count
@@ -106,9 +130,9 @@ module _ (R : Automaton (List ℕ)) (k w limit : ℕ) where
 
     module _ (long : limit + q < length table) (none : (j : ℕ) → j < count → rowAt w j rows ≡ row → ⊥) where
       -- the row is put behind the others
-      pub partial-new : (rows′ : List ℕ) → count < limit → limit ≤ 65536 → Appended w count rows row rows′
+      pub partial-new : (rows′ : List ℕ) → count < limit → limit ≤ 65536 → Appended w count rows row rows′ → getD table count 0 ≡ rowHash row
           → Partial R k w limit (count + 1) state (column + 1) rows′ (set table (limit + q) (count % 65536))
-      partial-new rows′ room most A = record {
+      partial-new rows′ room most A v = record {
         some = omega arith;
         within = omega arith;
         start = A .before 0 (P .some) ∙ P .start;
@@ -116,8 +140,13 @@ module _ (R : Automaton (List ℕ)) (k w limit : ℕ) where
         reached = λ i b. reached i b (lt-cases i count);
         inside = λ p c l g. inside p c l (earlier-split p c state column g);
         moves = λ p c l g. moves p c l (earlier-split p c state column g);
+        hashes = λ i l. apart count long small i (omega arith) ∙ hashes i l (lt-cases i count);
       }
         where
+          hashes : (i : ℕ) → i < count + 1 → LtCases i count → getD table i 0 ≡ rowHash (rowAt w i rows′)
+          hashes i l (inl x) = P .hashes i (x .0) ∙ ap rowHash (sym (A .before i (x .0)))
+          hashes i l (inr x) = let y : i ≡ count = omega arith in rw y (v ∙ ap rowHash (sym (A .here)))
+
           small : count < 65536
           small = omega arith
 
@@ -162,8 +191,8 @@ module _ (R : Automaton (List ℕ)) (k w limit : ℕ) where
               go (inl x) = subst (Reachable k R) (sym (low i (x .0))) (P .reached i (x .0))
               go (inr x) = subst (Reachable k R) (sym (high i (x .0))) reach
 
-          apart : (i j : ℕ) → i < j → j < suc limit → f i ≡ f j → ⊥
-          apart i j a b z = go (lt-cases j count)
+          differ : (i j : ℕ) → i < j → j < suc limit → f i ≡ f j → ⊥
+          differ i j a b z = go (lt-cases j count)
             where
               go : LtCases j count → ⊥
               go (inl x) = P .distinct i j a (x .0) (sym (low i (omega arith)) ∙ z ∙ low j (x .0))
@@ -173,8 +202,8 @@ module _ (R : Automaton (List ℕ)) (k w limit : ℕ) where
           one i j bi bj z = go (lt-cases i j) (lt-cases j i)
             where
               go : LtCases i j → LtCases j i → i ≡ j
-              go (inl x) y = absurd (apart i j (x .0) bj z)
-              go (inr x) (inl y) = absurd (apart j i (y .0) bi (sym z))
+              go (inl x) y = absurd (differ i j (x .0) bj z)
+              go (inr x) (inl y) = absurd (differ j i (y .0) bi (sym z))
               go (inr x) (inr y) = omega arith
 
   -- all rows have their transitions, and the flags are laid out

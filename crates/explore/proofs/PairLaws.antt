@@ -1,16 +1,15 @@
 -- The rows of `|`, `&` and `-`: the next pair, and whether it is accepting. Assumes nothing.
-use mathlib.Core.Path.{_≡_, refl, sym, ap, ap₂, _∙_, subst}
-use mathlib.Core.Bool.{Bool, true, false, not, _&&_, _||_}
+use mathlib.Core.Path.{_≡_, refl, sym, ap₂, _∙_}
+use mathlib.Core.Bool.{Bool, not, _&&_, _||_}
 use mathlib.Core.List.{List, [], _∷_}
-use Prim.Native.Nat.{ℕ, zero, suc, _+_, _*_, _/_, _%_, _≤_, _<_}
+use Prim.Native.Nat.{ℕ, zero, suc, _+_, _*_, _/_, _%_, _<_}
 use native.Mathlib.Omega.{arith}
-use lib.ListN.{length, getD, set}
-use Rattle.automata.specs.Machine.{automaton}
-use Rattle.automata.specs.Table.{ClosedTable, tableMachine, table-step, table-accepting}
+use lib.ListN.{length, set}
+use Rattle.automata.specs.Table.{table-step, table-accepting}
 use Rattle.automata.specs.Stages.{Pairing, either, both, without, combine}
 use Rattle.explore.specs.Rows.{flagAt, numberAt, pairRow, pairing, operationOf, pairRows}
 use Rattle.explore.specs.Steps.{cell, pairAnswer}
-use Rattle.explore.specs.Answer.{leftOf, rightOf, rowsFor, Fits, Source, Step}
+use Rattle.explore.specs.Answer.{rowsFor, Fits, Source}
 use Rattle.explore.specs.declared.Shape.{Shape}
 use Rattle.explore.proofs.TableLaws.{cell-in, flag-in}
 

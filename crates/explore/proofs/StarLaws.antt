@@ -1,17 +1,17 @@
 -- The rows of a star: the first, the next, and whether one is accepting. Assumes nothing.
-use mathlib.Core.Path.{_≡_, refl, sym, ap, _∙_}
+use mathlib.Core.Path.{_≡_, sym, ap, _∙_}
 use mathlib.Core.Bool.{Bool, true, false, _&&_, _||_}
 use mathlib.Core.List.{List}
-use Prim.Native.Nat.{ℕ, suc, _+_, _≤_, _<_}
+use Prim.Native.Nat.{ℕ, suc, _<_}
 use native.Mathlib.Omega.{arith}
-use lib.ListN.{length, set, replicate}
+use lib.ListN.{set, replicate}
 use lib.Dec.{eqb}
 use Rattle.explore.specs.Rows.{flagAt, flagRow, leadsTo, someAccepting, ends, operationOf, star, starRows}
 use Rattle.explore.specs.Steps.{cell, Leads}
 use Rattle.explore.specs.Answer.{leftOf, rowsFor, Fits, Source}
 use Rattle.explore.specs.declared.Shape.{Shape}
 use Rattle.explore.proofs.FlagLaws.{Flags, flags-none, flags-row, row-flags, flags-same, flags-add, flags-at, or-assoc, or-false}
-use Rattle.explore.proofs.TableLaws.{leads-of, leads-step, some-same, flag-in}
+use Rattle.explore.proofs.TableLaws.{leads-of, leads-step, some-same}
 
 module _ (s : Shape) (a b : List ℕ) (F : Fits s a b) (is : operationOf (s .op) ≡ star) where
   pub star-width : s .w ≡ suc (s .na)

@@ -1,26 +1,25 @@
 -- One turn of the loop: what its calls ask, and what it leaves; and the flags of the rows. Assumes nothing.
-use mathlib.Core.Path.{_≡_, refl, sym, ap, _∙_, subst}
-use mathlib.Core.Bool.{Bool}
+use mathlib.Core.Path.{_≡_, refl, ap, _∙_}
 use mathlib.Core.Logic.{inl, inr}
 use mathlib.Core.List.{List}
-use Prim.Native.Nat.{ℕ, zero, suc, _+_, _*_, _-_, _%_, _≤_, _<_}
+use Prim.Native.Nat.{ℕ, _+_, _*_, _-_, _%_, _≤_, _<_}
 use native.Mathlib.Nat.{mul-le-mul-right, le-refl}
 use native.Mathlib.Omega.{arith}
-use lib.ListN.{length, getD, set, take, drop}
+use lib.ListN.{length, getD, set, take, drop, length-set}
 use lib.Seq.{getD-set-same, getD-set-other}
 use Rattle.automata.specs.Basics.{LtCases, lt-cases}
 use Rattle.automata.specs.Automaton.{Automaton}
 use Rattle.automata.specs.Stage.{MoreThan}
 use Rattle.explore.specs.Rows.{rowAt, bit, operationOf}
-use Rattle.explore.specs.Answer.{rowsFor, RowFits, Fits, Room, Source, Step, Looked, Appended, Partial, Turning, Turned, Flagging, Flagged}
+use Rattle.explore.specs.Steps.{rowHash}
+use Rattle.explore.specs.Answer.{rowsFor, RowFits, Source, Step, Looked, Appended, Turning, Turned, Flagging, Flagged}
 use Rattle.explore.specs.declared.Shape.{Shape}
-use Rattle.explore.specs.declared.Explored.{Explored}
-use Rattle.explore.specs.declared.Explored.the-variants.{Sets, TooMany}
+use Rattle.explore.specs.declared.Explored.the-variants.{Sets}
 use Rattle.explore.specs.declared.rows.Found.{Found}
 use Rattle.explore.specs.declared.rows.Found.the-variants.{At, Nothing}
 use Rattle.explore.proofs.RowLaws.{row-within, cell-within, row-part, row-length}
 use Rattle.explore.proofs.FitLaws.{reach-fits}
-use Rattle.explore.proofs.LoopLaws.{partial-found, partial-new, partial-full}
+use Rattle.explore.proofs.LoopLaws.{partial-store, partial-found, partial-new, partial-full}
 
 -- a row in the buffer is one from which the next is made
 pub row-source : (s : Shape) (rows : List ℕ) (p : ℕ) → p * s .w + s .w ≤ length rows → RowFits (operationOf (s .op)) (s .na) (s .nb) (rowAt (s .w) p rows)
@@ -33,6 +32,9 @@ module _ (s : Shape) (a b rows row table : List ℕ) (count state column q : ℕ
 
   pub turn-rows : count * s .w ≤ length rows
   turn-rows = omega (arith, mul-le-mul-right {m = count} {n = s .limit} (s .w) (T .partial .within), T .room .rowsLong)
+
+  pub turn-hashes : count ≤ length table
+  turn-hashes = omega (arith, T .partial .within, T .room .tableLong)
 
   pub turn-append : count < s .limit → count * s .w + s .w ≤ length rows
   turn-append h = omega (arith, row-within count (s .limit) (s .w) h, T .room .rowsLong)
@@ -60,11 +62,16 @@ module _ (s : Shape) (a b rows row table : List ℕ) (count state column q : ℕ
               (omega (arith, h .0, T .partial .within, T .room .small)) (h .0) (h .1),
         )
 
-    pub turn-new : (r : Found) → Looked (s .w) count rows row′ r → r ≡ Nothing → count < s .limit → (rows′ : List ℕ) → Appended (s .w) count rows row′ rows′
-        → Turned (rowsFor s a b) (s .k) (s .w) (s .limit) count state column rows′ (set table (s .limit + q) (count % 65536)) (Sets (count + 1))
-    turn-new r l f h rows′ A =
+    pub turn-new : (r : Found) → Looked (s .w) count rows row′ r → r ≡ Nothing → count < s .limit → (rows′ : List ℕ) → Appended (s .w) count rows row′ rows′ → (v : ℕ) → v ≡ rowHash row′
+        → Turned (rowsFor s a b) (s .k) (s .w) (s .limit) count state column rows′ (set (set table count v) (s .limit + q) (count % 65536)) (Sets (count + 1))
+    turn-new r l f h rows′ A v e′ =
         let n : Looked (s .w) count rows row′ Nothing = rw f at l in
-        (omega arith, partial-new (rowsFor s a b) (s .k) (s .w) (s .limit) count state column q rows table row′ (T .partial) (T .place) next turn-cell n rows′ h (T .room .small) A)
+        let long : s .limit + q < length (set table count v) = omega (arith, turn-cell, length-set table count v) in
+        let here : getD (set table count v) count 0 ≡ rowHash row′ = getD-set-same table count v 0 (omega (arith, turn-cell)) ∙ e′ in (
+          omega arith,
+          partial-new (rowsFor s a b) (s .k) (s .w) (s .limit) count state column q rows (set table count v) row′
+              (partial-store (rowsFor s a b) (s .k) (s .w) (s .limit) count state column count v rows table (le-refl count) h (T .partial)) (T .place) next long n rows′ h (T .room .small) A here,
+        )
 
     pub turn-full : (r : Found) → Looked (s .w) count rows row′ r → r ≡ Nothing → s .limit ≤ count → MoreThan (s .k) (rowsFor s a b) (s .limit)
     turn-full r l f h =

@@ -2,14 +2,14 @@
 -- limit. Nothing is said of the order in which the rows are found.
 use mathlib.Core.Path.{_≡_}
 use mathlib.Core.Logic.{_⊎_}
-use mathlib.Core.Bool.{Bool, true, false}
 use mathlib.Core.List.{List}
-use Prim.Native.Nat.{ℕ, suc, _+_, _*_, _-_, _≤_, _<_}
+use Prim.Native.Nat.{ℕ, _+_, _*_, _-_, _≤_, _<_}
 use lib.ListN.{length, getD}
 use Rattle.automata.specs.Automaton.{Automaton, Reachable}
 use Rattle.automata.specs.Machine.{automaton}
 use Rattle.automata.specs.Table.{ClosedTable, tableMachine}
 use Rattle.automata.specs.Stage.{MoreThan}
+use Rattle.explore.specs.Steps.{rowHash}
 use Rattle.explore.specs.Rows.{rowAt, bit, numberAt, Operation, pairing, concatenation, star, erase, operationOf, rowWidth, rowsOf}
 use Rattle.explore.specs.declared.Shape.{Shape}
 use Rattle.explore.specs.declared.Explored.{Explored}
@@ -72,6 +72,10 @@ pub record Step (s : Shape) (a b : List ℕ) (c : ℕ) (from row : List ℕ) : T
 
 -- ---- rows in a buffer
 
+-- The hash of each of the first count rows.
+abbrev pub Hashes : ℕ → ℕ → List ℕ → List ℕ → Type 0
+Hashes w count rows table = (i : ℕ) → i < count → getD table i 0 ≡ rowHash (rowAt w i rows)
+
 -- A row is one of the first count, or none of them.
 abbrev pub Looked : ℕ → ℕ → List ℕ → List ℕ → Found → Type 0
 Looked w count rows row (At j) = (j < count) × (rowAt w j rows ≡ row)
@@ -106,7 +110,7 @@ Answers R k w limit rows table TooMany = MoreThan k R limit
 abbrev pub Earlier : ℕ → ℕ → ℕ → ℕ → Type 0
 Earlier p c state column = (p < state) ⊎ ((p ≡ state) × (c < column))
 
--- What holds of the first count rows where the transitions before one place are laid out.
+-- What holds of the first count rows where the transitions before one place are laid out. Until the flags are, their places keep the rows' hashes.
 pub record Partial (R : Automaton (List ℕ)) (k w limit count state column : ℕ) (rows table : List ℕ) : Type 0 where
   pub some : 1 ≤ count
   pub within : count ≤ limit
@@ -115,6 +119,7 @@ pub record Partial (R : Automaton (List ℕ)) (k w limit count state column : �
   pub reached : (i : ℕ) → i < count → Reachable k R (rowAt w i rows)
   pub inside : (p c : ℕ) → c < k → Earlier p c state column → getD table (limit + (p * k + c)) 0 < count
   pub moves : (p c : ℕ) → c < k → Earlier p c state column → rowAt w (getD table (limit + (p * k + c)) 0) rows ≡ R .step (rowAt w p rows) c
+  pub hashes : Hashes w count rows table
 
 -- the place of a transition that is laid out next
 pub record Place (k count p c q : ℕ) : Type 0 where

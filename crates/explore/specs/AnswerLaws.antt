@@ -4,12 +4,12 @@ use mathlib.Core.Path.{_≡_, refl, sym, ap, _∙_}
 use mathlib.Core.Bool.{Bool, true, false}
 use mathlib.Core.List.{List, [], _∷_}
 use mathlib.Core.Logic.{inl, inr}
-use Prim.Native.Nat.{ℕ, _+_, _*_, _≤_, _<_}
+use Prim.Native.Nat.{ℕ, _+_, _*_, _<_}
 use native.Mathlib.Omega.{arith}
 use lib.ListN.{getD}
 use Rattle.automata.specs.Basics.{LtCases, lt-cases, Inj}
 use Rattle.automata.specs.Automaton.{Automaton, Over, run, Reachable}
-use Rattle.automata.specs.Machine.{Machine, automaton, SameWords}
+use Rattle.automata.specs.Machine.{automaton, SameWords}
 use Rattle.automata.specs.Table.{ClosedTable, tableMachine, table-step, table-accepting, flagOf}
 use Rattle.automata.specs.Stage.{Counts}
 use Rattle.explore.specs.Rows.{rowAt, bit}

@@ -12,7 +12,7 @@ mod table;
 
 ghost use mathlib.Core.Path.{_≡_};
 ghost use Prim.Native.Nat.{_<_, _≤_};
-ghost use lib.ListN.{length};
+ghost use lib.ListN.{length, replicate};
 ghost use Rattle.explore.specs.Rows.{bit};
 ghost use Rattle.explore.specs.Answer.{rowsFor, Fits, Room, Source, Step, Turning, Turned, Flagging, Flagged, Explores, Answers};
 
@@ -135,7 +135,8 @@ fn turn(
     let limit = s.limit;
     let at = state * w;
     next_row(a, b, s, column, &rows[at..at + w], row);
-    match rows::find(&rows[..], w, count, &row[..]) {
+    let h = rows::hash(&row[..]);
+    match rows::find(&rows[..], &table[..], w, count, &row[..], h) {
         rows::Found::At(j) => {
             table[limit + q] = (j % 65536) as u16;
             Explored::Sets(count)
@@ -143,6 +144,7 @@ fn turn(
         rows::Found::Nothing => {
             if count < limit {
                 rows::append(rows, w, count, &row[..]);
+                table[count] = h;
                 table[limit + q] = (count % 65536) as u16;
                 Explored::Sets(count + 1)
             } else {
@@ -168,6 +170,7 @@ pub fn explore(
     let w = s.w;
     start_row(a, b, s, row);
     rows::append(rows, w, 0, &row[..]);
+    table[0] = rows::hash(&row[..]);
     let mut count = 1;
     let mut state = 0;
     let mut column = 0;
@@ -186,4 +189,15 @@ pub fn explore(
     }
     flag_rows(a, b, s, &rows[..], table, count);
     Explored::Sets(count)
+}
+
+// The same with a row of its own, where rows have at most 512 bytes.
+pub fn sets(a: &[u16], b: &[u16], s: Shape, rows: &mut [u8], table: &mut [u16]) -> Explored
+    requires { ⌜ Explores s (now a) (now b) (now rows) (replicate (s .w) 0) (now table) ⌝ }
+    requires { ⌜ s .w ≤ 512 ⌝ }
+    ensures { λ r. ⌜ Answers (rowsFor s (now (a .entry)) (now (b .entry))) (s .k) (s .w) (s .limit) (now (rows .exit)) (now (table .exit)) r ⌝ }
+{
+    let w = s.w;
+    let mut row = [0; 512];
+    explore(a, b, s, rows, &mut row[..w], table)
 }

@@ -14,10 +14,10 @@ pub fn start(a: &[u16], b: &[u16], s: Shape, row: &mut [u8])
     requires { ⌜ operationOf (s .op) ≡ star ⌝ }
     ensures { λ _. ⌜ now (row .exit) ≡ rowsFor s (now (a .entry)) (now (b .entry)) .start ⌝ }
 {
-    let na = s.na;
+    let extra = s.na;
     bits::clear(row);
     row[0] = 1;
-    row[na] = 1;
+    row[extra] = 1;
 }
 
 // The row that `from` leads to by the column c.

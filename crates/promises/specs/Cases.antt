@@ -7,7 +7,7 @@ use mathlib.Core.Path.{_≡_, refl}
 use mathlib.Core.List.{List, [], _∷_, map}
 use lib.ListN.{length}
 use Rattle.automata.specs.Format.{narrow}
-use Rattle.automata.specs.Booleans.{choose}
+use Rattle.automata.specs.Basics.{nat-test}
 use Rattle.automata.specs.Flags.{flags-test}
 use Rattle.automata.specs.Listing.{explore, exploreFrom, listing, turn, addTo, add}
 use Rattle.automata.specs.Partition.{classes, settle, rounds, refine, firsts}
@@ -24,11 +24,11 @@ use Rattle.card.specs.Mark.{marks}
 use Rattle.card.specs.Layout.{encode, contentsTest, lettersOf, marksOf, movesOf, machineOf}
 use Rattle.card.specs.Load.{loadTest, insideTest, rowInside, marksTest}
 use Rattle.card.specs.Verdict.{allowed, unfinished, hopeless}
-use Rattle.card.specs.Judge.{judge, verdict, Reply as Judging}
+use Rattle.card.specs.Judge.{judge, planVerdict, verdict, Reply as Judging}
 use Rattle.automata.specs.Decide.{unless}
 use Rattle.automata.specs.Numbering.{seen, across}
 use Rattle.automata.specs.NumberingTest.{numberedTest, rowNumbered}
-use Rattle.card.specs.Alphabet.{alphabetTest}
+use Rattle.card.specs.Alphabet.{alphabetTest, knownCount}
 use Rattle.automata.specs.ReducedTest.{reducedTest}
 use Rattle.card.specs.Same.{cardOf}
 use Rattle.book.specs.Text.{lineTest, formOf}
@@ -158,3 +158,18 @@ cases =
 pub cases-hold : map (λ c. ask (c .0)) cases ≡ map (λ c. c .1) cases
 unfolding explore exploreFrom listing turn addTo add classes settle rounds refine firsts smallest smallestBy tabulated smallestOf subset gains pair-test stage keep pairStage concatStage starStage eraseStage lineTest formOf readHead readLine checkForm evaluate markedStages minusContexts eraseAndExclude evaluateRule compileForm compileLine compileLines compileHead compileText compileBook outcome cardOf restrict encode marks live liveRound liveNext loadTest contentsTest insideTest rowInside marksTest numberedTest reducedTest judge lettersOf marksOf movesOf machineOf unless alphabetTest rowNumbered seen across
 cases-hold = refl
+
+-- ---- "every plan hopeless 0"
+
+nothing-loads : loadTest narrow nothing ≡ 0
+unfolding loadTest contentsTest insideTest rowInside marksTest numberedTest reducedTest rowNumbered seen across alphabetTest lettersOf marksOf movesOf machineOf unless marks live liveRound liveNext classes settle rounds refine firsts
+nothing-loads = refl
+
+dead-at-once : (plan : List ℕ) → planVerdict narrow nothing plan ≡ hopeless 0
+dead-at-once [] = refl
+dead-at-once (l ∷ plan) = refl
+
+-- `>@ / a _ .*`: its card, which is `nothing`, finds every plan of its letters hopeless at 0.
+pub always-hopeless : (plan : List ℕ) → knownCount (lettersOf narrow nothing) plan ≡ length plan → judge narrow nothing plan ≡ verdict (hopeless 0)
+unfolding judge unless
+always-hopeless plan h = rw (nothing-loads, h, nat-test .whole (length plan), dead-at-once plan)

@@ -5,3 +5,4 @@ pub mod Names
 pub mod Known
 pub mod Forms
 pub mod Answers
+pub mod AnswerLaws

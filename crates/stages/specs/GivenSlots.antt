@@ -1,25 +1,25 @@
 -- The given machines in slots: the bytes that are written for one sign and for any number of signs, and that the slot then holds the given machine.
-use mathlib.Core.Path.{_≡_, refl, sym, ap, ap₂, _∙_, subst}
-use mathlib.Core.Bool.{Bool, true, false, cond, not}
+use mathlib.Core.Path.{_≡_, refl, ap, ap₂, _∙_, subst}
+use mathlib.Core.Bool.{Bool, false, cond}
 use mathlib.Core.Logic.{_⊎_, inl, inr, _≢_}
 use mathlib.Core.List.{List}
-use Prim.Native.Nat.{ℕ, zero, suc, _+_, _*_, _-_, _≤_, _<_}
+use Prim.Native.Nat.{ℕ, suc, _+_, _*_, _-_, _≤_, _<_}
 use native.Mathlib.Nat.{suc-mul, zero-mul, mul-le-mul-right}
 use native.Mathlib.Numerals.{add-one}
 use native.Mathlib.Omega.{arith}
 use lib.ListN.{length, getD, drop, set, length-drop, length-set}
 use lib.Seq.{getD-drop, getD-set-same, getD-set-other}
 use lib.Dec.{eqb, ltb}
-use Rattle.automata.specs.Booleans.{bool-cases}
 use Rattle.automata.specs.Basics.{LtCases, lt-cases, lt-ltb, ltb-false, SameCases, same-cases, nat-test}
 use Rattle.automata.specs.Automaton.{Automaton}
-use Rattle.automata.specs.Machine.{Machine, size, automaton}
+use Rattle.automata.specs.Machine.{Machine, automaton}
 use Rattle.automata.specs.Rows.{cell-below}
 use Rattle.automata.specs.Table.{tableMachine, flagOf, ClosedTable, table-size, table-accepting, table-step, table-formed}
-use Rattle.automata.specs.Given.{oneSign, manySigns, given, letterMachine, dotMachine, emptyMachine, allMachine, markMachine}
-use Rattle.automata.specs.GivenTables.{OneSignTable, one-written, ManySignsTable, many-written, behind, lost, cond-below}
+use Rattle.automata.specs.Given.{oneSign, manySigns, given, letterMachine, dotMachine, emptyMachine, allMachine}
+use Rattle.automata.specs.GivenTables.{one-written, many-written, cond-below}
 use Rattle.explore.specs.Rows.{numberAt, bit}
-use Rattle.stages.specs.Slot.{Slot, slotMachine, Holds, Written}
+use Rattle.stages.specs.RowSets.{flag-bit}
+use Rattle.stages.specs.Slot.{slotMachine, Holds, Written}
 
 -- the columns from lo on and below hi
 abbrev pub within : ℕ → ℕ → ℕ → Bool
@@ -134,10 +134,6 @@ module _ (most k n lo hi good bad : ℕ) (s : List ℕ) (S : Signs most k n lo h
     where
       past : (i : ℕ) → hi ≤ i → cond (within lo hi i) good bad ≡ bad
       past i l = rw (ltb-false i lo (omega (arith, R .range .0)), ltb-false i hi l)
-
-  flag-bit : (b : Bool) → flagOf (bit b) ≡ b
-  flag-bit true = refl
-  flag-bit false = refl
 
   signs-answers : (p : ℕ) → p < n → automaton M .accepting p ≡ eqb p good
   signs-answers p h = table-accepting most n k t signs-closed p h ∙ ap flagOf (getD-drop 2 s p 0 ∙ S .flag p h) ∙ flag-bit (eqb p good)

@@ -1,8 +1,8 @@
 -- A machine kept in a slot among others: what is asked of the buffers, what the slot then holds, and that nothing else is changed.
-use mathlib.Core.Path.{_≡_, refl, sym, ap, ap₂, _∙_, subst}
+use mathlib.Core.Path.{_≡_, sym, ap, ap₂, _∙_, subst}
 use mathlib.Core.Logic.{_⊎_, inl, inr, _≢_}
 use mathlib.Core.List.{List, _++_}
-use Prim.Native.Nat.{ℕ, suc, _+_, _*_, _/_, _%_, _-_, _≤_, _<_}
+use Prim.Native.Nat.{ℕ, _+_, _*_, _/_, _%_, _-_, _≤_, _<_}
 use native.Mathlib.Nat.{div-add-mod', mul-le-mul-right}
 use native.Mathlib.Omega.{arith}
 use lib.ListN.{length, getD, take, drop, set, length-drop, length-set, List·getD-append}
@@ -14,9 +14,9 @@ use Rattle.automata.specs.Table.{tableMachine, ClosedTable}
 use Rattle.explore.specs.Rows.{numberAt}
 use Rattle.minimise.specs.declared.Kept.{Kept}
 use Rattle.minimise.specs.declared.Kept.the-variants.{States, TooMany}
-use Rattle.minimise.specs.Minimised.{Fitting, Minimised}
-use Rattle.minimise.specs.MinimisedLaws.{Found, kept-found, kept-many}
-use Rattle.stages.specs.Slot.{Slot, slotMachine, Holds, Written, table-same, number-drop}
+use Rattle.minimise.specs.Minimised.{Minimised}
+use Rattle.minimise.specs.MinimisedLaws.{Found, kept-many}
+use Rattle.stages.specs.Slot.{slotMachine, Holds, Written, table-same, number-drop}
 
 -- A table of n states over k columns, room for the classes, and room for a slot at a place.
 pub record Keepable (base n k most at : ℕ) (t w s : List ℕ) : Type 0 where

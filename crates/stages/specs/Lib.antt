@@ -4,3 +4,5 @@ pub mod Slot
 pub mod GivenSlots
 pub mod Operate
 pub mod Keep
+pub mod Stage
+pub mod StageLaws

@@ -3,20 +3,20 @@
 use mathlib.Core.Path.{_≡_, refl, sym, ap, ap₂, _∙_, subst}
 use mathlib.Core.Bool.{Bool, true, false, _&&_, _||_, false≢true}
 use mathlib.Core.Logic.{_⊎_, inl, inr, _↔_}
-use mathlib.Core.List.{List, [], _∷_}
-use Prim.Native.Nat.{ℕ, zero, suc, _+_, _*_, _/_, _%_, _-_, _≤_, _<_}
+use mathlib.Core.List.{List}
+use Prim.Native.Nat.{ℕ, zero, suc, _+_, _*_, _/_, _%_, _-_, _<_}
 use native.Mathlib.Nat.{div-add-mod', le-refl}
 use native.Mathlib.Omega.{arith}
 use lib.ListN.{length, getD}
 use lib.Seq.{ext-getD}
 use lib.Dec.{eqb}
-use Rattle.automata.specs.Booleans.{bool-cases, bool-iff, not-true, and-left, and-right, and-both}
-use Rattle.automata.specs.Basics.{LtCases, lt-cases, ltb-false, SameCases, same-cases, nat-test, tab, tab-ext, getD-tab}
+use Rattle.automata.specs.Booleans.{bool-iff, and-left, and-right, and-both}
+use Rattle.automata.specs.Basics.{LtCases, lt-cases, ltb-false, SameCases, same-cases, nat-test, tab-ext, getD-tab}
 use Rattle.automata.specs.Decide.{anyBelow, any-below, below-any}
 use Rattle.automata.specs.Automaton.{Automaton}
 use Rattle.automata.specs.Machine.{Machine, size, automaton, WellFormed}
 use Rattle.automata.specs.Table.{flagOf}
-use Rattle.automata.specs.Flags.{flags-test, someFlag, some-sound, some-whole, flag-inside}
+use Rattle.automata.specs.Flags.{flags-test, someFlag, some-sound, some-whole}
 use Rattle.automata.specs.Subset.{epsilons, subset, step-long, start-long}
 use Rattle.automata.specs.Operations.{product, pair-test, concatNFA, concat-inside, starNFA, star-inside, eraseNFA, erase-inside}
 use Rattle.automata.specs.Members.{In, concat-start-left, concat-start-right, concat-step-left, concat-step-right, star-start, star-step, erase-start, erase-step, erase-mark}
@@ -47,7 +47,7 @@ bit-one true false e = absurd (omega arith)
 bit-one false true e = absurd (omega arith)
 bit-one false false e = refl
 
-flag-bit : (a : Bool) → flagOf (bit a) ≡ a
+pub flag-bit : (a : Bool) → flagOf (bit a) ≡ a
 flag-bit true = refl
 flag-bit false = refl
 

@@ -3,13 +3,12 @@
 use mathlib.Core.Path.{_≡_, refl, sym, ap, ap₂, _∙_}
 use mathlib.Core.Logic.{_⊎_, inl, inr, _≢_}
 use mathlib.Core.List.{List, map}
-use Prim.Native.Nat.{ℕ, zero, suc, _+_, _*_, _≤_, _<_}
+use Prim.Native.Nat.{ℕ, _+_, _*_, _≤_, _<_}
 use native.Mathlib.Nat.{mul-le-mul-right}
 use native.Mathlib.Omega.{arith}
-use native.Mathlib.Numerals.{add-one}
 use lib.ListN.{length, getD, take, drop, set, length-drop, length-set}
-use lib.Seq.{take-take, getD-take, getD-drop, getD-set-same, getD-set-other, ext-getD, length-take-le, take-append-le}
-use Rattle.automata.specs.Basics.{LtCases, lt-cases, SameCases, same-cases, nat-test}
+use lib.Seq.{getD-take, getD-drop, getD-set-same, getD-set-other, ext-getD, length-take-le}
+use Rattle.automata.specs.Basics.{SameCases, same-cases, nat-test}
 use Rattle.automata.specs.Machine.{Machine}
 use Rattle.automata.specs.Rows.{rows, cell-below}
 use Rattle.automata.specs.Table.{tableMachine, flagOf, ClosedTable}

@@ -7,10 +7,9 @@ use native.Mathlib.Omega.{arith}
 use native.Mathlib.Numerals.{add-one}
 use lib.ListN.{length, getD, take, set, length-append, length-set}
 use lib.Seq.{getD-take, getD-set-same, getD-set-other, take-suc-set, length-take-le}
-use Rattle.automata.specs.Automaton.{Automaton}
 use Rattle.automata.specs.Basics.{LtCases, lt-cases, nat-test, find, find-at, pigeonhole}
 use Rattle.automata.specs.Listing.{add, add-cases, add-all, add-distinct, addTo, find-in}
-use Rattle.writer.specs.Arrival.{Roll, Arrived, Row, Rowed}
+use Rattle.writer.specs.Arrival.{Roll, Arrived, Rowed}
 
 module _ {most count : ℕ} {o u : List ℕ} (R : Roll most count o u) where
   abbrev l : List ℕ

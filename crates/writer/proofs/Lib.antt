@@ -2,6 +2,7 @@
 pub mod LaidLaws
 pub mod ArrivalLaws
 pub mod NumberLaws
+pub mod RestrictLaws
 pub mod MarkLaws
 pub mod MoveLaws
 pub mod WriteLaws

@@ -1,31 +1,27 @@
--- Laws of the restriction to letters by the order of its states, and of its marks bytes. Assumes nothing.
-use mathlib.Core.Path.{_≡_, refl, sym, ap, _∙_}
-use mathlib.Core.Bool.{Bool, true, false}
+-- Laws of the marks bytes: by the table alone, and that they are those of the restriction to letters. Assumes nothing.
+use mathlib.Core.Path.{_≡_, sym, ap, _∙_}
+use mathlib.Core.Bool.{true, false}
 use mathlib.Core.Logic.{_⊎_, inl, inr, _≢_}
-use mathlib.Core.List.{List, [], _∷_, map}
-use Prim.Native.Nat.{ℕ, zero, suc, _+_, _*_, _≤_, _<_}
+use mathlib.Core.List.{List, [], _∷_}
+use Prim.Native.Nat.{ℕ, suc, _+_, _*_, _≤_, _<_}
 use native.Mathlib.Nat.{not-suc-le-zero}
 use native.Mathlib.Omega.{arith}
 use native.Mathlib.Numerals.{add-one}
-use lib.ListN.{length, getD, take}
-use lib.Seq.{getD-take, length-take-le}
-use lib.Dec.{eqb}
-use Rattle.automata.specs.Automaton.{Automaton, Over, run}
-use Rattle.automata.specs.Basics.{SameCases, same-cases, LtCases, lt-cases, nat-test, find, find-at, tab, getD-tab}
-use Rattle.automata.specs.Booleans.{bool-cases, not-true}
+use lib.ListN.{length, getD}
+use Rattle.automata.specs.Automaton.{Automaton}
+use Rattle.automata.specs.Basics.{SameCases, same-cases, LtCases, lt-cases, nat-test, find}
+use Rattle.automata.specs.Booleans.{bool-cases}
 use Rattle.automata.specs.Dead.{Dead, dead-stays}
-use Rattle.automata.specs.Listing.{At, listing, listed, find-in}
 use Rattle.automata.specs.Live.{live, live-dead, dead-live}
-use Rattle.automata.specs.Machine.{Machine, size, automaton, Agree, Canonical}
-use Rattle.automata.specs.Partition.{getD-map}
+use Rattle.automata.specs.Machine.{Machine, size, automaton, Canonical}
 use Rattle.automata.specs.Restrict.{restrict, restrict-canonical}
-use Rattle.automata.specs.Smallest.{tabulated, tabulated-size, tabulated-agree}
-use Rattle.automata.specs.Table.{flagOf, ClosedTable, table-size, table-accepting}
+use Rattle.automata.specs.Table.{flagOf, table-accepting}
 use Rattle.card.specs.Mark.{marks, markBy, marks-getD, marks-length}
 use Rattle.writer.specs.Arrival.{keptMachine, Ordered}
 use Rattle.writer.specs.StateMark.{rowOf, StateMark, accepts, stays, leaves}
 use Rattle.writer.specs.Written.{Kept}
-use Rattle.writer.proofs.NumberLaws.{listing-below, listing-few, row-step}
+use Rattle.writer.proofs.NumberLaws.{row-step}
+use Rattle.writer.proofs.RestrictLaws.{L, list-at, order-below, restrict-count, restrict-step, find-there, up}
 
 -- ---- one state
 
@@ -59,119 +55,58 @@ mark-stays m t s c e h u = stays (flag-clear (getD t s 0) e) (λ j b. u .back j 
 pub mark-leaves : (m : ℕ) (t : List ℕ) (s c : ℕ) → getD t s 0 ≡ 0 → c < m → getD t (120 + s * (m + 1) + c) 0 ≢ s → StateMark m t s 0
 mark-leaves m t s c e h d = leaves (flag-clear (getD t s 0) e) c h (rw (add-one m) at d)
 
--- ---- the restriction, whose state i is the i-th of the order
+-- ---- the marks bytes of the restriction
 
-module _ (n m : ℕ) (t : List ℕ) (C : ClosedTable 120 n (suc m) t) (o : List ℕ) (count : ℕ) (O : Ordered n m t o count) where
-  abbrev M : Machine
-  M = keptMachine n m t
-
+module _ (n m : ℕ) (t : List ℕ) (K : Kept n m t) (o : List ℕ) (count : ℕ) (O : Ordered n m t o count) where
   abbrev A : Automaton ℕ
   A = automaton (keptMachine n m t)
 
   abbrev N : Machine
   N = restrict m (keptMachine n m t)
 
-  abbrev pub L : List ℕ
-  L = listing nat-test (automaton (keptMachine n m t)) m (size (keptMachine n m t))
-
-  list : take count o ≡ L
-  list = rw (table-size 120 n (suc m) t C) (O .listed)
-
-  pub list-length : length L ≡ count
-  list-length = ap length (sym list) ∙ length-take-le count o (O .room)
-
-  pub list-at : (i : ℕ) → i < count → getD L i 0 ≡ getD o i 0
-  list-at i h = ap (λ l. getD l i 0) (sym list) ∙ getD-take count o i 0 h
-
-  few : length L ≤ size M
-  few = omega (arith, listing-few n m t C (size M), table-size 120 n (suc m) t C)
-
-  pub order-below : (i : ℕ) → i < count → getD o i 0 < n
-  order-below i h = rw (list-at i h) at (listing-below n m t C (size M) i (rw list-length h))
-
-  pub order-state : (i s : ℕ) → i < count → s ≡ getD o i 0 → s < n
-  order-state i s h e = rw e (order-below i h)
-
-  pub count-few : count ≤ n
-  count-few = omega (arith, few, list-length, table-size 120 n (suc m) t C)
-
-  pub restrict-count : size N ≡ count
-  unfolding restrict
-  restrict-count = tabulated-size nat-test A m L ∙ list-length
-
-  up : (i : ℕ) → i < count → Agree m A (automaton N) (getD o i 0) i
-  unfolding restrict
-  up i h = rw (list-at i h) at (tabulated-agree nat-test A m (size M) few i (rw list-length h))
-
-  -- what a letter leads to stands in the order
-  there : (i c : ℕ) → i < count → c < m → At 0 L (A .step (getD L i 0) c)
-  there i c h b = listed nat-test A m (size M) .taken i c (omega (arith, count-few, table-size 120 n (suc m) t C)) (rw list-length h) b
-
-  pub find-there : (i c : ℕ) → i < count → c < m → (find nat-test (A .step (getD o i 0) c) L < count) × (getD L (find nat-test (A .step (getD o i 0) c) L) 0 ≡ A .step (getD o i 0) c)
-  find-there i c h b =
-      let a : At 0 L (A .step (getD o i 0) c) = rw (list-at i h) at (there i c h b) in
-      let f = find-in nat-test 0 (A .step (getD o i 0) c) L a in
-      (rw list-length at f, find-at nat-test 0 (A .step (getD o i 0) c) L f)
-
-  pub restrict-row : (i : ℕ) → i < count → getD (N .moves) i [] ≡ tab (λ c. find nat-test (A .step (getD o i 0) c) L) m
-  unfolding restrict tabulated
-  restrict-row i h = getD-map (λ s. tab (λ c. find nat-test (A .step s c) L) m) L i 0 [] (rw list-length h) ∙ ap (λ s. tab (λ c. find nat-test (A .step s c) L) m) (list-at i h)
-
-  restrict-step : (i c : ℕ) → i < count → c < m → automaton N .step i c ≡ find nat-test (A .step (getD o i 0) c) L
-  restrict-step i c h b = ap (λ r. getD r c 0) (restrict-row i h) ∙ getD-tab (λ c. find nat-test (A .step (getD o i 0) c) L) m c 0 b
-
--- ---- its marks bytes
-
-module _ (n m : ℕ) (t : List ℕ) (K : Kept n m t) (o : List ℕ) (count : ℕ) (O : Ordered n m t o count) where
-  abbrev A′ : Automaton ℕ
-  A′ = automaton (keptMachine n m t)
-
-  abbrev N′ : Machine
-  N′ = restrict m (keptMachine n m t)
-
-  canonical : Canonical m N′
+  canonical : Canonical m N
   canonical = restrict-canonical m (keptMachine n m t) (K .canonical) (K .unmarked)
 
   module _ (i s : ℕ) (h : i < count) (e : s ≡ getD o i 0) where
-    inside : i < size N′
+    inside : i < size N
     inside = rw (restrict-count n m t (K .closed) o count O) h
 
     sn : s < n
     sn = rw e (order-below n m t (K .closed) o count O i h)
 
-    flag : automaton N′ .accepting i ≡ flagOf (getD t s 0)
+    flag : automaton N .accepting i ≡ flagOf (getD t s 0)
     flag = sym (rw (← e) at (up n m t (K .closed) o count O i h [] tt)) ∙ table-accepting 120 n (suc m) t (K .closed) s sn
 
-    step-s : (c : ℕ) → c < m → A′ .step s c ≡ getD t (rowOf m s + c) 0
+    step-s : (c : ℕ) → c < m → A .step s c ≡ getD t (rowOf m s + c) 0
     step-s c b = rw (add-one m) at (row-step n m t (K .closed) s sn c b)
 
     -- a state that letters do not leave is dead,
-    dead-old : flagOf (getD t s 0) ≡ false → ((c : ℕ) → c < m → getD t (rowOf m s + c) 0 ≡ s) → Dead m A′ s
+    dead-old : flagOf (getD t s 0) ≡ false → ((c : ℕ) → c < m → getD t (rowOf m s + c) 0 ≡ s) → Dead m A s
     dead-old f g [] v = table-accepting 120 n (suc m) t (K .closed) s sn ∙ f
-    dead-old f g (c ∷ w) v = let z : A′ .step s c ≡ s = step-s c (v .0) ∙ g c (v .0) in rw z (dead-old f g w (v .1))
+    dead-old f g (c ∷ w) v = let z : A .step s c ≡ s = step-s c (v .0) ∙ g c (v .0) in rw z (dead-old f g w (v .1))
 
-    dead-new : Dead m A′ s → Dead m (automaton N′) i
+    dead-new : Dead m A s → Dead m (automaton N) i
     dead-new d w v = sym (rw (← e) at (up n m t (K .closed) o count O i h w v)) ∙ d w v
 
     -- and no other is
-    back : Dead m (automaton N′) i → (c : ℕ) → c < m → getD t (rowOf m s + c) 0 ≡ s
+    back : Dead m (automaton N) i → (c : ℕ) → c < m → getD t (rowOf m s + c) 0 ≡ s
     back d c b =
-        let x : find nat-test (A′ .step s c) (L n m t (K .closed) o count O) ≡ i = rw e (sym (restrict-step n m t (K .closed) o count O i c h b) ∙ dead-stays m N′ canonical i inside d c b) in
-        let y : getD (L n m t (K .closed) o count O) (find nat-test (A′ .step s c) (L n m t (K .closed) o count O)) 0 ≡ A′ .step s c = rw e (find-there n m t (K .closed) o count O i c h b .1) in
+        let x : find nat-test (A .step s c) (L n m t (K .closed) o count O) ≡ i = rw e (sym (restrict-step n m t (K .closed) o count O i c h b) ∙ dead-stays m N canonical i inside d c b) in
+        let y : getD (L n m t (K .closed) o count O) (find nat-test (A .step s c) (L n m t (K .closed) o count O)) 0 ≡ A .step s c = rw e (find-there n m t (K .closed) o count O i c h b .1) in
         sym (step-s c b) ∙ sym y ∙ ap (λ q. getD (L n m t (K .closed) o count O) q 0) x ∙ list-at n m t (K .closed) o count O i h ∙ sym e
 
     -- THE MARKS BYTE of state i.
-    pub mark-right : (r : ℕ) → StateMark m t s r → r ≡ getD (marks m N′) i 0
-    mark-right r k = go r k ∙ sym (marks-getD m N′ i inside)
+    pub mark-right : (r : ℕ) → StateMark m t s r → r ≡ getD (marks m N) i 0
+    mark-right r k = go r k ∙ sym (marks-getD m N i inside)
       where
-        go : (r : ℕ) → StateMark m t s r → r ≡ markBy (automaton N′ .accepting i) (getD (live m N′) i false)
+        go : (r : ℕ) → StateMark m t s r → r ≡ markBy (automaton N .accepting i) (getD (live m N) i false)
         go r (accepts f) = rw (flag ∙ f)
-        go r (stays f g) = rw (flag ∙ f, dead-live m N′ (canonical .formed) i inside (dead-new (dead-old f g)))
-        go r (leaves f c b d) = rw (flag ∙ f) (lives (bool-cases (getD (live m N′) i false)))
+        go r (stays f g) = rw (flag ∙ f, dead-live m N (canonical .formed) i inside (dead-new (dead-old f g)))
+        go r (leaves f c b d) = rw (flag ∙ f) (lives (bool-cases (getD (live m N) i false)))
           where
-            lives : (getD (live m N′) i false ≡ true) ⊎ (getD (live m N′) i false ≡ false) → 0 ≡ markBy false (getD (live m N′) i false)
+            lives : (getD (live m N) i false ≡ true) ⊎ (getD (live m N) i false ≡ false) → 0 ≡ markBy false (getD (live m N) i false)
             lives (inl y) = rw y
-            lives (inr y) = absurd (d (back (live-dead m N′ (canonical .formed) i inside y) c b))
+            lives (inr y) = absurd (d (back (live-dead m N (canonical .formed) i inside y) c b))
 
-  pub marks-count : length (marks m N′) ≡ count
-  marks-count = marks-length m N′ ∙ restrict-count n m t (K .closed) o count O
+  pub marks-count : length (marks m N) ≡ count
+  marks-count = marks-length m N ∙ restrict-count n m t (K .closed) o count O

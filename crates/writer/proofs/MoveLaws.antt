@@ -1,26 +1,25 @@
 -- Laws of the moves: row by row the numbers of what letters lead to are the moves of the restriction. Assumes nothing.
 use mathlib.Core.Path.{_≡_, refl, sym, ap, ap₂, _∙_}
 use mathlib.Core.List.{List, [], _∷_, _++_, append-nil, append-assoc}
-use Prim.Native.Nat.{ℕ, zero, suc, _+_, _*_, _%_, _≤_, _<_}
-use native.Mathlib.Nat.{not-suc-le-zero, suc-mul, mul-le-mul-right, zero-mul}
+use Prim.Native.Nat.{ℕ, suc, _+_, _*_, _%_, _≤_, _<_}
+use native.Mathlib.Nat.{suc-mul, mul-le-mul-right}
 use native.Mathlib.Omega.{arith}
 use native.Mathlib.Numerals.{add-one}
-use lib.ListN.{length, getD, take}
-use lib.Seq.{ext-getD, getD-take}
+use lib.ListN.{getD}
+use lib.Seq.{ext-getD}
 use Rattle.automata.specs.Basics.{nat-test, find, tab, length-tab, getD-tab, tab-ext}
 use Rattle.automata.specs.Machine.{Machine, size, automaton, WellFormed}
 use Rattle.automata.specs.Numbering.{tab-snoc}
 use Rattle.automata.specs.Restrict.{restrict, restrict-formed}
 use Rattle.automata.specs.Rows.{flat}
 use Rattle.automata.specs.Table.{ClosedTable, table-formed}
-use Rattle.card.specs.Number.{Bytes, Below, bytesOf, below-flat}
-use Rattle.writer.specs.Arrival.{keptMachine, Ordered, Arranged}
+use Rattle.card.specs.Number.{Bytes, bytesOf, below-flat}
+use Rattle.writer.specs.Arrival.{keptMachine, Arranged}
 use Rattle.writer.specs.Laid.{Laid}
 use Rattle.writer.specs.Parts.{rowBytes, moveBytes}
-use Rattle.writer.proofs.ArrivalLaws.{order-at}
 use Rattle.writer.proofs.LaidLaws.{laid-none, laid-join}
 use Rattle.writer.proofs.NumberLaws.{row-step}
-use Rattle.writer.proofs.MarkLaws.{L, list-length, list-at, order-below, count-few, restrict-count, restrict-row, find-there}
+use Rattle.writer.proofs.RestrictLaws.{L, list-at, order-below, restrict-count, restrict-row, find-there}
 
 flat-snoc : (rs : List (List ℕ)) (r : List ℕ) → flat (rs ++ (r ∷ [])) ≡ flat rs ++ r
 flat-snoc [] r = append-nil r

@@ -1,9 +1,9 @@
 -- Laws of the numbering as a whole: turn by turn it is the listing of the states that letters reach. Assumes nothing.
-use mathlib.Core.Path.{_≡_, refl, sym, ap, _∙_}
+use mathlib.Core.Path.{_≡_, sym, ap, _∙_}
 use mathlib.Core.Logic.{_⊎_, inl, inr}
-use mathlib.Core.List.{List, [], _∷_}
+use mathlib.Core.List.{List}
 use Prim.Native.Nat.{ℕ, zero, suc, _+_, _*_, _≤_, _<_}
-use native.Mathlib.Nat.{le-refl, le-trans, suc-mul, mul-le-mul-right}
+use native.Mathlib.Nat.{suc-mul, mul-le-mul-right}
 use native.Mathlib.Omega.{arith}
 use native.Mathlib.Numerals.{add-one}
 use lib.ListN.{length, getD, take, set, length-set}
@@ -12,8 +12,8 @@ use Rattle.automata.specs.Automaton.{Automaton, over-more}
 use Rattle.automata.specs.Basics.{nat-test}
 use Rattle.automata.specs.Listing.{addTo, addTo-extends, turn, turn-cases, listing, listed, listing-stays, listing-bound}
 use Rattle.automata.specs.Machine.{Machine, size, automaton, WellFormed, run-inside}
-use Rattle.automata.specs.Table.{tableMachine, ClosedTable, table-size, table-step, table-formed}
-use Rattle.writer.specs.Arrival.{keptMachine, Roll, Row, Rowed, Ordered, Arranged}
+use Rattle.automata.specs.Table.{ClosedTable, table-size, table-step, table-formed}
+use Rattle.writer.specs.Arrival.{keptMachine, Roll, Row, Rowed, Arranged}
 use Rattle.writer.proofs.ArrivalLaws.{order-length, order-at}
 
 -- After i turns `count` states have numbers.

@@ -1,5 +1,5 @@
 -- Laws of the card as a whole: its length, and that its parts laid one behind the other are the card. Assumes nothing.
-use mathlib.Core.Path.{_≡_, refl, sym, ap, _∙_}
+use mathlib.Core.Path.{_≡_, ap, _∙_}
 use mathlib.Core.List.{List, _++_}
 use Prim.Native.Nat.{ℕ, suc, _+_, _*_, _≤_, _<_}
 use native.Mathlib.Nat.{mul-le-mul-right}
@@ -11,8 +11,8 @@ use Rattle.automata.specs.Machine.{Machine, size, WellFormed}
 use Rattle.automata.specs.Restrict.{restrict, restrict-formed}
 use Rattle.automata.specs.Rows.{flat, flat-length}
 use Rattle.automata.specs.Table.{table-formed}
-use Rattle.card.specs.Mark.{marks, marks-length}
-use Rattle.card.specs.Number.{bytesOf, bytesOf-length}
+use Rattle.card.specs.Mark.{marks-length}
+use Rattle.card.specs.Number.{bytesOf-length}
 use Rattle.card.specs.Layout.{contents, encode}
 use Rattle.card.specs.LayoutLaws.{contents-length}
 use Rattle.card.specs.Same.{cardOf}
@@ -22,7 +22,7 @@ use Rattle.writer.specs.Parts.{markBytes, moveBytes}
 use Rattle.writer.specs.Written.{Written, keptCard}
 use Rattle.writer.specs.declared.Wrote.the-variants.{Length, TooShort}
 use Rattle.writer.proofs.LaidLaws.{laid-join, laid-whole}
-use Rattle.writer.proofs.MarkLaws.{restrict-count}
+use Rattle.writer.proofs.RestrictLaws.{restrict-count}
 
 module _ (n : ℕ) (ls t o u : List ℕ) (count : ℕ) (R : Arranged n (length ls) t o u count) where
   abbrev m : ℕ

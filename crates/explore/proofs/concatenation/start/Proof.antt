@@ -10,7 +10,7 @@ gain-requires : tie.Need-gain-requires
 gain-requires c κs =
     let args = c .before .before .before .before .before .before .before .before .args in
     let pre = c .before .before .before .before .before .before .before .before .pre in (
-      omega (arith, pre .0 .left .some, pre .0 .left .long, pre .0 .left .flags),
+      omega (arith, pre .0 .left .some, pre .0 .left .long, pre .0 .left .flags, pre .0 .right .some, pre .0 .right .long, pre .0 .right .flags),
       (omega arith, omega (arith, c .before .before .before .clear .kept .0, pre .1 .0, concat-room (args .s) (args .a .now) (args .b .now) (pre .0) (pre .1 .1))),
     )
 

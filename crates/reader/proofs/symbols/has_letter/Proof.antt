@@ -1,3 +1,4 @@
+-- `reader::symbols::has_letter` meets its contract: the letters passed are others. Assumes nothing.
 use mathlib.Core.Path.{_≡_, sym, _∙_}
 use Prim.Native.Nat.{_-_}
 use borrow.Author.Needs.{needs}

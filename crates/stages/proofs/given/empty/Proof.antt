@@ -1,26 +1,11 @@
+-- `stages::given::empty` meets its contract. Assumes nothing.
 use Rattle.stages.specs.GivenSlots.{empty-holds}
 use borrow.Author.Needs.{needs}
 use Rattle.stages.proofs.given.empty.Statement.{statement}
 use Rattle.stages.proofs.given.empty.Tie as tie
-use Rattle.stages.proofs.given.empty.Reads as reads
-use Rattle.stages.proofs.given.empty.Lts as lts
-use Rattle.stages.proofs.given.many_signs.Reads as many-signs-reads
 
--- src/given.rt:88:28
-add-many-signs : tie.Need-add-many-signs
-add-many-signs c = search needs
-
--- src/given.rt:88:5
-many-signs-requires : tie.Need-many-signs-requires
-many-signs-requires c κs = search needs
-
--- src/given.rt:84:1
-same-length : tie.Need-same-length
-same-length c = search needs
-
--- src/given.rt:84:1
 returns : tie.Need-returns
 returns c = empty-holds _ _ _ (c .before .before .many-signs .ensures)
 
 pub empty-spec : {M : Type 1} → statement M
-empty-spec = tie.close (tie.spec add-many-signs many-signs-requires same-length returns)
+empty-spec = tie.close (tie.spec (λ c. search needs) (λ c κs. search needs) (λ c. search needs) returns)

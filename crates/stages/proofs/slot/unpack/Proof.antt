@@ -1,22 +1,16 @@
+-- `stages::slot::unpack` meets its contract. Assumes nothing.
 use mathlib.Core.Path.{_≡_, refl, _∙_}
-use Prim.Native.Nat.{_+_, _*_, _≤_}
 use native.Mathlib.Omega.{arith}
-use lib.ListN.{length, drop}
+use lib.ListN.{drop}
 use Rattle.explore.specs.Rows.{numberAt}
 use Rattle.stages.specs.Slot.{slot-ends, number-drop, unpacked}
 use borrow.Author.Needs.{needs}
 use Rattle.stages.proofs.slot.unpack.Statement.{statement}
 use Rattle.stages.proofs.slot.unpack.Tie as tie
-use Rattle.stages.proofs.slot.unpack.Reads as reads
-use Rattle.stages.proofs.slot.unpack.Lts as lts
-use Rattle.stages.proofs.slot.number.Reads as number-reads
-use Rattle.stages.proofs.slot.widen.Reads as widen-reads
 
--- src/slot.rt:42:9
 number-requires : tie.Need-number-requires
 number-requires c κs = omega (arith, slot-ends (c .before .before .args .slots .now) (c .before .before .args .at) (c .before .before .pre .0) _ refl)
 
--- src/slot.rt:43:18
 add-widen : tie.Need-add-widen
 add-widen c =
     let a = c .before .before .before .args in
@@ -24,7 +18,6 @@ add-widen c =
     let e : c .number .result ≡ numberAt (drop (a .at) (a .slots .now)) 0 = c .number .ensures ∙ number-drop (a .slots .now) (a .at) in
     omega (arith, slot-ends (a .slots .now) (a .at) (p .0) _ e)
 
--- src/slot.rt:43:42
 mul-widen : tie.Need-mul-widen
 mul-widen c =
     let a = c .before .before .before .before .args in
@@ -32,7 +25,6 @@ mul-widen c =
     let e : c .before .number .result ≡ numberAt (drop (a .at) (a .slots .now)) 0 = c .before .number .ensures ∙ number-drop (a .slots .now) (a .at) in
     omega (arith, slot-ends (a .slots .now) (a .at) (p .0) _ e)
 
--- src/slot.rt:43:35
 add-widen-2 : tie.Need-add-widen-2
 add-widen-2 c =
     let a = c .before .before .before .before .args in
@@ -40,7 +32,6 @@ add-widen-2 c =
     let e : c .before .number .result ≡ numberAt (drop (a .at) (a .slots .now)) 0 = c .before .number .ensures ∙ number-drop (a .slots .now) (a .at) in
     omega (arith, slot-ends (a .slots .now) (a .at) (p .0) _ e)
 
--- src/slot.rt:43:5
 widen-requires : tie.Need-widen-requires
 widen-requires c κs =
     let a = c .before .before .before .before .args in
@@ -48,11 +39,6 @@ widen-requires c κs =
     let e : c .before .number .result ≡ numberAt (drop (a .at) (a .slots .now)) 0 = c .before .number .ensures ∙ number-drop (a .slots .now) (a .at) in
     (slot-ends (a .slots .now) (a .at) (p .0) _ e, rw (← e) at (p .1))
 
--- src/slot.rt:37:1
-same-length : tie.Need-same-length
-same-length c = search needs
-
--- src/slot.rt:37:1
 returns : tie.Need-returns
 returns c =
     let a = c .before .before .before .before .before .before .before .args in
@@ -63,4 +49,4 @@ returns c =
 pub unpack-spec : {M : Type 1} → statement M
 unpack-spec =
     tie.close
-    (tie.spec number-requires add-widen mul-widen add-widen-2 widen-requires same-length returns)
+    (tie.spec number-requires add-widen mul-widen add-widen-2 widen-requires (λ c. search needs) returns)

@@ -9,8 +9,6 @@ use Rattle.writer.specs.Laid.{Laid}
 use Rattle.writer.proofs.LaidLaws.{laid-none, laid-next, tab-getD}
 use Rattle.writer.proofs.contents.put_letters.Statement.{statement}
 use Rattle.writer.proofs.contents.put_letters.Tie as tie
-use Rattle.writer.proofs.contents.put_letters.Reads as reads
-use Rattle.writer.proofs.contents.put_letters.Lts as lts
 
 abbrev Inv-loop : tie.InvT-loop
 Inv-loop letters card₀ i₀ card i = (i ≤ length letters) × Laid 12 (12 + i) (tab (λ j. getD letters j 0) i) card₀ card
@@ -21,26 +19,11 @@ abbrev μ-loop : tie.MeasureT-loop
 loop-holds : tie.Need-loop-holds Inv-loop μ-loop
 loop-holds c = (omega arith, laid-none 12 _)
 
-shared-slice-read-card : tie.Need-shared-slice-read-card Inv-loop μ-loop
-shared-slice-read-card c = search needs
-
-add-card : tie.Need-add-card Inv-loop μ-loop
-add-card c = search needs
-
 slice-write-card : tie.Need-slice-write-card Inv-loop μ-loop
 slice-write-card c = omega (arith, c .before .before .loop .inv .1 .long)
 
-add-i : tie.Need-add-i Inv-loop μ-loop
-add-i c = search needs
-
-loop-less : tie.Need-loop-less Inv-loop μ-loop
-loop-less c = search needs
-
 loop-again : tie.Need-loop-again Inv-loop μ-loop
 loop-again c = (omega arith, laid-next 12 _ _ _ _ _ (c .before .before .loop .inv .1) (omega (arith, c .before .before .loop .inv .1 .long)) refl)
-
-same-length : tie.Need-same-length Inv-loop μ-loop
-same-length c = search needs
 
 returns : tie.Need-returns Inv-loop μ-loop
 returns c =
@@ -54,11 +37,11 @@ put-letters-spec =
     Inv-loop
     μ-loop
     loop-holds
-    shared-slice-read-card
-    add-card
+    (λ c. search needs)
+    (λ c. search needs)
     slice-write-card
-    add-i
-    loop-less
+    (λ c. search needs)
+    (λ c. search needs)
     loop-again
-    same-length
+    (λ c. search needs)
     returns)

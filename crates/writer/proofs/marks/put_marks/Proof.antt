@@ -1,5 +1,5 @@
 -- `put_marks` meets its contract: the marks bytes of the states below i are laid down. Assumes nothing.
-use mathlib.Core.Path.{_≡_, _∙_}
+use mathlib.Core.Path.{_≡_}
 use Prim.Native.Nat.{_+_, _≤_, _-_}
 use native.Mathlib.Omega.{arith}
 use lib.ListN.{length, getD}
@@ -8,7 +8,8 @@ use Rattle.automata.specs.Basics.{tab}
 use Rattle.writer.specs.Laid.{Laid}
 use Rattle.writer.specs.Parts.{markBytes}
 use Rattle.writer.proofs.LaidLaws.{laid-none, laid-next, tab-getD}
-use Rattle.writer.proofs.MarkLaws.{order-state, count-few, mark-right, marks-count}
+use Rattle.writer.proofs.RestrictLaws.{order-state, count-few}
+use Rattle.writer.proofs.MarkLaws.{mark-right, marks-count}
 use Rattle.writer.proofs.marks.put_marks.Statement.{statement}
 use Rattle.writer.proofs.marks.put_marks.Tie as tie
 

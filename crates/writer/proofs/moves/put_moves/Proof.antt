@@ -6,7 +6,7 @@ use native.Mathlib.Omega.{arith}
 use borrow.Author.Needs.{needs}
 use Rattle.writer.specs.Laid.{Laid}
 use Rattle.writer.proofs.NumberLaws.{row-of}
-use Rattle.writer.proofs.MarkLaws.{order-state}
+use Rattle.writer.proofs.RestrictLaws.{order-state}
 use Rattle.writer.proofs.MoveLaws.{rowsUpto, rows-start, rows-next, rows-end, rows-place, rows-room}
 use Rattle.writer.proofs.moves.put_moves.Statement.{statement}
 use Rattle.writer.proofs.moves.put_moves.Tie as tie

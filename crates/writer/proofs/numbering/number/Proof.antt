@@ -1,6 +1,5 @@
 -- `number` meets its contract: after i turns the order is the listing of i turns. Assumes nothing.
-use mathlib.Core.Path.{_≡_}
-use Prim.Native.Nat.{_+_, _-_}
+use Prim.Native.Nat.{_-_}
 use native.Mathlib.Omega.{arith}
 use borrow.Author.Needs.{needs}
 use Rattle.writer.proofs.NumberLaws.{Turns, turns-start, turn-state, turns-next, turns-end, row-of}

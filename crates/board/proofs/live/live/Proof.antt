@@ -1,0 +1,47 @@
+-- `live` meets its contract. Assumes nothing.
+use Prim.Native.Nat.{_≤_, _-_}
+use native.Mathlib.Omega.{arith}
+use lib.ListN.{length}
+use borrow.Author.Needs.{needs}
+use Rattle.board.proofs.LiveLaws.{LiveUpto, live-start, live-next, live-full, live-still}
+use Rattle.board.proofs.live.live.Statement.{statement}
+use Rattle.board.proofs.live.live.Tie as tie
+
+abbrev Inv-loop : tie.InvT-loop
+Inv-loop marks moves m flags₀ j₀ flags j = (j ≤ length marks) × LiveUpto 120 m marks moves flags j
+
+abbrev μ-loop : tie.MeasureT-loop
+μ-loop marks moves m flags₀ j₀ flags j = length marks - j
+
+accepting-requires : tie.Need-accepting-requires Inv-loop μ-loop
+accepting-requires c κs = c .before .before .pre .states-most
+
+loop-holds : tie.Need-loop-holds Inv-loop μ-loop
+loop-holds c = (search needs, live-start _ _ _ _ _ (c .accepting .ensures))
+
+round-requires : tie.Need-round-requires Inv-loop μ-loop
+round-requires c κs = ((c .before .before .before .before .before .before .pre), c .before .before .loop .inv .1 .long)
+
+returns : tie.Need-returns Inv-loop μ-loop
+returns c = live-still _ _ _ _ _ _ _ _ (c .before .before .before .before .loop .inv .1) (c .before .round .ensures) (c .if1 .taken)
+
+loop-again : tie.Need-loop-again Inv-loop μ-loop
+loop-again c = (omega arith, live-next _ _ _ _ _ _ _ _ (c .before .before .before .before .loop .inv .1) (c .before .round .ensures))
+
+returns-2 : tie.Need-returns-2 Inv-loop μ-loop
+returns-2 c = live-full _ _ _ _ _ _ (c .before .loop .inv .1) (c .loop-test .left)
+
+pub live-spec : {M : Type 1} → statement M
+live-spec =
+    tie.close
+    (tie.spec
+    Inv-loop
+    μ-loop
+    accepting-requires
+    loop-holds
+    round-requires
+    returns
+    (λ c. search needs)
+    (λ c. search needs)
+    loop-again
+    returns-2)

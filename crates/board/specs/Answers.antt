@@ -1,0 +1,17 @@
+-- The board's answers, each read as the answer of the card's definitions, with the paper's number and values for each case. Assumes nothing.
+use Rattle.card.specs.Answer.{Loading, holds, rejected}
+use Rattle.card.specs.Step.{Stepped, moved, stopped}
+use Rattle.board.specs.declared.Loaded.{Loaded}
+use Rattle.board.specs.declared.Loaded.the-variants.{Accepted, Refused}
+use Rattle.board.specs.declared.Stepped.{Stepped as Stepped′}
+use Rattle.board.specs.declared.Stepped.the-variants.{Moved, Stopped}
+
+-- Loading: how many letters and states, or the number of the refusal, 21 to 26.
+abbrev pub loading : Loaded → Loading
+loading (Accepted m n) = holds m n
+loading (Refused number) = rejected number
+
+-- One step: the next state and its marks byte, or the number of the refusal, 21, 27, 28 or 23.
+abbrev pub stepping : Stepped′ → Stepped
+stepping (Moved q mark) = moved q mark
+stepping (Stopped number) = stopped number

@@ -1,0 +1,127 @@
+// Test 26: no two states are equivalent. Partition refinement (Moore's, one column at a time): a state's class is named by the least state in it, so
+// that a class is split by linking the classes that it falls into, least states first. No table of pairs.
+ghost use mathlib.Core.Path.{_≡_};
+ghost use Prim.Native.Nat.{_≤_, _<_};
+ghost use lib.ListN.{length};
+ghost use Rattle.board.specs.Holds.{Table};
+ghost use Rattle.board.specs.Classes.{Links, Found, Named, Split, Columns, Refined, AcceptKeys, ColumnKeys, ReducedExactly};
+
+// Along the links from `start`, the first state with the key, or the last one.
+fn find(keys: &[u8; 120], link: &[u8; 120], start: usize, key: u8, n: usize) -> usize
+    requires { ⌜ Links (now link) n ⌝ }
+    requires { ⌜ (start ≤ n) × (n < 120) ⌝ }
+    ensures { λ r. ⌜ Found (now (keys .entry)) (now (link .entry)) start key n r ⌝ }
+{
+    let mut r = start;
+    loop {
+        if keys[r] == key {
+            return r;
+        }
+        let next = link[r] as usize;
+        if next == 0 {
+            return r;
+        }
+        r = next;
+    }
+}
+
+// Splits each class by the keys of its states: the new classes, and how many they are.
+fn split(n: usize, keys: &[u8; 120], old: &[u8; 120], new: &mut [u8; 120]) -> usize
+    requires { ⌜ (n ≤ 120) × (length (now new) ≡ 120) × Named (now old) n ⌝ }
+    ensures { λ r. ⌜ Split n (now (keys .entry)) (now (old .entry)) (now (new .exit)) r ⌝ }
+{
+    let mut link = [0u8; 120];
+    let mut count = 0;
+    let mut p = 0;
+    while p < n {
+        let q = p;
+        p += 1;
+        let start = old[q] as usize;
+        let key = keys[q];
+        let r = find(keys, &link, start, key, q);
+        if r == q {
+            new[q] = q as u8;
+            count += 1;
+        } else if keys[r] == key {
+            new[q] = r as u8;
+        } else {
+            link[r] = q as u8;
+            new[q] = q as u8;
+            count += 1;
+        }
+    }
+    count
+}
+
+// Of each state whether it accepts.
+fn accept_keys(marks: &[u8]) -> [u8; 120]
+    requires { ⌜ length (now marks) ≤ 120 ⌝ }
+    ensures { λ r. ⌜ AcceptKeys (now (marks .entry)) r ⌝ }
+{
+    let mut keys = [0u8; 120];
+    let mut p = 0;
+    while p < marks.len() {
+        let q = p;
+        p += 1;
+        if marks[q] == 1 {
+            keys[q] = 1;
+        }
+    }
+    keys
+}
+
+// Of each state the class that column c leads to.
+fn column_keys(moves: &[u8], m: usize, n: usize, c: usize, classes: &[u8; 120]) -> [u8; 120]
+    requires { ⌜ Columns m n c (now moves) ⌝ }
+    ensures { λ r. ⌜ ColumnKeys m (now (moves .entry)) n c (now (classes .entry)) r ⌝ }
+{
+    let mut keys = [0u8; 120];
+    let mut at = c;
+    let mut p = 0;
+    while p < n {
+        let t = moves[at] as usize;
+        keys[p] = classes[t];
+        at += m;
+        p += 1;
+    }
+    keys
+}
+
+// Splits each class by where column c leads.
+fn refine(moves: &[u8], m: usize, n: usize, c: usize, classes: &mut [u8; 120]) -> usize
+    requires { ⌜ Columns m n c (now moves) × Named (now classes) n ⌝ }
+    ensures { λ r. ⌜ Refined m (now (moves .entry)) n c (now (classes .entry)) (now (classes .exit)) r ⌝ }
+{
+    let keys = column_keys(moves, m, n, c, classes);
+    let mut next = [0u8; 120];
+    let count = split(n, &keys, classes, &mut next);
+    *classes = next;
+    count
+}
+
+// First the classes by acceptance, then column by column, until each state is alone in its class, or a pass over all columns splits none.
+pub fn reduced(marks: &[u8], moves: &[u8], m: usize) -> bool
+    requires { ⌜ Table 120 m (now marks) (now moves) × (m ≤ 26) ⌝ }
+    ensures { λ r. ⌜ ReducedExactly m (now (marks .entry)) (now (moves .entry)) r ⌝ }
+{
+    let n = marks.len();
+    let keys = accept_keys(marks);
+    let one = [0u8; 120];
+    let mut classes = [0u8; 120];
+    let mut count = split(n, &keys, &one, &mut classes);
+    let mut before = count;
+    let mut c = 0;
+    while count < n {
+        if c < m {
+            count = refine(moves, m, n, c, &mut classes);
+            c += 1;
+        } else {
+            if count == before {
+                return false;
+            }
+            before = count;
+            c = 0;
+        }
+    }
+    true
+}

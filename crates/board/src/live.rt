@@ -1,0 +1,107 @@
+// Test 25: which states are live, and the marks bytes. Rounds over an array of flags, from the accepting states back along the moves; nothing is
+// assumed of the states but that their moves stay among them.
+ghost use mathlib.Core.Path.{_≡_};
+ghost use Prim.Native.Nat.{ℕ, _+_, _≤_, _<_};
+ghost use lib.ListN.{length, getD};
+ghost use Rattle.board.specs.Holds.{Table};
+ghost use Rattle.board.specs.LiveRounds.{Leads, Round, FlagsOf, LiveExactly, MarksExactly};
+
+// Some of the m moves from the place `at` leads to a state with its flag set.
+fn leads(moves: &[u8], at: usize, m: usize, flags: &[bool; 120]) -> bool
+    requires { ⌜ at + m ≤ length (now moves) ⌝ }
+    requires { ⌜ ((q : ℕ) → q < length (now moves) → getD (now moves) q 0 < 120) ⌝ }
+    ensures { λ r. ⌜ Leads (now (moves .entry)) at m (now (flags .entry)) r ⌝ }
+{
+    let mut i = 0;
+    while i < m {
+        let t = moves[at + i] as usize;
+        if flags[t] {
+            return true;
+        }
+        i += 1;
+    }
+    false
+}
+
+// One round, the last state first: a state with a move to a live one becomes live. Whether one did.
+fn round(marks: &[u8], moves: &[u8], m: usize, flags: &mut [bool; 120]) -> bool
+    requires { ⌜ Table 120 m (now marks) (now moves) ⌝ }
+    requires { ⌜ length (now flags) ≡ 120 ⌝ }
+    ensures { λ r. ⌜ Round m (now (marks .entry)) (now (moves .entry)) (now (flags .entry)) (now (flags .exit)) r ⌝ }
+{
+    let mut changed = false;
+    let mut p = marks.len();
+    let mut at = moves.len();
+    while 0 < p {
+        p -= 1;
+        at -= m;
+        if !flags[p] {
+            if leads(moves, at, m, flags) {
+                flags[p] = true;
+                changed = true;
+            }
+        }
+    }
+    changed
+}
+
+// The flags of the accepting states, whose marks byte is 1.
+fn accepting(marks: &[u8]) -> [bool; 120]
+    requires { ⌜ length (now marks) ≤ 120 ⌝ }
+    ensures { λ r. ⌜ FlagsOf 120 (now (marks .entry)) r ⌝ }
+{
+    let mut flags = [false; 120];
+    let mut p = 0;
+    while p < marks.len() {
+        flags[p] = marks[p] == 1;
+        p += 1;
+    }
+    flags
+}
+
+// The flags of the live states: as many rounds as there are states, or fewer when one changes nothing.
+fn live(marks: &[u8], moves: &[u8], m: usize) -> [bool; 120]
+    requires { ⌜ Table 120 m (now marks) (now moves) ⌝ }
+    ensures { λ r. ⌜ LiveExactly m (now (marks .entry)) (now (moves .entry)) r ⌝ }
+{
+    let mut flags = accepting(marks);
+    let mut j = 0;
+    while j < marks.len() {
+        if !round(marks, moves, m, &mut flags) {
+            return flags;
+        }
+        j += 1;
+    }
+    flags
+}
+
+// Each marks byte is 1 for an accepting state, 2 for a dead one, else 0.
+pub fn marked(marks: &[u8], moves: &[u8], m: usize) -> bool
+    requires { ⌜ Table 120 m (now marks) (now moves) ⌝ }
+    ensures { λ r. ⌜ MarksExactly m (now (marks .entry)) (now (moves .entry)) r ⌝ }
+{
+    let flags = live(marks, moves, m);
+    let mut p = 0;
+    while p < marks.len() {
+        let b = marks[p];
+        let lives = flags[p];
+        match b {
+            0 => {
+                if !lives {
+                    return false;
+                }
+            }
+            1 => {}
+            2 => {
+                if lives {
+                    return false;
+                }
+            }
+            _ => {
+                return false;
+            }
+        }
+        p += 1;
+    }
+    true
+}

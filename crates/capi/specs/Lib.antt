@@ -1,0 +1,2 @@
+-- What the entries for Rust and C leave in their lent slice.
+pub mod Numbers

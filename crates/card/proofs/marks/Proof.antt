@@ -1,0 +1,12 @@
+-- `marks` meets its contract. Assumes nothing.
+use borrow.Author.Needs.{needs}
+use Rattle.card.proofs.ReadLaws.{marks-part}
+use Rattle.card.proofs.marks.Statement.{statement}
+use Rattle.card.proofs.marks.Tie as tie
+
+returns : tie.Need-returns
+returns c = marks-part _ _ _ (c .before .pre)
+
+pub marks-spec : {M : Type 1} → statement M
+marks-spec =
+    tie.close (tie.spec (λ c. search needs) (λ c. search needs) (λ c. search needs) (λ c. search needs) (λ c. search needs) returns)

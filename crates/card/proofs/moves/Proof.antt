@@ -1,0 +1,12 @@
+-- `moves` meets its contract. Assumes nothing.
+use borrow.Author.Needs.{needs}
+use Rattle.card.proofs.ReadLaws.{moves-part}
+use Rattle.card.proofs.moves.Statement.{statement}
+use Rattle.card.proofs.moves.Tie as tie
+
+returns : tie.Need-returns
+returns c = moves-part _ _ _ (c .before .pre)
+
+pub moves-spec : {M : Type 1} → statement M
+moves-spec =
+    tie.close (tie.spec (λ c. search needs) (λ c. search needs) (λ c. search needs) (λ c. search needs) (λ c. search needs) returns)

@@ -1,0 +1,93 @@
+-- `hash` meets its contract: the sum of the bytes before i fits. Assumes nothing.
+use Prim.Native.Nat.{_*_, _-_, _≤_}
+use Rattle.explore.proofs.HashLaws.{weight-small, term-small, sum-next, hash-is, hashed-long, hashed-short}
+use Rattle.explore.specs.Steps.{hashSum, hashed}
+use borrow.Author.Needs.{needs}
+use lib.ListN.{length}
+use mathlib.Core.Logic.{⊎-elim}
+use mathlib.Core.Path.{_≡_, refl, _∙_}
+use native.Mathlib.Omega.{arith}
+use Rattle.explore.proofs.rows.hash.Statement.{statement}
+use Rattle.explore.proofs.rows.hash.Tie as tie
+
+abbrev Inv-loop : tie.InvT-loop
+Inv-loop row end sum₀ i₀ sum i = (i ≤ end) × (end ≤ 4096) × (end ≤ length row) × (end ≡ hashed (length row)) × (sum ≡ hashSum row i) × (sum ≤ i * 173400000000255)
+
+abbrev μ-loop : tie.MeasureT-loop
+μ-loop row end sum₀ i₀ sum i = end - i
+
+loop-holds : tie.Need-loop-holds Inv-loop μ-loop
+unfolding hashSum
+loop-holds c =
+    let args = c .before .before .args in
+    ⊎-elim
+    (λ w. (omega arith, omega (arith, w .1), omega (arith, w .0 .taken, w .1), w .1 ∙ hashed-long (length (args .row .now)) (w .0 .taken), refl, omega arith))
+    (λ w. (omega arith, omega (arith, w .0 .left, w .1), omega (arith, w .1), w .1 ∙ hashed-short (length (args .row .now)) (w .0 .left), refl, omega arith))
+    (c .if1 .came)
+
+mul-sum : tie.Need-mul-sum Inv-loop μ-loop
+mul-sum c = omega (arith, c .before .before .before .loop .inv .1)
+
+add-sum : tie.Need-add-sum Inv-loop μ-loop
+add-sum c = omega (arith, c .before .before .before .loop .inv .1)
+
+mul-sum-2 : tie.Need-mul-sum-2 Inv-loop μ-loop
+mul-sum-2 c =
+    let loop = c .before .before .before .loop in
+    omega (arith, weight-small (loop .i) (omega (arith, loop .inv .1, c .before .before .loop-test .taken)))
+
+add-sum-2 : tie.Need-add-sum-2 Inv-loop μ-loop
+add-sum-2 c =
+    let loop = c .before .before .before .loop in
+    omega (arith, weight-small (loop .i) (omega (arith, loop .inv .1, c .before .before .loop-test .taken)))
+
+mul-sum-3 : tie.Need-mul-sum-3 Inv-loop μ-loop
+mul-sum-3 c =
+    let loop = c .before .before .before .loop in
+    omega (arith, term-small (loop .i) (c .wide .result) (omega (arith, loop .inv .1, c .before .before .loop-test .taken)) (c .wide .ensures .1))
+
+add-sum-3 : tie.Need-add-sum-3 Inv-loop μ-loop
+add-sum-3 c =
+    let loop = c .before .before .before .loop in
+    omega (arith, term-small (loop .i) (c .wide .result) (omega (arith, loop .inv .1, c .before .before .loop-test .taken)) (c .wide .ensures .1), loop .inv .5, loop .inv .1, c .before .before .loop-test .taken)
+
+loop-again : tie.Need-loop-again Inv-loop μ-loop
+loop-again c =
+    let loop = c .before .before .before .loop in
+    let v = loop .inv in
+    let e = c .wide .ensures in (
+      omega arith,
+      v .1,
+      v .2,
+      v .3,
+      rw (sum-next (c .before .before .before .before .before .before .args .row .now) (loop .i), ← (v .4), ← (e .0)),
+      omega (arith, term-small (loop .i) (c .wide .result) (omega (arith, v .1, c .before .before .loop-test .taken)) (e .1), v .5),
+    )
+
+returns : tie.Need-returns Inv-loop μ-loop
+returns c =
+    let loop = c .before .loop in
+    let v = loop .inv in
+    let e : loop .i ≡ c .before .before .if1 .end = omega arith in
+    hash-is (c .before .before .before .before .args .row .now) (c .before .before .if1 .end) (loop .sum) (v .3) (rw e at (v .4))
+
+pub hash-spec : {M : Type 1} → statement M
+hash-spec =
+    tie.close
+    (tie.spec
+    Inv-loop
+    μ-loop
+    loop-holds
+    (λ c. search needs)
+    (λ c κs. search needs)
+    mul-sum
+    add-sum
+    mul-sum-2
+    add-sum-2
+    mul-sum-3
+    add-sum-3
+    (λ c. search needs)
+    (λ c. search needs)
+    loop-again
+    (λ c. search needs)
+    returns)

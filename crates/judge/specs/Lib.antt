@@ -1,0 +1,2 @@
+-- What the judging program's contracts cite.
+pub mod Plan

@@ -1,0 +1,104 @@
+// Reads texts from standard input, each ended by a byte 0x1E, and writes for each the number and the line of the first refusal that reading it
+// gives: 3 to 7 in a line, or 10 without a line where there is no rule; `0 0` where it gives none. No stage is made.
+use libc::STDOUT_FILENO;
+use reader::ends::line_end;
+use reader::head::Head;
+use reader::head::read_head;
+use reader::line::LineAnswer;
+use reader::line::read_line;
+use reader::names::Names;
+ghost use Prim.Native.Nat.{_+_, _*_, _≤_};
+ghost use lib.ListN.{length};
+
+struct Outcome {
+    number: u8,
+    line: usize,
+}
+
+// The lines behind line 1, whose letters these are.
+fn later(text: &[u8], start: usize, letters: &[u8], out: &mut [u8]) -> Outcome
+    requires { ⌜ 2 * length (now text) + 64 ≤ length (now out) ⌝ }
+    requires { ⌜ 2 ≤ start ⌝ }
+{
+    let mut names = Names::none();
+    let mut ruled = false;
+    let mut line = 2;
+    let mut at = start;
+    while at < text.len() {
+        match read_line(text, at, letters, names, out) {
+            LineAnswer::Define(name, _, next) => {
+                names = names.with(name);
+                at = next;
+            }
+            LineAnswer::Rule(_, next) => {
+                ruled = true;
+                at = next;
+            }
+            LineAnswer::Refused(number) => {
+                return Outcome { number, line };
+            }
+        }
+        line += 1;
+    }
+    if ruled {
+        Outcome { number: 0, line: 0 }
+    } else {
+        Outcome {
+            number: 10,
+            line: 0,
+        }
+    }
+}
+
+fn first_refusal(text: &[u8], out: &mut [u8]) -> Outcome
+    requires { ⌜ 2 * length (now text) + 64 ≤ length (now out) ⌝ }
+{
+    let end = line_end(text, 0);
+    let ended = end < text.len();
+    match read_head(&text[0..end], ended) {
+        Head::Refused(number) => Outcome { number, line: 1 },
+        Head::Letters(_) => {
+            if end < 1 {
+                return Outcome { number: 5, line: 1 };
+            }
+            if text.len() <= end {
+                return Outcome { number: 5, line: 1 };
+            }
+            later(text, end + 1, &text[1..end], out)
+        }
+    }
+}
+
+fn report(text: &[u8], out: &mut [u8]) {
+    if out.len() < 64 {
+        return;
+    }
+    if (out.len() - 64) / 2 < text.len() {
+        return;
+    }
+    let o = first_refusal(text, out);
+    io::print_decimal(STDOUT_FILENO, o.number as u64);
+    io::write_all(STDOUT_FILENO, b" ");
+    io::print_decimal(STDOUT_FILENO, o.line as u64);
+    io::write_all(STDOUT_FILENO, b"\n");
+}
+
+// Each text of the input.
+fn report_all(input: &[u8], out: &mut [u8]) {
+    let mut from = 0;
+    let mut i = 0;
+    while i < input.len() {
+        if input[i] == 0x1E {
+            report(&input[from..i], out);
+            from = i + 1;
+        }
+        i += 1;
+    }
+}
+
+fn main() {
+    let mut input = io::buffer();
+    let n = io::read_full(0, &mut input);
+    let mut out = [0u8; 16384];
+    report_all(&input[..n], &mut out);
+}

@@ -1,0 +1,4 @@
+-- What the walk's contracts cite.
+pub mod Reading
+pub mod Walk
+pub mod Pieces

@@ -1,0 +1,2 @@
+-- A stack of machines in slots, as the program keeps it.
+pub mod Stack

@@ -1,0 +1,53 @@
+//! The samples' expected replies once more, from what the books mean: allowed by
+//! trying every cut of the plan, hopeless by derivatives. No stage and no card is
+//! made here.
+
+#![cfg(feature = "reference")]
+
+use reference::derivative::Derivatives;
+use reference::machine::Machine;
+use reference::pieces;
+use reference::reader::read_book;
+use reference::syntax::Book;
+use std::fs;
+use std::path::Path;
+
+fn reply(book: &Book, machine: &Machine, plan: &[u8]) -> String {
+    let column = |letter: &u8| book.alphabet.iter().position(|known| known == letter);
+    let Some(columns) = plan.iter().map(column).collect::<Option<Vec<_>>>() else {
+        return "refused 27".into();
+    };
+    let hopeless = |place: &usize| !machine.can_accept_from(machine.run(0, &columns[..*place]));
+    match (0..=columns.len()).find(hopeless) {
+        Some(place) => {
+            assert!(!pieces::allows(book, plan));
+            format!("hopeless {place}")
+        }
+        None if pieces::allows(book, plan) => "allowed".into(),
+        None => "unfinished".into(),
+    }
+}
+
+#[test]
+fn expected_replies_are_what_the_books_mean() {
+    let folder = Path::new(env!("CARGO_MANIFEST_DIR")).join("../samples");
+    let mut books = 0;
+    for entry in fs::read_dir(&folder).expect("the samples") {
+        let path = entry.expect("a file").path();
+        if !path.extension().is_some_and(|found| found == "book") {
+            continue;
+        }
+        books += 1;
+        let book = read_book(&fs::read(&path).unwrap()).expect("a well-formed book");
+        let machine = Derivatives::of(&book).machine(10_000).ok().expect("few derivatives");
+        let plans = fs::read(path.with_extension("plans")).expect("its plans");
+        let expected = fs::read_to_string(path.with_extension("expected")).expect("its replies");
+        let plans: Vec<&[u8]> = plans.strip_suffix(b"\n").unwrap().split(|&byte| byte == b'\n').collect();
+        assert_eq!(plans.len(), expected.lines().count(), "{}", path.display());
+        for (plan, expected) in plans.iter().zip(expected.lines()) {
+            let found = reply(&book, &machine, plan);
+            assert_eq!(found, expected, "{} {}", path.display(), String::from_utf8_lossy(plan));
+        }
+    }
+    assert!(books >= 6);
+}

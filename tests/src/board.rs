@@ -1,0 +1,126 @@
+//! The board by document 01: the card's tests, one step, judging.
+
+use crate::card::{marks_byte, CONTENTS_LENGTH, MOST_LETTERS, MOST_STATES};
+use crate::machine::Machine;
+use crate::minimise::representatives;
+use crate::refusal::*;
+
+/// The three bodies of bytes that pass test 21.
+#[derive(Clone, Copy, PartialEq, Eq, Debug)]
+pub struct Bodies<'c> {
+    pub letters: &'c [u8],
+    pub marks: &'c [u8],
+    pub moves: &'c [u8],
+}
+
+impl Bodies<'_> {
+    pub fn states(&self) -> usize {
+        self.marks.len()
+    }
+
+    pub fn target(&self, state: usize, column: usize) -> usize {
+        self.moves[state * self.letters.len() + column] as usize
+    }
+}
+
+#[derive(Clone, Copy, PartialEq, Eq, Debug)]
+pub enum Verdict {
+    Allowed,
+    Unfinished,
+    Hopeless(usize),
+}
+
+/// Judging's refusal; 27 carries the letters before the first foreign one.
+#[derive(Clone, Copy, PartialEq, Eq, Debug)]
+pub enum Refused {
+    Card(u8),
+    ForeignLetter { before: usize },
+}
+
+/// Test 21.
+pub fn bodies(card: &[u8]) -> Result<Bodies<'_>, u8> {
+    if card.len() < CONTENTS_LENGTH {
+        return Err(CONTENTS);
+    }
+    let number = |index: usize| u16::from_le_bytes([card[2 * index], card[2 * index + 1]]) as usize;
+    let (m, n) = (number(1), number(3));
+    let expected = [CONTENTS_LENGTH, m, CONTENTS_LENGTH + m, n, CONTENTS_LENGTH + m + n, n * m];
+    let as_expected = (0..6).all(|index| number(index) == expected[index]);
+    let sizes = (1..=MOST_LETTERS).contains(&m) && (1..=MOST_STATES).contains(&n);
+    if !as_expected || !sizes || card.len() != CONTENTS_LENGTH + m + n + n * m {
+        return Err(CONTENTS);
+    }
+    let (letters, rest) = card[CONTENTS_LENGTH..].split_at(m);
+    let (marks, moves) = rest.split_at(n);
+    Ok(Bodies { letters, marks, moves })
+}
+
+/// Tests 21 to 26 in turn.
+pub fn load(card: &[u8]) -> Result<Bodies<'_>, u8> {
+    let bodies = bodies(card)?;
+    let letters = bodies.letters;
+    if !letters.iter().all(u8::is_ascii_lowercase) || !letters.windows(2).all(|pair| pair[0] < pair[1]) {
+        return Err(LETTERS);
+    }
+    if bodies.moves.iter().any(|&target| target as usize >= bodies.states()) {
+        return Err(ASTRAY);
+    }
+    let machine = machine(&bodies);
+    if machine.numbered() != machine {
+        return Err(NUMBERING);
+    }
+    if (0..bodies.states()).any(|state| bodies.marks[state] != marks_byte(&machine, state)) {
+        return Err(MARKS);
+    }
+    if representatives(&machine).iter().enumerate().any(|(state, &same_as)| state != same_as) {
+        return Err(TWINS);
+    }
+    Ok(bodies)
+}
+
+/// The machine that a card's moves and marks make, once no move is astray.
+pub fn machine(bodies: &Bodies<'_>) -> Machine {
+    Machine {
+        symbols: bodies.letters.len(),
+        next: bodies.moves.chunks(bodies.letters.len()).map(|row| row.iter().map(|&t| t as usize).collect()).collect(),
+        accepting: bodies.marks.iter().map(|&byte| byte == 1).collect(),
+    }
+}
+
+/// One step on any bytes: the next state and its marks byte.
+pub fn step(card: &[u8], state: usize, letter: u8) -> Result<(usize, u8), u8> {
+    let bodies = bodies(card)?;
+    let column = bodies.letters.iter().position(|&known| known == letter).ok_or(FOREIGN_LETTER)?;
+    if state >= bodies.states() {
+        return Err(NO_STATE);
+    }
+    let target = bodies.target(state, column);
+    if target >= bodies.states() {
+        return Err(ASTRAY);
+    }
+    Ok((target, bodies.marks[target]))
+}
+
+/// The card's tests, then all letters, then the plan.
+pub fn judge(card: &[u8], plan: &[u8]) -> Result<Verdict, Refused> {
+    let bodies = load(card).map_err(Refused::Card)?;
+    let mut columns = Vec::with_capacity(plan.len());
+    for (before, letter) in plan.iter().enumerate() {
+        match bodies.letters.iter().position(|known| known == letter) {
+            Some(column) => columns.push(column),
+            None => return Err(Refused::ForeignLetter { before }),
+        }
+    }
+    let machine = machine(&bodies);
+    let hopeful: Vec<bool> = (0..machine.states()).map(|state| machine.can_accept_from(state)).collect();
+    let mut state = 0;
+    for place in 0..=columns.len() {
+        if !hopeful[state] {
+            return Ok(Verdict::Hopeless(place));
+        }
+        if let Some(&column) = columns.get(place) {
+            state = machine.next[state][column];
+        }
+    }
+    Ok(if machine.accepting[state] { Verdict::Allowed } else { Verdict::Unfinished })
+}

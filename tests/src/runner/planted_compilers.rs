@@ -1,0 +1,543 @@
+//! Wrong compilers. Each is the reference with one fault; the comparisons
+//! have to find every one of them.
+
+use crate::entry::{answer, Buffer, CompileEntry, Compiled, Reference, Request};
+use reference::board;
+use reference::card;
+use reference::compile::{compile_by, rule, Lent, Limits, Made, RuleRecipe, Workshop, LIMITS};
+use reference::machine::given;
+use reference::reader;
+use reference::syntax::Rule;
+
+/// A compiler whose answer is worked out by a function.
+pub struct Planted {
+    pub name: &'static str,
+    compile: Box<dyn Fn(&Request) -> Compiled>,
+}
+
+/// Work buffers that a planted compiler asks for.
+fn bench() -> Vec<Buffer> {
+    vec![Buffer { needed: 100, width: 2 }, Buffer { needed: 50, width: 1 }, Buffer { needed: 200, width: 4 }]
+}
+
+fn faultless(request: &Request) -> Compiled {
+    Reference { bench: bench() }.compile(request)
+}
+
+impl CompileEntry for Planted {
+    fn bench(&self) -> Vec<Buffer> {
+        bench()
+    }
+
+    fn compile(&self, request: &Request) -> Compiled {
+        (self.compile)(request)
+    }
+}
+
+/// No fault: the comparisons may find nothing.
+pub fn right() -> Planted {
+    Planted { name: "no fault", compile: Box::new(faultless) }
+}
+
+/// Another text is compiled.
+fn text(name: &'static str, change: fn(&[u8]) -> Vec<u8>) -> Planted {
+    let compile = move |request: &Request| faultless(&Request { text: change(&request.text), ..request.clone() });
+    Planted { name, compile: Box::new(compile) }
+}
+
+/// The answer is changed afterwards.
+fn after(name: &'static str, change: fn(&Request, Compiled) -> Compiled) -> Planted {
+    Planted { name, compile: Box::new(move |request| change(request, faultless(request))) }
+}
+
+/// Other limits or another recipe for a rule.
+fn stages(name: &'static str, limits: Limits, recipe: RuleRecipe) -> Planted {
+    let compile = move |request: &Request| answer(request, compile_by(&request.text, &lent(request), limits, recipe).0);
+    Planted { name, compile: Box::new(compile) }
+}
+
+fn lent(request: &Request) -> Lent {
+    let needed = bench().into_iter().map(|buffer| buffer.needed);
+    Lent { bench: needed.zip(request.bench.iter().copied()).collect(), card: request.card_length }
+}
+
+/// The card changed, where there is one and it still fits.
+fn card_changed(name: &'static str, change: fn(&[u8]) -> Vec<u8>) -> Planted {
+    let compile = move |request: &Request| {
+        let mut found = faultless(request);
+        if found.number == 0 {
+            let card = change(&found.card_buffer[..found.length as usize]);
+            if card.len() <= found.card_buffer.len() {
+                found.card_buffer = request.card_before();
+                found.card_buffer[..card.len()].copy_from_slice(&card);
+                found.length = card.len() as u64;
+            }
+        }
+        found
+    };
+    Planted { name, compile: Box::new(compile) }
+}
+
+fn refused(request: &Request, number: u64, line: u64) -> Compiled {
+    Compiled { number, line, length: 0, peak: 0, card_buffer: request.card_before(), spilled: false }
+}
+
+fn lines_of(text: &[u8]) -> Vec<Vec<u8>> {
+    text.split_inclusive(|&byte| byte == b'\n').map(<[u8]>::to_vec).collect()
+}
+
+pub fn all() -> Vec<Planted> {
+    [texts(), answers(), limits(), recipes(), cards(), buffers()].into_iter().flatten().collect()
+}
+
+fn texts() -> Vec<Planted> {
+    vec![
+        text("compiles only the first rule", |text| {
+            let mut rules = 0;
+            let kept = lines_of(text).into_iter().filter(|line| {
+                rules += usize::from(line[0] == b'>');
+                line[0] != b'>' || rules == 1
+            });
+            kept.collect::<Vec<_>>().concat()
+        }),
+        text("forgives a missing line end", |text| {
+            let mut text = text.to_vec();
+            if !text.is_empty() && !text.ends_with(b"\n") {
+                text.push(b'\n');
+            }
+            text
+        }),
+        text("sees an empty line behind the last end", |text| [text, b"\n"].concat()),
+        text("forgives blank lines", |text| {
+            lines_of(text).into_iter().filter(|line| line != b"\n").collect::<Vec<_>>().concat()
+        }),
+        text("forgives carriage returns", |text| text.iter().copied().filter(|&byte| byte != b'\r').collect()),
+        text("takes a tab for a space", |text| {
+            text.iter().map(|&byte| if byte == b'\t' { b' ' } else { byte }).collect()
+        }),
+        text("lets spaces begin a line", |text| {
+            let lines = lines_of(text).into_iter().map(|line| line.trim_ascii_start().to_vec());
+            lines.map(|line| if line.is_empty() { b"\n".to_vec() } else { line }).collect::<Vec<_>>().concat()
+        }),
+        text("lets spaces into line 1", |text| {
+            let mut lines = lines_of(text);
+            if let Some(first) = lines.first_mut() {
+                first.retain(|&byte| byte != b' ');
+            }
+            lines.concat()
+        }),
+        text("knows no spaces", |text| text.iter().map(|&byte| if byte == b' ' { b'~' } else { byte }).collect()),
+        text("a plus is a star", |text| text.iter().map(|&byte| if byte == b'+' { b'*' } else { byte }).collect()),
+        text("a minus is an and", |text| text.iter().map(|&byte| if byte == b'-' { b'&' } else { byte }).collect()),
+        text("the sides swapped", |text| {
+            let lines = lines_of(text).into_iter().map(|line| {
+                let ended = line.ends_with(b"\n");
+                let body = line.strip_suffix(b"\n").unwrap_or(&line);
+                let parts: Vec<Vec<u8>> = body
+                    .split(|&byte| byte == b'/')
+                    .map(|part| part.split(|&byte| byte == b'_').rev().collect::<Vec<_>>().join(&b'_'))
+                    .collect();
+                let mut swapped = parts.join(&b'/');
+                if ended {
+                    swapped.push(b'\n');
+                }
+                swapped
+            });
+            lines.collect::<Vec<_>>().concat()
+        }),
+    ]
+}
+
+fn answers() -> Vec<Planted> {
+    vec![
+        after("refuses every book", |request, _| refused(request, 5, 1)),
+        after("one card for all books", |request, found| {
+            let mut found = found;
+            let card = crate::examples::FIRST_CARD;
+            if found.number == 0 && found.card_buffer.len() >= card.len() {
+                found.card_buffer = request.card_before();
+                found.card_buffer[..card.len()].copy_from_slice(card);
+                found.length = card.len() as u64;
+            }
+            found
+        }),
+        after("writes nothing", |request, found| Compiled { card_buffer: request.card_before(), ..found }),
+        after("writes one byte more", |_, found| {
+            let mut found = found;
+            let end = found.length as usize;
+            if found.number == 0 && end < found.card_buffer.len() {
+                found.card_buffer[end] ^= 1;
+            }
+            found
+        }),
+        after("touches the card buffer on a refusal", |_, found| {
+            let mut found = found;
+            if found.number != 0 && !found.card_buffer.is_empty() {
+                found.card_buffer[0] ^= 1;
+            }
+            found
+        }),
+        after("touches the card buffer on an oversize stage", |_, found| {
+            let mut found = found;
+            if found.number == 9 {
+                found.card_buffer[0] ^= 1;
+            }
+            found
+        }),
+        after("writes outside a lent buffer", |_, found| Compiled { spilled: found.number == 0, ..found }),
+        after("a peak of one more", |_, found| Compiled { peak: found.peak + u64::from(found.number == 0), ..found }),
+        after("a peak of 0", |_, found| Compiled { peak: 0, ..found }),
+        after("the greatest peak is 511", |_, found| Compiled { peak: found.peak.min(511), ..found }),
+        after("the peak of refused books too", |_, found| {
+            Compiled { peak: if found.number == 11 { 7 } else { found.peak }, ..found }
+        }),
+        after("lines from 0", |_, found| Compiled { line: found.line.saturating_sub(1), ..found }),
+        after("a line for 10", |_, found| Compiled { line: if found.number == 10 { 1 } else { found.line }, ..found }),
+        after("a line below 256", |_, found| Compiled { line: found.line % 256, ..found }),
+        after("no bytes is no rule", |request, found| {
+            if request.text.is_empty() && found.number == 5 {
+                return refused(request, 10, 0);
+            }
+            found
+        }),
+        after("old rubbish alters the peak", |request, found| {
+            let altered = found.number == 0 && request.rubbish % 5 == 3;
+            Compiled { peak: found.peak + u64::from(altered), ..found }
+        }),
+        after("a long book one byte late", |request, found| {
+            if request.text.len() == reader::LONGEST_TEXT + 1 && found.number == 1 {
+                return refused(request, 5, 1);
+            }
+            found
+        }),
+        after("a long book one byte early", |request, found| {
+            if request.text.len() == reader::LONGEST_TEXT {
+                return refused(request, 1, 0);
+            }
+            found
+        }),
+        after("reads all lines before any stage", |request, found| match reader::read_book(&request.text) {
+            Err(refusal) if found.number == 8 || found.number == 9 => {
+                refused(request, refusal.number.into(), refusal.line as u64)
+            }
+            _ => found,
+        }),
+        after("9 before 8 in one stage", |request, found| {
+            let free = Limits { sets: 4000, states: 4000 };
+            if found.number == 8 {
+                let (_, made) = compile_by(&request.text, &Lent::plenty(), free, rule);
+                if made.iter().find(|stage| stage.sets > 512).is_some_and(|stage| stage.states > 120) {
+                    return refused(request, 9, found.line);
+                }
+            }
+            found
+        }),
+        after("the bracket count clipped at 0", |request, found| {
+            let clipped = |line: &Vec<u8>| {
+                let mut count = 0u32;
+                line.iter().any(|byte| {
+                    count = match byte {
+                        b'(' => count + 1,
+                        b')' => count.saturating_sub(1),
+                        _ => count,
+                    };
+                    count > 4
+                })
+            };
+            match lines_of(&request.text).iter().position(clipped) {
+                Some(index) if found.number == 5 && found.line == index as u64 + 1 => refused(request, 3, found.line),
+                _ => found,
+            }
+        }),
+        after("spoiled before nested", |_, found| {
+            Compiled { number: if found.number == 3 { 5 } else { found.number }, ..found }
+        }),
+        after("crowds of contexts are spoiled", |_, found| {
+            Compiled { number: if found.number == 4 { 5 } else { found.number }, ..found }
+        }),
+        after("line 1 is only spoiled", |_, found| {
+            let first = found.line == 1 && (found.number == 3 || found.number == 4);
+            Compiled { number: if first { 5 } else { found.number }, ..found }
+        }),
+        after("taken before a stranger", |request, found| {
+            let lines = lines_of(&request.text);
+            let name = |line: &Vec<u8>| line.iter().copied().find(u8::is_ascii_uppercase);
+            if found.number == 6 {
+                let line = &lines[found.line as usize - 1];
+                let above = &lines[1..found.line as usize - 1];
+                if line[0] == b'=' && above.iter().any(|other| other[0] == b'=' && name(other) == name(line)) {
+                    return refused(request, 7, found.line);
+                }
+            }
+            found
+        }),
+    ]
+}
+
+fn limits() -> Vec<Planted> {
+    vec![
+        stages("511 sets at most", Limits { sets: 511, ..LIMITS }, rule),
+        stages("513 sets at most", Limits { sets: 513, ..LIMITS }, rule),
+        stages("119 states at most", Limits { states: 119, ..LIMITS }, rule),
+        stages("121 states at most", Limits { states: 121, ..LIMITS }, rule),
+    ]
+}
+
+fn recipes() -> Vec<Planted> {
+    vec![
+        stages("one mark where two are due", LIMITS, one_mark),
+        stages("sides of two contexts", LIMITS, mixed_contexts),
+        stages("complement before erasing", LIMITS, complement_first),
+        stages("contexts extended", LIMITS, extended),
+        stages("joined from the right", LIMITS, from_the_right),
+        stages("contexts united, one minus", LIMITS, one_minus),
+        stages("contexts before X", LIMITS, contexts_first),
+        stages("all sides before the joins", LIMITS, all_sides_first),
+        stages("joins before the right side", LIMITS, joins_before_right),
+        stages("the last context left out", LIMITS, without_last_context),
+    ]
+}
+
+/// The recipes that make other cards; the meaning alone has to show it.
+pub fn wrong_meanings() -> Vec<(&'static str, RuleRecipe)> {
+    vec![
+        ("one mark where two are due", one_mark),
+        ("sides of two contexts", mixed_contexts),
+        ("complement before erasing", complement_first),
+        ("contexts extended", extended),
+        ("the last context left out", without_last_context),
+    ]
+}
+
+fn one_mark(workshop: &mut Workshop, rule: &Rule) -> Made {
+    let (all, mark) = (given::all_words(workshop.symbols), given::mark(workshop.symbols));
+    let p = workshop.choice(&rule.pattern)?;
+    let mut x = workshop.joined(&[&all, &mark, &p, &all])?;
+    for (left, right) in &rule.contexts {
+        let (l, r) = (workshop.choice(left)?, workshop.choice(right)?);
+        let fitting = workshop.joined(&[&l, &mark, &p, &r])?;
+        x = workshop.difference(&x, &fitting)?;
+    }
+    let e = workshop.erase(&x)?;
+    workshop.difference(&all, &e)
+}
+
+fn mixed_contexts(workshop: &mut Workshop, original: &Rule) -> Made {
+    let mut mixed = original.clone();
+    mixed.contexts.clear();
+    for (left, _) in &original.contexts {
+        for (_, right) in &original.contexts {
+            mixed.contexts.push((left.clone(), right.clone()));
+        }
+    }
+    rule(workshop, &mixed)
+}
+
+fn complement_first(workshop: &mut Workshop, rule: &Rule) -> Made {
+    let (all, mark) = (given::all_words(workshop.symbols), given::mark(workshop.symbols));
+    let p = workshop.choice(&rule.pattern)?;
+    let mut x = workshop.joined(&[&all, &mark, &p, &mark, &all])?;
+    for (left, right) in &rule.contexts {
+        let (l, r) = (workshop.choice(left)?, workshop.choice(right)?);
+        let fitting = workshop.joined(&[&l, &mark, &p, &mark, &r])?;
+        x = workshop.difference(&x, &fitting)?;
+    }
+    let marked = workshop.joined(&[&all, &mark, &all, &mark, &all])?;
+    let rest = workshop.difference(&marked, &x)?;
+    workshop.erase(&rest)
+}
+
+fn extended(workshop: &mut Workshop, rule: &Rule) -> Made {
+    let (all, mark) = (given::all_words(workshop.symbols), given::mark(workshop.symbols));
+    let p = workshop.choice(&rule.pattern)?;
+    let mut x = workshop.joined(&[&all, &mark, &p, &mark, &all])?;
+    for (left, right) in &rule.contexts {
+        let (l, r) = (workshop.choice(left)?, workshop.choice(right)?);
+        let fitting = workshop.joined(&[&all, &l, &mark, &p, &mark, &r, &all])?;
+        x = workshop.difference(&x, &fitting)?;
+    }
+    let e = workshop.erase(&x)?;
+    workshop.difference(&all, &e)
+}
+
+fn from_the_right(workshop: &mut Workshop, rule: &Rule) -> Made {
+    let (all, mark) = (given::all_words(workshop.symbols), given::mark(workshop.symbols));
+    let p = workshop.choice(&rule.pattern)?;
+    let joined = |workshop: &mut Workshop, parts: [&reference::machine::Machine; 5]| -> Made {
+        let mut so_far = parts[4].clone();
+        for part in parts[..4].iter().rev() {
+            so_far = workshop.concatenation(part, &so_far)?;
+        }
+        Ok(so_far)
+    };
+    let mut x = joined(workshop, [&all, &mark, &p, &mark, &all])?;
+    for (left, right) in &rule.contexts {
+        let (l, r) = (workshop.choice(left)?, workshop.choice(right)?);
+        let fitting = joined(workshop, [&l, &mark, &p, &mark, &r])?;
+        x = workshop.difference(&x, &fitting)?;
+    }
+    let e = workshop.erase(&x)?;
+    workshop.difference(&all, &e)
+}
+
+fn one_minus(workshop: &mut Workshop, rule: &Rule) -> Made {
+    let (all, mark) = (given::all_words(workshop.symbols), given::mark(workshop.symbols));
+    let p = workshop.choice(&rule.pattern)?;
+    let mut x = workshop.joined(&[&all, &mark, &p, &mark, &all])?;
+    let mut united = None;
+    for (left, right) in &rule.contexts {
+        let (l, r) = (workshop.choice(left)?, workshop.choice(right)?);
+        let fitting = workshop.joined(&[&l, &mark, &p, &mark, &r])?;
+        united = Some(match united {
+            None => fitting,
+            Some(so_far) => workshop.union(&so_far, &fitting)?,
+        });
+    }
+    if let Some(united) = united {
+        x = workshop.difference(&x, &united)?;
+    }
+    let e = workshop.erase(&x)?;
+    workshop.difference(&all, &e)
+}
+
+fn contexts_first(workshop: &mut Workshop, rule: &Rule) -> Made {
+    let (all, mark) = (given::all_words(workshop.symbols), given::mark(workshop.symbols));
+    let p = workshop.choice(&rule.pattern)?;
+    let mut fitting = Vec::new();
+    for (left, right) in &rule.contexts {
+        let (l, r) = (workshop.choice(left)?, workshop.choice(right)?);
+        fitting.push(workshop.joined(&[&l, &mark, &p, &mark, &r])?);
+    }
+    let mut x = workshop.joined(&[&all, &mark, &p, &mark, &all])?;
+    for one in &fitting {
+        x = workshop.difference(&x, one)?;
+    }
+    let e = workshop.erase(&x)?;
+    workshop.difference(&all, &e)
+}
+
+fn all_sides_first(workshop: &mut Workshop, rule: &Rule) -> Made {
+    let (all, mark) = (given::all_words(workshop.symbols), given::mark(workshop.symbols));
+    let p = workshop.choice(&rule.pattern)?;
+    let mut x = workshop.joined(&[&all, &mark, &p, &mark, &all])?;
+    let mut sides = Vec::new();
+    for (left, right) in &rule.contexts {
+        sides.push((workshop.choice(left)?, workshop.choice(right)?));
+    }
+    for (l, r) in &sides {
+        let fitting = workshop.joined(&[l, &mark, &p, &mark, r])?;
+        x = workshop.difference(&x, &fitting)?;
+    }
+    let e = workshop.erase(&x)?;
+    workshop.difference(&all, &e)
+}
+
+fn joins_before_right(workshop: &mut Workshop, rule: &Rule) -> Made {
+    let (all, mark) = (given::all_words(workshop.symbols), given::mark(workshop.symbols));
+    let p = workshop.choice(&rule.pattern)?;
+    let mut x = workshop.joined(&[&all, &mark, &p, &mark, &all])?;
+    for (left, right) in &rule.contexts {
+        let l = workshop.choice(left)?;
+        let begun = workshop.joined(&[&l, &mark, &p, &mark])?;
+        let r = workshop.choice(right)?;
+        let fitting = workshop.concatenation(&begun, &r)?;
+        x = workshop.difference(&x, &fitting)?;
+    }
+    let e = workshop.erase(&x)?;
+    workshop.difference(&all, &e)
+}
+
+fn without_last_context(workshop: &mut Workshop, original: &Rule) -> Made {
+    let mut shorter = original.clone();
+    if shorter.contexts.len() > 3 {
+        shorter.contexts.pop();
+    }
+    rule(workshop, &shorter)
+}
+
+fn cards() -> Vec<Planted> {
+    vec![
+        card_changed("keeps a dead state that no plan reaches", |bytes| {
+            let bodies = board::bodies(bytes).expect("a card");
+            let n = bodies.states();
+            if bodies.marks.contains(&2) || n >= card::MOST_STATES {
+                return bytes.to_vec();
+            }
+            let marks = [bodies.marks, &[2]].concat();
+            let moves = [bodies.moves, &vec![n as u8; bodies.letters.len()]].concat();
+            card::lay_out(bodies.letters, &marks, &moves)
+        }),
+        card_changed("marks dead states 0", |bytes| {
+            let bodies = board::bodies(bytes).expect("a card");
+            let marks: Vec<u8> = bodies.marks.iter().map(|&byte| byte % 2).collect();
+            card::lay_out(bodies.letters, &marks, bodies.moves)
+        }),
+        card_changed("numbers depth first", |bytes| {
+            let bodies = board::bodies(bytes).expect("a card");
+            let machine = board::machine(&bodies);
+            let mut order: Vec<usize> = Vec::new();
+            let mut waiting = vec![0];
+            while let Some(state) = waiting.pop() {
+                if !order.contains(&state) {
+                    order.push(state);
+                    waiting.extend(machine.next[state].iter().rev());
+                }
+            }
+            let number = |state: usize| order.iter().position(|&other| other == state).expect("reached") as u8;
+            let marks: Vec<u8> = order.iter().map(|&state| bodies.marks[state]).collect();
+            let moves: Vec<u8> =
+                order.iter().flat_map(|&state| machine.next[state].iter().map(|&target| number(target))).collect();
+            card::lay_out(bodies.letters, &marks, &moves)
+        }),
+        card_changed("high byte first", |bytes| {
+            let mut bytes = bytes.to_vec();
+            for pair in bytes[..12].chunks_mut(2) {
+                pair.swap(0, 1);
+            }
+            bytes
+        }),
+        card_changed("the moves' high byte lost", |bytes| {
+            let mut bytes = bytes.to_vec();
+            bytes[11] = 0;
+            bytes
+        }),
+    ]
+}
+
+fn buffers() -> Vec<Planted> {
+    let lengths = |name, change: fn(&mut Lent)| {
+        let compile = move |request: &Request| {
+            let mut lent = lent(request);
+            change(&mut lent);
+            answer(request, compile_by(&request.text, &lent, LIMITS, rule).0)
+        };
+        Planted { name, compile: Box::new(compile) }
+    };
+    vec![
+        lengths("an exact card buffer is short", |lent| lent.card = lent.card.saturating_sub(1)),
+        lengths("an exact work buffer is short", |lent| lent.bench[1].0 += 1),
+        lengths("a work buffer one short will do", |lent| lent.bench[1].0 -= 1),
+        lengths("the last work buffer isn't tested", |lent| lent.bench[2].0 = 0),
+        Planted {
+            name: "the bench before the long book",
+            compile: Box::new(|request| {
+                let found = faultless(request);
+                let short = request.bench.iter().zip(bench()).any(|(lent, buffer)| *lent < buffer.needed);
+                if found.number == 1 && short {
+                    return refused(request, 2, 0);
+                }
+                found
+            }),
+        },
+        Planted {
+            name: "the card buffer before the rules",
+            compile: Box::new(|request| {
+                let found = faultless(request);
+                if found.number == 10 && request.card_length == 0 {
+                    return refused(request, 11, 0);
+                }
+                found
+            }),
+        },
+    ]
+}

@@ -1,0 +1,231 @@
+//! The product's static library: the one file to adapt when names or
+//! buffers change. A slice is passed as its pointer and then its length.
+//!
+//! Linked with the features `product-board` and `product-compile`; without
+//! them both entries are absent and their comparisons are skipped.
+
+use crate::entry::{BoardEntry, CompileEntry};
+
+#[cfg(feature = "product-board")]
+mod board {
+    use crate::entry::{BoardEntry, Judged, Loaded, Stepped};
+
+    extern "C" {
+        fn pier_load(card: *const u8, card_length: usize, out: *mut u64, out_length: usize);
+        fn pier_step(
+            card: *const u8,
+            card_length: usize,
+            state: usize,
+            letter: u8,
+            out: *mut u64,
+            out_length: usize,
+        );
+        fn pier_judge(
+            card: *const u8,
+            card_length: usize,
+            plan: *const u8,
+            plan_length: usize,
+            out: *mut u64,
+            out_length: usize,
+        );
+    }
+
+    /// Nothing that a library would answer by chance.
+    const UNSET: u64 = 0xDEAD_BEEF_DEAD_BEEF;
+
+    pub struct Board;
+
+    impl BoardEntry for Board {
+        fn load(&self, card: &[u8]) -> Loaded {
+            let mut out = [UNSET; 3];
+            unsafe { pier_load(card.as_ptr(), card.len(), out.as_mut_ptr(), out.len()) };
+            match out {
+                [0, letters, states] => Loaded::Card { letters, states },
+                [number, ..] => Loaded::Refused(number),
+            }
+        }
+
+        fn step(&self, card: &[u8], state: usize, letter: u8) -> Stepped {
+            let mut out = [UNSET; 3];
+            unsafe { pier_step(card.as_ptr(), card.len(), state, letter, out.as_mut_ptr(), out.len()) };
+            match out {
+                [0, state, marks] => Stepped::To { state, marks },
+                [number, ..] => Stepped::Refused(number),
+            }
+        }
+
+        /// out: number, verdict, place; with number 0 the verdict is a marks
+        /// byte (1 allowed, 0 unfinished, 2 hopeless) and the place that of
+        /// hopeless; with number 27 the place is the letters before the
+        /// foreign one.
+        fn judge(&self, card: &[u8], plan: &[u8]) -> Judged {
+            let mut out = [UNSET; 3];
+            unsafe {
+                pier_judge(card.as_ptr(), card.len(), plan.as_ptr(), plan.len(), out.as_mut_ptr(), out.len())
+            };
+            match out {
+                [0, 1, 0] => Judged::Allowed,
+                [0, 0, 0] => Judged::Unfinished,
+                [0, 2, place] => Judged::Hopeless(place),
+                [0, ..] => Judged::Unknown(out.to_vec()),
+                [27, 0, before] => Judged::ForeignLetter { before },
+                [number, ..] => Judged::Refused(number),
+            }
+        }
+    }
+}
+
+#[cfg(feature = "product-compile")]
+mod compile {
+    use crate::entry::{Buffer, CompileEntry, Compiled, Request};
+    use crate::rng::Rng;
+
+    /// The entry types of the work buffers, in the order of the call.
+    type B0 = u16;
+    type B1 = u16;
+    type B2 = u16;
+    type B3 = u16;
+    type B4 = u8;
+    type B5 = u8;
+    type B6 = u8;
+    type B7 = u8;
+
+    /// Their documented lengths, in entries.
+    const NEEDED: [usize; 8] = [16_384; 8];
+
+    extern "C" {
+        fn pier_compile(
+            text: *const u8,
+            text_length: usize,
+            card: *mut u8,
+            card_length: usize,
+            b0: *mut B0,
+            b0_length: usize,
+            b1: *mut B1,
+            b1_length: usize,
+            b2: *mut B2,
+            b2_length: usize,
+            b3: *mut B3,
+            b3_length: usize,
+            b4: *mut B4,
+            b4_length: usize,
+            b5: *mut B5,
+            b5_length: usize,
+            b6: *mut B6,
+            b6_length: usize,
+            b7: *mut B7,
+            b7_length: usize,
+            out: *mut u64,
+            out_length: usize,
+        );
+    }
+
+    pub struct Compiler;
+
+    /// Entries past each lent slice that must stay as they are.
+    const GUARD: usize = 64;
+
+    /// A slice to lend, with guarded entries behind it.
+    struct Lent<T> {
+        entries: Vec<T>,
+        before: Vec<T>,
+        length: usize,
+    }
+
+    impl<T: Copy + PartialEq> Lent<T> {
+        fn new(length: usize, mut fill: impl FnMut() -> T) -> Lent<T> {
+            let entries: Vec<T> = (0..length + GUARD).map(|_| fill()).collect();
+            Lent { before: entries.clone(), entries, length }
+        }
+
+        fn spilled(&self) -> bool {
+            self.entries[self.length..] != self.before[self.length..]
+        }
+    }
+
+    impl CompileEntry for Compiler {
+        fn bench(&self) -> Vec<Buffer> {
+            let widths = [
+                size_of::<B0>(),
+                size_of::<B1>(),
+                size_of::<B2>(),
+                size_of::<B3>(),
+                size_of::<B4>(),
+                size_of::<B5>(),
+                size_of::<B6>(),
+                size_of::<B7>(),
+            ];
+            NEEDED.into_iter().zip(widths).map(|(needed, width)| Buffer { needed, width }).collect()
+        }
+
+        fn compile(&self, request: &Request) -> Compiled {
+            let mut rng = Rng::new(request.rubbish);
+            let lengths = &request.bench;
+            let mut b0 = Lent::new(lengths[0], || rng.next() as B0);
+            let mut b1 = Lent::new(lengths[1], || rng.next() as B1);
+            let mut b2 = Lent::new(lengths[2], || rng.next() as B2);
+            let mut b3 = Lent::new(lengths[3], || rng.next() as B3);
+            let mut b4 = Lent::new(lengths[4], || rng.next() as B4);
+            let mut b5 = Lent::new(lengths[5], || rng.next() as B5);
+            let mut b6 = Lent::new(lengths[6], || rng.next() as B6);
+            let mut b7 = Lent::new(lengths[7], || rng.next() as B7);
+            let mut bytes = request.card_before().into_iter();
+            let mut card = Lent::new(request.card_length, || bytes.next().unwrap_or(0xA5));
+            let mut out = [0xDEAD_BEEF_DEAD_BEEF_u64; 4];
+            unsafe {
+                pier_compile(
+                    request.text.as_ptr(),
+                    request.text.len(),
+                    card.entries.as_mut_ptr(),
+                    card.length,
+                    b0.entries.as_mut_ptr(),
+                    b0.length,
+                    b1.entries.as_mut_ptr(),
+                    b1.length,
+                    b2.entries.as_mut_ptr(),
+                    b2.length,
+                    b3.entries.as_mut_ptr(),
+                    b3.length,
+                    b4.entries.as_mut_ptr(),
+                    b4.length,
+                    b5.entries.as_mut_ptr(),
+                    b5.length,
+                    b6.entries.as_mut_ptr(),
+                    b6.length,
+                    b7.entries.as_mut_ptr(),
+                    b7.length,
+                    out.as_mut_ptr(),
+                    out.len(),
+                )
+            };
+            let spilled = b0.spilled()
+                || b1.spilled()
+                || b2.spilled()
+                || b3.spilled()
+                || b4.spilled()
+                || b5.spilled()
+                || b6.spilled()
+                || b7.spilled()
+                || card.spilled();
+            let [number, line, length, peak] = out;
+            card.entries.truncate(card.length);
+            Compiled { number, line, length, peak, card_buffer: card.entries, spilled }
+        }
+    }
+}
+
+/// The library's board, where it is linked.
+pub fn board() -> Option<Box<dyn BoardEntry>> {
+    #[cfg(feature = "product-board")]
+    return Some(Box::new(board::Board));
+    #[cfg(not(feature = "product-board"))]
+    None
+}
+
+/// The library's compiler, where it is linked.
+pub fn compiler() -> Option<Box<dyn CompileEntry>> {
+    #[cfg(feature = "product-compile")]
+    return Some(Box::new(compile::Compiler));
+    #[cfg(not(feature = "product-compile"))]
+    None
+}

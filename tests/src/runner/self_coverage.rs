@@ -1,0 +1,83 @@
+//! The random cases meet every refusal and every kind of verdict.
+
+use crate::random_books;
+use crate::random_cards;
+use crate::tally::Tally;
+use reference::board::{self, Refused, Verdict};
+use reference::compile::{compile, Lent};
+use std::collections::BTreeMap;
+
+type Met = BTreeMap<String, usize>;
+
+pub fn run(tally: &mut Tally) {
+    tally.group("reference: random cases meet every answer", |tally| {
+        let books = books(tally);
+        for answer in ["accepted", "3", "4", "5", "6", "7", "8", "9", "10", "11"] {
+            tally.check(books.get(answer).is_some_and(|&times| times >= 5), || format!("books: {answer} in {books:?}"));
+        }
+        let cards = cards(tally);
+        for answer in [
+            "loaded", "load 21", "load 22", "load 23", "load 24", "load 25", "load 26", "step 21", "step 23", "step 27",
+            "step 28", "stepped", "allowed", "unfinished", "hopeless", "hopeless 0", "foreign",
+        ] {
+            tally.check(cards.get(answer).is_some_and(|&times| times >= 5), || format!("cards: {answer} in {cards:?}"));
+        }
+    });
+}
+
+fn count(met: &mut Met, answer: impl Into<String>) {
+    *met.entry(answer.into()).or_default() += 1;
+}
+
+fn books(tally: &Tally) -> Met {
+    let mut met = Met::new();
+    let mut rng = tally.rng("books that meet every answer");
+    for case in 0..3000 {
+        let text = match case % 3 {
+            0 => random_books::soup(&mut rng),
+            1 => random_books::book(&mut rng),
+            _ => {
+                let good = random_books::book(&mut rng);
+                random_books::damaged(&mut rng, &good)
+            }
+        };
+        let card = if rng.once_in(4) { rng.below(200) } else { 4000 };
+        match compile(&text, &Lent { bench: Vec::new(), card }) {
+            Ok(_) => count(&mut met, "accepted"),
+            Err(refusal) => count(&mut met, refusal.number.to_string()),
+        }
+    }
+    met
+}
+
+fn cards(tally: &Tally) -> Met {
+    let mut met = Met::new();
+    let mut rng = tally.rng("cards that meet every answer");
+    for case in 0..3000 {
+        let good = random_cards::good(&mut rng);
+        let card = match case % 3 {
+            0 => random_cards::loose(&mut rng),
+            1 => good,
+            _ => random_cards::damaged(&mut rng, &good),
+        };
+        match board::load(&card) {
+            Ok(_) => count(&mut met, "loaded"),
+            Err(number) => count(&mut met, format!("load {number}")),
+        }
+        let letters = board::bodies(&card).map_or(b"ab".to_vec(), |bodies| bodies.letters.to_vec());
+        let letter = if rng.once_in(6) { rng.next() as u8 } else { *rng.pick(&letters) };
+        match board::step(&card, rng.below(8), letter) {
+            Ok(_) => count(&mut met, "stepped"),
+            Err(number) => count(&mut met, format!("step {number}")),
+        }
+        match board::judge(&card, &random_cards::plan(&mut rng, &letters)) {
+            Ok(Verdict::Allowed) => count(&mut met, "allowed"),
+            Ok(Verdict::Unfinished) => count(&mut met, "unfinished"),
+            Ok(Verdict::Hopeless(0)) => count(&mut met, "hopeless 0"),
+            Ok(Verdict::Hopeless(_)) => count(&mut met, "hopeless"),
+            Err(Refused::ForeignLetter { .. }) => count(&mut met, "foreign"),
+            Err(Refused::Card(_)) => {}
+        }
+    }
+    met
+}

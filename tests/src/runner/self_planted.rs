@@ -1,0 +1,80 @@
+//! Every planted fault is found, and nothing is found where none is.
+
+use crate::acting;
+use crate::compare_board;
+use crate::compare_compile;
+use crate::compare_programs;
+use crate::effort::Effort;
+use crate::planted_boards;
+use crate::planted_compilers;
+use crate::program::Program;
+use crate::random_books;
+use crate::tally::Tally;
+use reference::card;
+use reference::compile::{compile_by, Lent, LIMITS};
+use reference::derivative::Derivatives;
+use reference::minimise::minimise;
+use reference::reader;
+
+/// Planted faults are looked for with the same cases in every run.
+const SEED: u64 = 1;
+
+pub fn run(tally: &mut Tally) {
+    tally.group("reference: faults planted in compilers are found", |tally| {
+        let hunt = |planted: &planted_compilers::Planted| {
+            let mut found = Tally::hunting(SEED);
+            compare_compile::run(&mut found, planted, Effort::HUNT);
+            found.failed
+        };
+        tally.same("a compiler without a fault", &0, &hunt(&planted_compilers::right()));
+        for planted in planted_compilers::all() {
+            tally.check(hunt(&planted) > 0, || format!("not found: {}", planted.name));
+        }
+    });
+    tally.group("reference: faults planted in boards are found", |tally| {
+        let hunt = |planted: &planted_boards::Planted| {
+            let mut found = Tally::hunting(SEED);
+            compare_board::run(&mut found, planted, Effort::HUNT);
+            found.failed
+        };
+        tally.same("a board without a fault", &0, &hunt(&planted_boards::right()));
+        for planted in planted_boards::all() {
+            tally.check(hunt(&planted) > 0, || format!("not found: {}", planted.name));
+        }
+    });
+    tally.group("reference: faults planted in programs are found", |tally| {
+        let Ok(own) = std::env::current_exe() else { return };
+        let acting = |part: &str, fault: &str| Program {
+            path: own.clone(),
+            arguments: vec!["--act".into(), part.into(), fault.into()],
+        };
+        for fault in acting::JUDGING {
+            let mut found = Tally::hunting(SEED);
+            compare_programs::judge(&mut found, &acting("judge", fault), Effort::HUNT);
+            tally.check((found.failed > 0) == (*fault != "none"), || format!("judging program: {fault}"));
+        }
+        for fault in acting::COMPILING {
+            let mut found = Tally::hunting(SEED);
+            compare_programs::compiler(&mut found, &acting("compile", fault), Effort::HUNT);
+            tally.check((found.failed > 0) == (*fault != "none"), || format!("compiling program: {fault}"));
+        }
+        let mut found = Tally::hunting(SEED);
+        compare_programs::both(&mut found, &acting("compile", "none"), &acting("judge", "none"), Effort::HUNT);
+        tally.same("both programs without a fault", &0, &found.failed);
+    });
+    tally.group("reference: wrong recipes are found by derivatives", wrong_recipes);
+}
+
+fn wrong_recipes(tally: &mut Tally) {
+    for (name, recipe) in planted_compilers::wrong_meanings() {
+        let mut rng = tally.rng(name);
+        let found = (0..2000).any(|_| {
+            let text = random_books::book(&mut rng);
+            let Ok(accepted) = compile_by(&text, &Lent::plenty(), LIMITS, recipe).0 else { return false };
+            let Ok(book) = reader::read_book(&text) else { return false };
+            let Ok(machine) = Derivatives::of(&book).machine(500) else { return false };
+            card::write(&book.alphabet, &minimise(&machine)) != accepted.card
+        });
+        tally.check(found, || format!("not found: {name}"));
+    }
+}
