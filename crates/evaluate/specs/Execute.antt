@@ -88,12 +88,12 @@ module _ (fmt : Format) (ls : List ℕ) (env : List (ℕ × Machine)) (kept : Ma
 
 -- ---- programs in a row
 
-after-after : (cs ds : List ℕ) (r : Ran) → afterRan cs (afterRan ds r) ≡ afterRan (cs ++ ds) r
+pub after-after : (cs ds : List ℕ) (r : Ran) → afterRan cs (afterRan ds r) ≡ afterRan (cs ++ ds) r
 after-after cs ds (ran more s) = ap (λ l. ran l s) (sym (append-assoc cs ds more))
 after-after cs ds (failed r) = refl
 after-after cs ds stuck = refl
 
-after-none : (r : Ran) → afterRan [] r ≡ r
+pub after-none : (r : Ran) → afterRan [] r ≡ r
 after-none (ran more s) = refl
 after-none (failed r) = refl
 after-none stuck = refl
