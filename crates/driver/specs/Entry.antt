@@ -1,0 +1,71 @@
+-- What the entry promises: its answer and the card buffer are those of `outcome`.
+use mathlib.Core.Path.{_≡_}
+use mathlib.Core.Bool.{Bool}
+use mathlib.Core.List.{List, [], _∷_}
+use Prim.Native.Nat.{ℕ, suc, _+_, _*_, _≤_}
+use lib.Dec.{ltb}
+use lib.ListN.{length, drop}
+use Rattle.automata.specs.Booleans.{choose}
+use Rattle.automata.specs.Format.{narrow}
+use Rattle.automata.specs.Machine.{Machine, Canonical}
+use Rattle.automata.specs.Restrict.{Unmarked}
+use Rattle.card.specs.Same.{cardOf}
+use Rattle.book.specs.Text.{linesOf}
+use Rattle.compiler.specs.Book.{compileBook, compileLines, startDraft}
+use Rattle.compiler.specs.Outcome.{Outcome, card, stop, Answer, answer, bufferAfter, outcome}
+use Rattle.driver.specs.Stored.{InSlot}
+use Rattle.driver.specs.Lines.{Room}
+use Rattle.driver.specs.declared.Compiled.{Compiled}
+use Rattle.driver.specs.declared.Compiled.the-variants.{Card, Refused}
+
+-- "a lent work buffer is below its documented length (at most 8 buffers, none needing over 65,536 bytes)": the documented lengths. 13 slots of 3,362 bytes
+-- for the names A to M, 13 for N to Z, 3 for the book so far and a rule's two machines, 19 for the stack; the rows of 512 sets, their table and two operands,
+-- classes, of which the last two are 16-bit numbers; two codes for each byte of a text, and 64.
+abbrev pub documented : List ℕ
+documented = 43706 ∷ 43706 ∷ 10086 ∷ 63878 ∷ 62464 ∷ 14336 ∷ 6720 ∷ 32832 ∷ []
+
+-- the lengths of the lent buffers, in this order
+abbrev pub lentLengths : List ℕ → List ℕ → List ℕ → List ℕ → List ℕ → List ℕ → List ℕ → List ℕ → List ℕ
+lentLengths low high registers stack rows table work code =
+    length low ∷ length high ∷ length registers ∷ length stack ∷ length rows ∷ length table ∷ length work ∷ length code ∷ []
+
+-- "A book's refusal returns the number, its line, length 0, peak 0"; "Success returns the card's length and the peak".
+abbrev pub reading : Compiled → Answer
+reading (Card length peak) = record { number = 0; line = 0; length = length; peak = peak }
+reading (Refused number line) = record { number = number; line = line; length = 0; peak = 0 }
+
+-- The answer, and the card buffer behind it, are those of an outcome.
+pub record Answers (o : Outcome) (old new : List ℕ) (r : Compiled) : Type 0 where
+  pub answer : reading r ≡ answer o
+  pub buffer : new ≡ bufferAfter o old
+
+-- ---- the card
+
+-- The slot holds the book's machine: smallest, and without an accepted word that has a mark.
+pub record Writable (ls slot : List ℕ) : Type 0 where
+  pub machine : Machine
+  pub held : InSlot (length ls) slot machine
+  pub few : length ls ≤ 26
+  pub canonical : Canonical (suc (length ls)) machine
+  pub unmarked : Unmarked (length ls) machine
+
+-- the card with the peak, or 11
+abbrev pub cardOrStop : List ℕ → Machine → ℕ → ℕ → Outcome
+cardOrStop ls M peak room = choose (ltb room (length (cardOf narrow ls M))) (λ _. stop 11 0) (λ _. card (cardOf narrow ls M) peak)
+
+pub record PutsCard (ls slot : List ℕ) (peak : ℕ) (old new : List ℕ) (r : Compiled) : Type 0 where
+  pub says : (M : Machine) → InSlot (length ls) slot M → Answers (cardOrStop ls M peak (length old)) old new r
+
+-- ---- the text
+
+-- Line 1 was read, and the other lines start at a place.
+pub record Headed (text ls : List ℕ) (next : ℕ) : Type 0 where
+  pub is : compileBook narrow text ≡ compileLines narrow ls (linesOf (drop next text)) 2 (startDraft (length ls))
+  pub letters : (1 ≤ length ls) × (length ls ≤ 26)
+  pub at : next ≤ suc (length text)
+  pub short : length text ≤ 16384
+
+-- The lent buffers have their documented lengths.
+pub record Lent (low high registers stack rows table work code : List ℕ) : Type 0 where
+  pub room : Room low high registers stack rows table work
+  pub long : 32832 ≤ length code
