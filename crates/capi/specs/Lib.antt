@@ -1,2 +1,3 @@
 -- What the entries for Rust and C leave in their lent slice.
 pub mod Numbers
+pub mod Compiled

@@ -1,12 +1,14 @@
-// The entries for Rust and C, on numbers and slices: each puts the paper's numbers of its answer into a lent slice of three, or leaves a shorter
-// slice alone. They ask nothing of the caller.
+// The entries for Rust and C, on numbers and slices: each puts the paper's numbers of its answer into a lent slice, or leaves a shorter slice alone. They ask nothing of the caller.
 ghost use mathlib.Core.Path.{_≡_};
 ghost use mathlib.Core.List.{_∷_, []};
 ghost use Rattle.automata.specs.Format.{narrow};
 ghost use Rattle.card.specs.Answer.{load, loadNumbers, stepNumbers, replyNumbers};
 ghost use Rattle.card.specs.Judge.{judge};
 ghost use Rattle.card.specs.Step.{stepOn};
-ghost use Rattle.capi.specs.Numbers.{stored, numbers};
+ghost use lib.ListN.{length};
+ghost use Rattle.compiler.specs.Outcome.{outcome};
+ghost use Rattle.driver.specs.Entry.{documented, lentLengths};
+ghost use Rattle.capi.specs.Numbers.{stored, numbers, Compiles};
 
 // Three numbers into the slice.
 fn put(out: &mut [u64], number: u64, first: u64, second: u64)
@@ -54,5 +56,53 @@ pub extern "C" fn pier_judge(card: &[u8], plan: &[u8], out: &mut [u64])
             run::Verdict::Unfinished => put(out, 0, 0, 0),
             run::Verdict::Hopeless(k) => put(out, 0, 2, k as u64),
         },
+    }
+}
+
+// Four numbers into the slice.
+fn put_four(out: &mut [u64], number: u64, line: u64, length: u64, peak: u64)
+    ensures { λ _. ⌜ now (out .exit) ≡ stored (number ∷ line ∷ length ∷ peak ∷ []) (now (out .entry)) ⌝ }
+{
+    if out.len() < 4 {
+        return;
+    }
+    out[0] = number;
+    out[1] = line;
+    out[2] = length;
+    out[3] = peak;
+}
+
+// Compiling: 0, 0, the card's length, the peak; or the number of a refusal and its line, with length 0 and peak 0. The card stands in front of the card
+// buffer, or the buffer is left alone; the other buffers are free.
+#[no_mangle]
+pub extern "C" fn pier_compile(
+    text: &[u8],
+    card: &mut [u8],
+    low: &mut [u8],
+    high: &mut [u8],
+    registers: &mut [u8],
+    stack: &mut [u8],
+    rows: &mut [u8],
+    table: &mut [u16],
+    work: &mut [u16],
+    code: &mut [u8],
+    out: &mut [u64],
+)
+    ensures { λ _. ⌜ Compiles (outcome narrow documented (now (text .entry)) (lentLengths (now (low .entry)) (now (high .entry)) (now (registers .entry)) (now (stack .entry)) (now (rows .entry)) (now (table .entry)) (now (work .entry)) (now (code .entry))) (length (now (card .entry)))) (now (card .entry)) (now (card .exit)) (now (out .entry)) (now (out .exit)) ⌝ }
+{
+    match driver::compile(
+        text,
+        card,
+        low,
+        high,
+        registers,
+        stack,
+        rows,
+        table,
+        work,
+        code,
+    ) {
+        driver::Compiled::Card(length, peak) => put_four(out, 0, 0, length as u64, peak as u64),
+        driver::Compiled::Refused(number, line) => put_four(out, number as u64, line as u64, 0, 0),
     }
 }
