@@ -72,17 +72,17 @@ mod compile {
     use crate::rng::Rng;
 
     /// The entry types of the work buffers, in the order of the call.
-    type B0 = u16;
-    type B1 = u16;
-    type B2 = u16;
-    type B3 = u16;
+    type B0 = u8;
+    type B1 = u8;
+    type B2 = u8;
+    type B3 = u8;
     type B4 = u8;
-    type B5 = u8;
-    type B6 = u8;
+    type B5 = u16;
+    type B6 = u16;
     type B7 = u8;
 
     /// Their documented lengths, in entries.
-    const NEEDED: [usize; 8] = [16_384; 8];
+    const NEEDED: [usize; 8] = [43_706, 43_706, 10_086, 63_878, 62_464, 14_336, 6_720, 32_832];
 
     extern "C" {
         fn pier_compile(
