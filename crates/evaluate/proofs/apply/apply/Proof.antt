@@ -6,10 +6,10 @@ use Rattle.evaluate.proofs.apply.apply.Statement.{statement}
 use Rattle.evaluate.proofs.apply.apply.Tie as tie
 
 mul-stage : tie.Need-mul-stage
-mul-stage c = omega (arith, slot-room (c .before .before .before .before .before .pre .lent) _ (c .before .before .before .before .before .pre .low))
+mul-stage c = omega (arith, slot-room (c .before .before .before .before .before .pre .lent) _ (c .before .before .before .before .before .pre .low), slot-room (c .before .before .before .before .before .pre .lent) _ (c .before .before .before .before .before .pre .high))
 
 mul-stage-2 : tie.Need-mul-stage-2
-mul-stage-2 c = omega (arith, slot-room (c .before .before .before .before .before .pre .lent) _ (c .before .before .before .before .before .pre .high))
+mul-stage-2 c = omega (arith, slot-room (c .before .before .before .before .before .pre .lent) _ (c .before .before .before .before .before .pre .low), slot-room (c .before .before .before .before .before .pre .lent) _ (c .before .before .before .before .before .pre .high))
 
 stage-requires : tie.Need-stage-requires
 stage-requires c κs = apply-ready _ refl (c .before .before .before .before .before .before .before .before .before .pre)
