@@ -2,7 +2,7 @@
 use mathlib.Core.Path.{_≡_, refl, sym, ap, ap₂, _∙_, subst}
 use mathlib.Core.Logic.{inl, inr}
 use mathlib.Core.List.{List, [], _∷_, _++_}
-use Prim.Native.Nat.{ℕ, zero, suc, max, _+_, _*_, _-_, _≤_, _<_}
+use Prim.Native.Nat.{ℕ, suc, max, _+_, _*_, _≤_, _<_}
 use native.Mathlib.Nat.{mul-le-mul-right, suc-mul}
 use native.Mathlib.Numerals.{add-one}
 use native.Mathlib.Omega.{arith}
@@ -12,14 +12,14 @@ use Rattle.automata.specs.Machine.{Machine}
 use Rattle.automata.specs.Stage.{Made, made, refused, after, thenMade}
 use Rattle.automata.specs.Stages.{starStage, concatStage}
 use Rattle.explore.specs.Rows.{operationOf}
-use Rattle.stages.specs.Slot.{Slot, slotMachine, Holds, Written}
+use Rattle.stages.specs.Slot.{Slot, Holds, Written}
 use Rattle.stages.specs.Keep.{Aside}
 use Rattle.stages.specs.Operate.{operate}
 use Rattle.stages.specs.Stage.{Ready, StageDone, answerOf, InSlot}
 use Rattle.stages.specs.declared.stage.Limits.{Limits}
 use Rattle.stages.specs.declared.stage.Staged.{Staged}
 use Rattle.stages.specs.declared.stage.Staged.the-variants.{TooManySets, TooManyStates}
-use Rattle.evaluate.specs.Stack.{needs, slotAt, Slots, machines, Below, slot-same, slot-below}
+use Rattle.evaluate.specs.Stack.{needs, slotAt, Below, slot-same, slot-below}
 use Rattle.evaluate.specs.Operand.{operandIn, OperandReady, Shelves, Bringing, Brought, copied, written-aside}
 use Rattle.evaluate.specs.declared.Layout.{Layout}
 use Rattle.evaluate.specs.declared.code.Source.{Source}

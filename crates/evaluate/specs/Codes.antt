@@ -1,5 +1,5 @@
 -- What each code asks for: the machine that an operand is, and the step of a code by its sort.
-use mathlib.Core.Path.{_≡_, refl, sym, ap, _∙_, subst}
+use mathlib.Core.Path.{_≡_, refl, sym, subst}
 use mathlib.Core.Bool.{Bool, true, false, _&&_}
 use mathlib.Core.Logic.{_≢_, _⊎_, inl, inr}
 use mathlib.Core.List.{List, [], _∷_}
@@ -10,9 +10,8 @@ use lib.Dec.{eqb, leb}
 use lib.ListN.{length}
 use Rattle.automata.specs.Format.{Format}
 use Rattle.automata.specs.Booleans.{choose}
-use Rattle.automata.specs.Basics.{SameCases, same-cases, nat-test}
 use Rattle.automata.specs.Machine.{Machine}
-use Rattle.automata.specs.Stage.{Made, thenMade}
+use Rattle.automata.specs.Stage.{thenMade}
 use Rattle.automata.specs.Given.{letterMachine, dotMachine, emptyMachine, allMachine, markMachine}
 use Rattle.automata.specs.Stages.{starStage, concatStage}
 use Rattle.language.specs.Environment.{lookup}
@@ -21,7 +20,7 @@ use Rattle.book.specs.Kind.{kindOf, signKind, signs, isLetter, isName}
 use Rattle.book.specs.StackLaws.{heightAfter, heightWhile, besides}
 use Rattle.explore.specs.Rows.{operationOf}
 use Rattle.stages.specs.Operate.{operate}
-use Rattle.evaluate.specs.Execute.{Store, Ran, ran, failed, stuck, pushMade, withOne, withTwo, step}
+use Rattle.evaluate.specs.Execute.{Store, Ran, ran, stuck, pushMade, withOne, withTwo, step}
 use Rattle.evaluate.specs.declared.code.Source.{Source}
 use Rattle.evaluate.specs.declared.code.Source.the-variants.{Letter, Name, Given, Register}
 use Rattle.evaluate.specs.declared.code.Sort.{Sort}
@@ -138,6 +137,10 @@ leafless c h g = record {
   name = rw (outside 97 122 c h, outside 65 90 c g) (sign-not c signs 3 2 (omega arith) (omega arith));
 }
 
+no-less : (n : ℕ) (t : Bool) → n ≤ choose t (λ _. suc n) (λ _. n)
+no-less n true = omega arith
+no-less n false = omega arith
+
 letter-kind : (c : ℕ) → 97 ≤ c → c ≤ 122 → kindOf c ≡ 1
 letter-kind c h g = rw (inside 97 122 c h g)
 
@@ -148,21 +151,13 @@ pub letter-sorted : (c : ℕ) → 97 ≤ c → c ≤ 122 → Sorted c (Push (Let
 unfolding step
 letter-sorted c h g =
     let z : kindOf c ≡ 1 = letter-kind c h g in
-    record { steps = λ fmt ls env kept s. rw z; behind = λ n. rw z; meanwhile = λ n. at n (besides c); operand = tt }
-  where
-    at : (n : ℕ) (t : Bool) → n ≤ choose t (λ _. suc n) (λ _. n)
-    at n true = omega arith
-    at n false = omega arith
+    record { steps = λ fmt ls env kept s. rw z; behind = λ n. rw z; meanwhile = λ n. no-less n (besides c); operand = tt }
 
 pub name-sorted : (c : ℕ) → 65 ≤ c → c ≤ 90 → Sorted c (Push (Name c))
 unfolding step
 name-sorted c h g =
     let z : kindOf c ≡ 2 = name-kind c h g in
-    record { steps = λ fmt ls env kept s. rw z; behind = λ n. rw z; meanwhile = λ n. at n (besides c); operand = (refl, rw z, h, g) }
-  where
-    at : (n : ℕ) (t : Bool) → n ≤ choose t (λ _. suc n) (λ _. n)
-    at n true = omega arith
-    at n false = omega arith
+    record { steps = λ fmt ls env kept s. rw z; behind = λ n. rw z; meanwhile = λ n. no-less n (besides c); operand = (refl, rw z, h, g) }
 
 -- ---- signs
 
@@ -257,10 +252,6 @@ unfolding step
 unknown-sorted c l h46 h64 h124 h38 h45 h59 h42 h43 h63 h33 h1 h2 h3 h4 h5 h6 h7 h8 = record {
   steps = λ fmt ls env kept s. rw (l .letter, l .name, ne-eqb c 46 h46, ne-eqb c 64 h64, ne-eqb c 124 h124, ne-eqb c 38 h38, ne-eqb c 45 h45, ne-eqb c 59 h59, ne-eqb c 42 h42, ne-eqb c 43 h43, ne-eqb c 63 h63, ne-eqb c 33 h33, ne-eqb c 1 h1, ne-eqb c 2 h2, ne-eqb c 3 h3, ne-eqb c 4 h4, ne-eqb c 5 h5, ne-eqb c 6 h6, ne-eqb c 7 h7, ne-eqb c 8 h8);
   behind = λ n. tt;
-  meanwhile = λ n. at n (besides c);
+  meanwhile = λ n. no-less n (besides c);
   operand = tt;
 }
-  where
-    at : (n : ℕ) (t : Bool) → n ≤ choose t (λ _. suc n) (λ _. n)
-    at n true = omega arith
-    at n false = omega arith

@@ -1,7 +1,7 @@
 -- A line's program over the lent buffers makes what the line's stages make: the machine is left in front of the stack.
-use mathlib.Core.Path.{_≡_, refl, sym, ap, ap₂, _∙_, subst}
+use mathlib.Core.Path.{_≡_, refl, ap, _∙_, subst}
 use mathlib.Core.List.{List, [], _∷_, _++_, append-nil, append-assoc}
-use Prim.Native.Nat.{ℕ, zero, suc, _+_, _*_, _-_, _≤_, _<_}
+use Prim.Native.Nat.{ℕ, suc, _*_, _-_}
 use native.Mathlib.Omega.{arith}
 use mathlib.Core.Bool.{true}
 use lib.Dec.{eqb}
@@ -16,12 +16,11 @@ use Rattle.language.specs.Expression.{Expr, letter, name, dot, empty, pair, joi
 use Rattle.language.specs.Evaluate.{evaluate, evaluateRule}
 use Rattle.book.specs.Kind.{kindOf}
 use Rattle.book.specs.Text.{Form, define, rule, malformed}
-use Rattle.book.specs.Program.{pairCode, joinCode, postfix, program, patternProgram, contextProgram, contextsProgram, finishProgram}
-use Rattle.book.specs.StackLaws.{heightAfter, Leaves, Held, AllHeld, FormHeld}
+use Rattle.book.specs.Program.{pairCode, postfix, program, patternProgram, contextsProgram}
+use Rattle.book.specs.StackLaws.{heightAfter, Leaves, AllHeld, FormHeld}
 use Rattle.stages.specs.Slot.{Slot, slotMachine}
-use Rattle.evaluate.specs.Execute.{Store, Ran, ran, failed, stuck, execute}
+use Rattle.evaluate.specs.Execute.{Store, Ran, ran, execute}
 use Rattle.evaluate.specs.ExecuteLaws.{AllLeaves, topOf, rule-leaves, define-leaves}
-use Rattle.evaluate.specs.Stack.{slotAt, Slots}
 use Rattle.evaluate.specs.Apply.{formatOf, greatest}
 use Rattle.evaluate.specs.Steps.{storeOf, bookIn, Gives, Stands, Shelved}
 use Rattle.evaluate.specs.Run.{heightOf, AllStood, Runs}

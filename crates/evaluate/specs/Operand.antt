@@ -1,11 +1,11 @@
 -- What bringing an operand into a slot asks, and what the slot then holds.
 use mathlib.Core.Path.{_≡_, refl, sym, ap, _∙_, subst}
-use mathlib.Core.Bool.{Bool, true, false, cond}
-use mathlib.Core.Logic.{inl, inr, _≢_}
-use mathlib.Core.List.{List, [], _∷_, _++_}
+use mathlib.Core.Bool.{cond}
+use mathlib.Core.Logic.{_≢_}
+use mathlib.Core.List.{List, _++_}
 use Prim.Native.Nat.{ℕ, zero, suc, _+_, _*_, _-_, _≤_, _<_}
 use native.Mathlib.Omega.{arith}
-use lib.Dec.{eqb, leb}
+use lib.Dec.{leb}
 use lib.ListN.{length, getD, take, drop, length-drop}
 use lib.Seq.{drop-cons, drop-length, length-take-le}
 use native.Mathlib.Nat.{mul-le-mul-right, suc-mul}
@@ -18,8 +18,8 @@ use Rattle.automata.specs.Given.{letterMachine, emptyMachine, allMachine, dotMa
 use Rattle.language.specs.Evaluate.{column}
 use Rattle.stages.specs.Slot.{Slot, slotMachine, Holds, Written}
 use Rattle.stages.specs.Keep.{Aside, part-at}
-use Rattle.evaluate.specs.Stack.{needs, slotAt, Slots, Below, slot-same}
-use Rattle.evaluate.specs.Codes.{givenOf, SourceIn}
+use Rattle.evaluate.specs.Stack.{needs, slotAt, slot-same}
+use Rattle.evaluate.specs.Codes.{givenOf}
 use Rattle.evaluate.specs.declared.Layout.{Layout}
 use Rattle.evaluate.specs.declared.code.Source.{Source}
 use Rattle.evaluate.specs.declared.code.Source.the-variants.{Letter, Name, Given, Register}

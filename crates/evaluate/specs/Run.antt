@@ -2,7 +2,7 @@
 use mathlib.Core.Path.{_≡_, refl, sym, ap, ap₂, _∙_, subst}
 use mathlib.Core.Bool.{Bool, true, false}
 use mathlib.Core.List.{List, [], _∷_, _++_, append-nil}
-use Prim.Native.Nat.{ℕ, zero, suc, max, _+_, _*_, _-_, _≤_, _<_}
+use Prim.Native.Nat.{ℕ, suc, max, _+_, _≤_, _<_}
 use native.Mathlib.Numerals.{add-one}
 use native.Mathlib.Omega.{arith}
 use lib.ListN.{length, getD, take, drop}

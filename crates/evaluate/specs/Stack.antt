@@ -3,9 +3,8 @@
 use mathlib.Core.Path.{_≡_, refl, sym, ap, ap₂, _∙_}
 use mathlib.Core.Logic.{inl, inr}
 use mathlib.Core.List.{List, [], _∷_}
-use Prim.Native.Nat.{ℕ, zero, suc, _+_, _*_, _-_, _≤_, _<_}
+use Prim.Native.Nat.{ℕ, zero, suc, _+_, _*_, _≤_, _<_}
 use native.Mathlib.Nat.{mul-le-mul-right, suc-mul}
-use native.Mathlib.Numerals.{add-one}
 use native.Mathlib.Omega.{arith}
 use lib.ListN.{length, getD, drop, length-drop}
 use lib.Seq.{getD-drop}
@@ -13,7 +12,7 @@ use Rattle.automata.specs.Basics.{LtCases, lt-cases}
 use Rattle.automata.specs.Machine.{Machine}
 use Rattle.automata.specs.Table.{ClosedTable, tableMachine}
 use Rattle.explore.specs.Rows.{numberAt}
-use Rattle.stages.specs.Slot.{Slot, slotMachine, Holds, Written, table-same}
+use Rattle.stages.specs.Slot.{Slot, slotMachine, Holds, table-same}
 
 -- the bytes that a slot needs for any machine that is kept
 abbrev pub needs : ℕ → ℕ → ℕ

@@ -1,9 +1,9 @@
 -- One code over the lent buffers: its step on the machines that the slots hold.
 use mathlib.Core.Path.{_≡_, refl, sym, ap, ap₂, _∙_, subst}
 use mathlib.Core.Bool.{Bool, true, false}
-use mathlib.Core.Logic.{_⊎_, inl, inr, _≢_}
+use mathlib.Core.Logic.{_⊎_, inl, inr}
 use mathlib.Core.List.{List, [], _∷_}
-use Prim.Native.Nat.{ℕ, zero, suc, max, _+_, _*_, _-_, _≤_, _<_}
+use Prim.Native.Nat.{ℕ, zero, suc, _+_, _*_, _-_, _≤_, _<_}
 use native.Mathlib.Nat.{mul-le-mul-right, suc-mul}
 use native.Mathlib.Numerals.{add-one}
 use native.Mathlib.Omega.{arith}
@@ -11,7 +11,7 @@ use lib.ListN.{length, getD, drop}
 use Rattle.automata.specs.Booleans.{choose}
 use Rattle.automata.specs.Basics.{LtCases, lt-cases}
 use Rattle.automata.specs.Machine.{Machine}
-use Rattle.automata.specs.Stage.{Made, made, refused, thenMade}
+use Rattle.automata.specs.Stage.{Made, thenMade}
 use Rattle.automata.specs.Stages.{starStage, concatStage}
 use Rattle.automata.specs.Given.{emptyMachine}
 use Rattle.language.specs.Environment.{lookup}
@@ -22,10 +22,10 @@ use Rattle.stages.specs.Slot.{Slot, slotMachine, Holds, Written}
 use Rattle.stages.specs.Keep.{Aside}
 use Rattle.stages.specs.Operate.{operate}
 use Rattle.evaluate.specs.Execute.{Store, Ran, ran, failed, stuck, pushMade, withOne, withTwo, step}
-use Rattle.evaluate.specs.Stack.{needs, slotAt, Slots, machines, Below, slot-same, slot-below, slots-below, slots-less, slots-more, machines-below}
+use Rattle.evaluate.specs.Stack.{needs, slotAt, Slots, machines, slot-same, slots-below, slots-less, slots-more, machines-below}
 use Rattle.evaluate.specs.Codes.{operandOf, stored, stepAs, SourceIn, Sorted}
 use Rattle.evaluate.specs.Operand.{nameSlot, operandIn, OperandReady, Shelves, Bringing, Brought, copied, written-aside}
-use Rattle.evaluate.specs.Apply.{formatOf, greatest, tallest, Lent, slot-room, Applying, MadeBy, Makes, Doubling, Besides, aside-below}
+use Rattle.evaluate.specs.Apply.{formatOf, greatest, tallest, Lent, slot-room, Applying, Makes, Doubling, Besides, aside-below}
 use Rattle.evaluate.specs.declared.Layout.{Layout}
 use Rattle.evaluate.specs.declared.code.Source.{Source}
 use Rattle.evaluate.specs.declared.code.Source.the-variants.{Letter, Name, Given, Register}

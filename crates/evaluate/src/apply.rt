@@ -53,6 +53,7 @@ pub fn apply(
         sets: l.sets,
         states: l.states,
     };
+    // for the classes of at most 512 sets
     let mut classes = [0u16; 1536];
     match stage::stage(
         op,
