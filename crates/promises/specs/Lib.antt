@@ -1,4 +1,5 @@
 -- The customer's demands, joined from the laws of the other crates; and the starred cases of 01.
 pub mod Accepted
 pub mod Demands
+pub mod Today
 pub mod Cases
