@@ -1,3 +1,3 @@
 -- What the judging program's contracts cite.
-pub mod Plan
 pub mod Text
+pub mod Plan
