@@ -50,6 +50,17 @@ module _ (m : ℕ) (ms bs : List ℕ) (t : Table 120 m ms bs) where
   columns-of n c e h = rw e (record { some = t .some; most = t .states-most; column = h; long = t .long; inside = t .inside })
 
   module _ (cs : List ℕ) (k before c : ℕ) (u : ClassesUpto m ms bs cs k before c) where
+    refined-keeps : (ns : List ℕ) (r : ℕ) → Refined m bs (length ms) c cs ns r → (p : ℕ) → p < length ms → getD cs p 0 ≡ p → getD ns p 0 ≡ p
+    refined-keeps ns r s p a x =
+        let q : ℕ = getD ns p 0 in
+        let l : q ≤ p = s .named .low p a in
+        let y : getD cs q 0 ≡ getD cs p 0 = s .parts q p (omega arith) a (s .named .own p a) .0 in
+        omega (arith, u .named .low q (omega arith))
+
+    -- there are no fewer classes
+    pub refined-grows : (n : ℕ) (ns : List ℕ) (r : ℕ) → n ≡ length ms → Refined m bs n c cs ns r → k ≤ r
+    refined-grows n ns r e s₀ = let s : Refined m bs (length ms) c cs ns r = rw e at s₀ in omega (arith, u .count, s .count, owned-mono cs ns (length ms) (refined-keeps ns r s))
+
     -- one column more
     pub classes-next : (n : ℕ) (ns : List ℕ) (r : ℕ) → n ≡ length ms → c < m → Refined m bs n c cs ns r → ClassesUpto m ms bs ns r before (c + 1)
     classes-next n ns r e h s₀ = record {
@@ -68,14 +79,10 @@ module _ (m : ℕ) (ms bs : List ℕ) (t : Table 120 m ms bs) where
         s = rw e at s₀
 
         keeps : (p : ℕ) → p < length ms → getD cs p 0 ≡ p → getD ns p 0 ≡ p
-        keeps p a x =
-            let q : ℕ = getD ns p 0 in
-            let l : q ≤ p = s .named .low p a in
-            let y : getD cs q 0 ≡ getD cs p 0 = s .parts q p (omega arith) a (s .named .own p a) .0 in
-            omega (arith, u .named .low q (omega arith))
+        keeps = refined-keeps ns r s
 
         grows : k ≤ r
-        grows = omega (arith, u .count, s .count, owned-mono cs ns (length ms) keeps)
+        grows = refined-grows n ns r e s₀
 
         -- where there are no more classes, they are the same
         same : r ≡ before → (p : ℕ) → p < length ms → getD ns p 0 ≡ getD cs p 0
@@ -91,6 +98,15 @@ module _ (m : ℕ) (ms bs : List ℕ) (t : Table 120 m ms bs) where
             ∙ u .quiet (omega (arith, u .more, grows)) p q i a b (z .0) (sym (same x p a) ∙ y ∙ same x q b) ∙ sym (same x (getD bs (q * m + i) 0) (inside q i b (omega arith)))
         still x p q i a b v y (inr z) = let j : i ≡ c = omega arith in
             rw j (same x (getD bs (p * m + c) 0) (inside p c a h) ∙ s .parts p q a b y .1 ∙ sym (same x (getD bs (q * m + c) 0) (inside q c b h)))
+
+    -- the column splits no class,
+    pub classes-on : (n : ℕ) (ns : List ℕ) (r : ℕ) → n ≡ length ms → c < m → Refined m bs n c cs ns r → r ≡ k → ClassesUpto m ms bs ns k before (c + 1)
+    classes-on n ns r e h s x = rw (← x) (classes-next n ns r e h s)
+
+    -- or it does, and the same column comes again.
+    pub classes-stay : (n : ℕ) (ns : List ℕ) (r : ℕ) → n ≡ length ms → c < m → Refined m bs n c cs ns r → ClassesUpto m ms bs ns r before c
+    classes-stay n ns r e h s = let u′ = classes-next n ns r e h s in
+        record { long = u′ .long; named = u′ .named; count = u′ .count; more = u′ .more; accept = u′ .accept; coarse = u′ .coarse; quiet = λ x p q i a b v. u′ .quiet x p q i a b (omega arith) }
 
     -- a new pass
     pub classes-again : ClassesUpto m ms bs cs k k 0

@@ -99,7 +99,8 @@ fn refine(moves: &[u8], m: usize, n: usize, c: usize, classes: &mut [u8; 120]) -
     count
 }
 
-// First the classes by acceptance, then column by column, until each state is alone in its class, or a pass over all columns splits none.
+// First the classes by acceptance, then column by column, each as long as it splits one, until each state is alone in its class, or a pass over all
+// columns splits none.
 pub fn reduced(marks: &[u8], moves: &[u8], m: usize) -> bool
     requires { ⌜ Table 120 m (now marks) (now moves) × (m ≤ 26) ⌝ }
     ensures { λ r. ⌜ ReducedExactly m (now (marks .entry)) (now (moves .entry)) r ⌝ }
@@ -113,8 +114,12 @@ pub fn reduced(marks: &[u8], moves: &[u8], m: usize) -> bool
     let mut c = 0;
     while count < n {
         if c < m {
-            count = refine(moves, m, n, c, &mut classes);
-            c += 1;
+            let next = refine(moves, m, n, c, &mut classes);
+            if next == count {
+                c += 1;
+            } else {
+                count = next;
+            }
         } else {
             if count == before {
                 return false;

@@ -1,2 +1,3 @@
 -- What the judging program's contracts cite.
+pub mod Text
 pub mod Plan

@@ -2,7 +2,7 @@
 ghost use mathlib.Core.Path.{_≡_};
 ghost use Prim.Native.Nat.{_≤_, _<_};
 ghost use lib.ListN.{length};
-ghost use Rattle.judge.specs.Plan.{Tests};
+ghost use Rattle.judge.specs.Plan.{Tests, Ends};
 use crate::plan;
 use crate::plan::Judging;
 use crate::text;
@@ -33,7 +33,7 @@ fn line_end(bytes: &[u8], from: usize) -> usize
 // The answer to the plan, as a line; what waits is written first where there is no place.
 fn end_plan(card: &[u8], judging: Judging, out: &mut [u8], at: usize) -> usize
     requires { ⌜ Tests (now card) judging × (at ≤ length (now out)) × (64 ≤ length (now out)) ⌝ }
-    ensures { λ r. ⌜ r ≤ length (now (out .exit)) ⌝ }
+    ensures { λ r. ⌜ Ends (now (card .entry)) judging (now (out .entry)) at (now (out .exit)) r ⌝ }
 {
     let answer = plan::answer(card, judging);
     let room = out.len() - at;

@@ -1,12 +1,12 @@
 // An answer as a line of text.
 ghost use Prim.Native.Nat.{_+_, _≤_};
 ghost use lib.ListN.{length};
-ghost use mathlib.Core.Path.{_≡_};
+ghost use Rattle.judge.specs.Text.{Put, PutNumber, Line};
 
 // Copies a text into `out` from the place `at` on. The next place.
 fn put(out: &mut [u8], at: usize, text: &[u8]) -> usize
     requires { ⌜ at + length (now text) ≤ length (now out) ⌝ }
-    ensures { λ r. ⌜ r ≡ at + length (now (text .entry)) ⌝ }
+    ensures { λ r. ⌜ Put (now (out .entry)) at (now (text .entry)) (now (out .exit)) r ⌝ }
 {
     let mut i = 0;
     while i < text.len() {
@@ -19,7 +19,7 @@ fn put(out: &mut [u8], at: usize, text: &[u8]) -> usize
 // A number in decimal digits.
 fn put_number(out: &mut [u8], at: usize, number: usize) -> usize
     requires { ⌜ at + 20 ≤ length (now out) ⌝ }
-    ensures { λ r. ⌜ r ≤ at + 20 ⌝ }
+    ensures { λ r. ⌜ PutNumber (now (out .entry)) at number (now (out .exit)) r ⌝ }
 {
     let mut digits = [0u8; 20];
     let k = io::decimal(number as u64, &mut digits);
@@ -29,7 +29,7 @@ fn put_number(out: &mut [u8], at: usize, number: usize) -> usize
 // The line of an answer, its end included.
 pub fn line(out: &mut [u8], at: usize, answer: run::Answer) -> usize
     requires { ⌜ at + 32 ≤ length (now out) ⌝ }
-    ensures { λ r. ⌜ r ≤ at + 32 ⌝ }
+    ensures { λ r. ⌜ Line (now (out .entry)) at answer (now (out .exit)) r ⌝ }
 {
     match answer {
         run::Answer::Judged(v) => match v {

@@ -55,7 +55,7 @@ loop-less : tie.Need-loop-less Inv-loop μ-loop
 loop-less c = omega (arith, c .before .before .before .before .before .before .before .before .before .before .line-end .ensures, c .before .before .before .before .before .if2 .left)
 
 loop-again : tie.Need-loop-again Inv-loop μ-loop
-loop-again c = (omega (arith, c .before .before .before .before .before .before .before .before .before .before .line-end .ensures, c .before .before .before .before .before .if2 .left), c .before .before .before .end-plan .kept .1 .1 .0 ∙ c .before .before .before .before .before .before .before .before .before .before .before .before .loop .inv .1, omega (arith, c .before .before .before .end-plan .ensures, c .before .before .before .end-plan .kept .1 .1 .0, c .before .before .before .before .before .before .before .before .before .before .before .before .loop .inv .1), c .next .ensures .tests)
+loop-again c = (omega (arith, c .before .before .before .before .before .before .before .before .before .before .line-end .ensures, c .before .before .before .before .before .if2 .left), c .before .before .before .end-plan .kept .1 .1 .0 ∙ c .before .before .before .before .before .before .before .before .before .before .before .before .loop .inv .1, omega (arith, c .before .before .before .end-plan .ensures .most, c .before .before .before .end-plan .kept .1 .1 .0, c .before .before .before .before .before .before .before .before .before .before .before .before .loop .inv .1), c .next .ensures .tests)
 
 same-length-3 : tie.Need-same-length-3 Inv-loop μ-loop
 same-length-3 c = c .before .loop .inv .1

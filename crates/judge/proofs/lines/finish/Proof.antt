@@ -6,7 +6,7 @@ use Rattle.judge.proofs.lines.finish.Statement.{statement}
 use Rattle.judge.proofs.lines.finish.Tie as tie
 
 slice-aggregate-write-all : tie.Need-slice-aggregate-write-all
-slice-aggregate-write-all c = sym (length-take-le _ _ (c .before .before .before .end-plan .ensures))
+slice-aggregate-write-all c = sym (length-take-le _ _ (c .before .before .before .end-plan .ensures .most))
 
 slice-aggregate-write-all-2 : tie.Need-slice-aggregate-write-all-2
 slice-aggregate-write-all-2 c = sym (length-take-le (c .before .before .before .before .before .args .state .at) (c .before .before .before .before .before .args .out .now) (c .before .before .before .before .before .pre .1))

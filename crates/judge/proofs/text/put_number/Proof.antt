@@ -9,7 +9,13 @@ put-requires : tie.Need-put-requires
 put-requires c κs = omega (arith, c .before .before .decimal .ensures .0 .1, digits-few (c .before .before .before .before .before .args .number) (c .before .before .decimal .result) (c .before .before .before .before .before .fits .number .fits) (c .before .before .decimal .ensures .1 .0))
 
 returns : tie.Need-returns
-returns c = omega (arith, c .before .before .put .ensures, c .before .before .before .before .before .decimal .ensures .0 .1, digits-few (c .before .before .before .before .before .before .before .before .args .number) (c .before .before .before .before .before .decimal .result) (c .before .before .before .before .before .before .before .before .fits .number .fits) (c .before .before .before .before .before .decimal .ensures .1 .0))
+returns c =
+    record {
+      most = omega (arith, c .before .before .put .ensures .place, c .before .before .before .before .before .decimal .ensures .0 .1, digits-few (c .before .before .before .before .before .before .before .before .args .number) (c .before .before .before .before .before .decimal .result) (c .before .before .before .before .before .before .before .before .fits .number .fits) (c .before .before .before .before .before .decimal .ensures .1 .0));
+      text = _;
+      decimal = record { count = c .before .before .before .before .before .decimal .result; fewest = c .before .before .before .before .before .decimal .ensures .1 .0; is = c .before .before .before .before .before .decimal .ensures .1 .1 };
+      put = c .before .before .put .ensures;
+    }
 
 pub put-number-spec : {M : Type 1} → statement M
 put-number-spec =
