@@ -13,8 +13,7 @@ use Rattle.automata.specs.Format.{narrow}
 use Rattle.automata.specs.Booleans.{choose, and-left, and-right}
 use borrow.Author.Tests.{le-leb, lt-leb, leb-true}
 use Rattle.automata.specs.Basics.{LtCases, lt-cases, lt-ltb, ltb-false}
-use Rattle.automata.specs.Machine.{Machine, Canonical}
-use Rattle.automata.specs.Restrict.{Unmarked}
+use Rattle.automata.specs.Machine.{Machine}
 use Rattle.explore.specs.Rows.{numberAt}
 use Rattle.card.specs.Same.{cardOf}
 use Rattle.language.specs.ExpressionLaws.{Right}
@@ -23,9 +22,9 @@ use Rattle.book.specs.Line as L
 use Rattle.book.specs.Line.{HeadRead, letters, readHead}
 use Rattle.book.specs.HeadLaws.{Letters, head-elim, head-letters}
 use Rattle.compiler.specs.Allows.{allows}
-use Rattle.compiler.specs.Book.{Draft, BookResult, done, stopped, compileLines, startDraft, afterHead, compileHead, compileText, compileBook}
+use Rattle.compiler.specs.Book.{BookResult, done, stopped, compileLines, startDraft, afterHead, compileHead, compileText, compileBook}
 use Rattle.compiler.specs.BookLaws.{accepted-right}
-use Rattle.compiler.specs.Outcome.{Outcome, card, stop, answer, bufferAfter, most, written, outcome, enough}
+use Rattle.compiler.specs.Outcome.{card, stop, answer, most, written, outcome, enough}
 use Rattle.stages.specs.Slot.{slotMachine, Holds}
 use Rattle.writer.specs.Written.{Kept, keptCard}
 use Rattle.writer.specs.Written as W
@@ -37,8 +36,8 @@ use Rattle.reader.specs.Head.{headOf}
 use Rattle.reader.specs.declared.head.Head.{Head}
 use Rattle.reader.specs.declared.head.Head as head
 use Rattle.driver.specs.Stored.{InSlot, Begins}
-use Rattle.driver.specs.Lines.{Room, Drafted, LinesSay, CompilesLines, Going, Placed}
-use Rattle.driver.specs.Entry.{documented, lentLengths, reading, Answers, Writable, cardOrStop, PutsCard, Headed, Lent}
+use Rattle.driver.specs.Lines.{Drafted, LinesSay, CompilesLines, Going, Placed}
+use Rattle.driver.specs.Entry.{documented, lentLengths, Answers, Writable, cardOrStop, PutsCard, Headed, Lent}
 use Rattle.driver.specs.declared.Compiled.{Compiled}
 use Rattle.driver.specs.declared.Compiled.the-variants.{Card, Refused}
 use Rattle.driver.specs.declared.progress.Book.{Book}

@@ -1,33 +1,31 @@
 -- Lines compiled: from what a line's stages made to the draft behind it.
 use mathlib.Core.Path.{_≡_, refl, sym, ap, _∙_, subst}
 use mathlib.Core.Bool.{Bool, true, false}
-use mathlib.Core.Logic.{_⊎_, inl, inr}
 use mathlib.Core.List.{List, [], _∷_, _++_}
-use Prim.Native.Nat.{ℕ, suc, _+_, _≤_, _<_, max}
+use Prim.Native.Nat.{ℕ, suc, _≤_, max}
 use native.Mathlib.Omega.{arith}
-use lib.ListN.{length, getD, drop}
+use lib.ListN.{length, getD}
 use Rattle.automata.specs.Format.{narrow}
 use Rattle.automata.specs.Basics.{ltb-lt}
-use Rattle.automata.specs.Machine.{Machine}
-use Rattle.automata.specs.Stage.{Made, made, refused}
+use Rattle.automata.specs.Stage.{refused}
 use Rattle.language.specs.Restriction.{restricts}
 use Rattle.language.specs.Expression.{Expr}
 use Rattle.language.specs.Environment.{namesOf}
 use Rattle.book.specs.Text.{Line, Form, define, rule, malformed}
 use Rattle.book.specs.Line.{LineRead, reads, stops, readLine}
-use Rattle.book.specs.LineLaws.{KnownForm, NewName, line-elim}
-use Rattle.compiler.specs.Book.{Draft, LineResult, on, off, onMade, compileForm, afterRead, compileLine}
+use Rattle.book.specs.LineLaws.{KnownForm, line-elim}
+use Rattle.compiler.specs.Book.{Draft, on, off, onMade, compileForm, afterRead, compileLine}
 use Rattle.compiler.specs.Outcome.{most}
 use Rattle.stages.specs.Slot.{Written}
 use Rattle.reader.specs.Names.{Holds}
-use Rattle.reader.specs.Lines.{lineAt, Ends}
+use Rattle.reader.specs.Lines.{lineAt}
 use Rattle.reader.specs.Answers.{Reads, WrittenName, WrittenRule, ReadsNext}
 use Rattle.reader.specs.Answers as answers
 use Rattle.reader.specs.declared.line.LineAnswer as lineAnswer
 use Rattle.reader.specs.declared.line.LineAnswer.{LineAnswer}
 use Rattle.evaluate.specs.Evaluated.{lineMade}
-use Rattle.driver.specs.Stored.{InSlot, Registers, Stored, StoresName}
-use Rattle.driver.specs.Lines.{Defined, Ruled, Room, Program, Runs, StagesSay, MakesStages, Drafted, FormSays, CompilesForm, IsDefine, IsRule, Going, LineSays, CompilesLine}
+use Rattle.driver.specs.Stored.{StoresName}
+use Rattle.driver.specs.Lines.{Defined, Ruled, Program, Runs, StagesSay, MakesStages, Drafted, FormSays, CompilesForm, IsDefine, IsRule, Going, LineSays, CompilesLine}
 use Rattle.driver.specs.declared.progress.Book.{Book}
 use Rattle.driver.specs.declared.line.Stages.{Stages}
 use Rattle.driver.specs.declared.line.Stages.the-variants.{Peak, Stopped}

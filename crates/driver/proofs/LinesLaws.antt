@@ -1,19 +1,18 @@
 -- The lines in their order: each line compiled brings the draft that the definitions have behind it.
 use mathlib.Core.Path.{_≡_, refl, sym, ap, ap₂, _∙_, subst}
 use mathlib.Core.Bool.{Bool, true, false}
-use mathlib.Core.List.{List, [], _∷_}
-use Prim.Native.Nat.{ℕ, suc, _+_, _-_, _≤_, _<_}
+use mathlib.Core.List.{List}
+use Prim.Native.Nat.{ℕ, suc, _≤_, _<_}
 use native.Mathlib.Omega.{arith}
 use lib.ListN.{length, drop, drop-of-length-le}
 use Rattle.automata.specs.Format.{narrow}
 use Rattle.automata.specs.Booleans.{choose}
-use Rattle.book.specs.Text.{Line, linesOf}
-use Rattle.compiler.specs.Book.{Draft, LineResult, on, off, afterLine, compileLine, compileLines, done, stopped, BookResult}
-use Rattle.reader.specs.Lines.{lineAt, Ends}
-use Rattle.driver.specs.Lines.{Room, Drafted, Going, LineSays, CompilesLine, LinesSay, CompilesLines, Placed}
+use Rattle.book.specs.Text.{linesOf}
+use Rattle.compiler.specs.Book.{Draft, LineResult, on, off, afterLine, compileLine, compileLines, done, stopped}
+use Rattle.reader.specs.Lines.{lineAt}
+use Rattle.driver.specs.Lines.{Drafted, Going, LineSays, CompilesLine, CompilesLines, Placed}
 use Rattle.driver.specs.declared.progress.Book.{Book}
 use Rattle.driver.specs.declared.line.Next.{Next}
-use Rattle.driver.specs.declared.lines.Ended.{Ended}
 use Rattle.driver.specs.declared.lines.Ended.the-variants.{Done, Refused}
 
 -- The book b is reached from the first one: what is left of its lines gives what the first one's lines give.

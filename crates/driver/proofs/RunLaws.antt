@@ -1,11 +1,11 @@
 -- A line's program run over the lent buffers: what it asks of them, and that its answer is what the line's stages make.
 use mathlib.Core.Path.{_≡_, refl, sym, ap, _∙_, subst}
-use mathlib.Core.Bool.{Bool, true, false, _&&_, false≢true}
+use mathlib.Core.Bool.{true, false, _&&_, false≢true}
 use mathlib.Core.List.{List, [], _∷_, _++_, append-assoc, append-nil}
-use Prim.Native.Nat.{ℕ, zero, suc, _+_, _*_, _-_, _≤_, _<_, max}
+use Prim.Native.Nat.{ℕ, zero, suc, _≤_, _<_, max}
 use native.Mathlib.Omega.{arith}
 use lib.Dec.{eqb}
-use lib.ListN.{length, getD, take, drop}
+use lib.ListN.{length, getD, take}
 use lib.Seq.{getD-take, length-take-le}
 use Rattle.automata.specs.Format.{narrow}
 use Rattle.automata.specs.Basics.{nat-test}
@@ -22,17 +22,14 @@ use Rattle.book.specs.StackLaws.{Leaves, highest, AllHeld, FormHeld, program-hi
 use Rattle.book.specs.LineLaws.{KnownForm}
 use Rattle.compiler.specs.Outcome.{most}
 use Rattle.stages.specs.Slot.{slotMachine}
-use Rattle.evaluate.specs.Operand.{Shelves}
-use Rattle.evaluate.specs.Apply.{greatest, Lent}
-use Rattle.evaluate.specs.Steps.{Shelved}
+use Rattle.evaluate.specs.Apply.{greatest}
 use Rattle.evaluate.specs.Run.{heightOf, AllStood, Running}
 use Rattle.evaluate.specs.Evaluated.{Answered, Evaluates, Formed, program-height, lineMade, line-answered}
 use Rattle.evaluate.specs.declared.Layout.{Layout}
 use Rattle.evaluate.specs.declared.run.Evaluated.{Evaluated}
 use Rattle.evaluate.specs.declared.run.Evaluated.the-variants as evaluated
-use Rattle.driver.specs.Stored.{InSlot, nameSlot, Registers, Stored}
-use Rattle.driver.specs.Lines.{Room, Program, Runs, StagesSay, MakesStages}
-use Rattle.driver.specs.declared.line.Stages.{Stages}
+use Rattle.driver.specs.Stored.{Stored}
+use Rattle.driver.specs.Lines.{Program, Runs, StagesSay, MakesStages}
 use Rattle.driver.specs.declared.line.Stages.the-variants.{Peak, Stopped}
 
 -- ---- the names of a program are known

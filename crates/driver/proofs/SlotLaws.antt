@@ -1,16 +1,15 @@
 -- Slots copied: the machine goes along, and the other slots of a buffer stay.
-use mathlib.Core.Path.{_≡_, refl, sym, ap, ap₂, _∙_}
-use mathlib.Core.Bool.{Bool, true, false}
+use mathlib.Core.Path.{_≡_, refl, sym, ap₂, _∙_}
+use mathlib.Core.Bool.{true, false}
 use mathlib.Core.Logic.{_⊎_, inl, inr, _≢_}
 use mathlib.Core.List.{List, _∷_}
 use Prim.Native.Nat.{ℕ, zero, suc, _+_, _-_, _*_, _≤_, _<_}
-use native.Mathlib.Nat.{mul-le-mul-right, mul-le-mul-left}
+use native.Mathlib.Nat.{mul-le-mul-right}
 use native.Mathlib.Omega.{arith}
 use borrow.Author.Tests.{le-leb, lt-leb}
 use lib.Dec.{eqb, leb}
 use lib.ListN.{length, getD, drop, length-drop}
 use lib.Seq.{getD-drop}
-use Rattle.automata.specs.Booleans.{choose}
 use Rattle.automata.specs.Basics.{LtCases, lt-cases, SameCases, same-cases, nat-test}
 use Rattle.automata.specs.Machine.{Machine}
 use Rattle.automata.specs.Table.{tableMachine, ClosedTable}
@@ -19,7 +18,7 @@ use Rattle.language.specs.Expression.{member}
 use Rattle.language.specs.Environment.{lookup, namesOf}
 use Rattle.book.specs.Kind.{isName}
 use Rattle.explore.specs.Rows.{numberAt}
-use Rattle.stages.specs.Slot.{slotMachine, Slot, Holds, Written, table-same}
+use Rattle.stages.specs.Slot.{slotMachine, Slot, Written, table-same}
 use Rattle.reader.proofs.SymbolLaws.{name-byte, member-other}
 use Rattle.driver.specs.Stored.{InSlot, nameSlot, Registers, Stored, StoresName, Begins}
 

@@ -1,7 +1,7 @@
 -- What the functions on lines promise: the definitions' draft is what the buffers and the book by value hold.
 use mathlib.Core.Path.{_≡_}
 use mathlib.Core.Bool.{Bool, true, false}
-use mathlib.Core.List.{List, _∷_}
+use mathlib.Core.List.{List}
 use Prim.Native.Nat.{ℕ, suc, _+_, _*_, _≤_, _<_, max}
 use lib.ListN.{length, take, drop}
 use Rattle.automata.specs.Format.{narrow}
@@ -10,12 +10,11 @@ use Rattle.automata.specs.Stage.{Made, made, refused}
 use Rattle.language.specs.Restriction.{restricts}
 use Rattle.language.specs.Expression.{Expr}
 use Rattle.language.specs.Environment.{namesOf}
-use Rattle.book.specs.Kind.{isName}
 use Rattle.book.specs.Text.{Form, define, rule, linesOf}
 use Rattle.book.specs.Program.{program}
 use Rattle.book.specs.StackLaws.{FormHeld}
 use Rattle.book.specs.LineLaws.{KnownForm}
-use Rattle.compiler.specs.Book.{Draft, on, off, compileForm, compileLine, BookResult, done, stopped, compileLines}
+use Rattle.compiler.specs.Book.{Draft, on, off, compileForm, compileLine, done, stopped, compileLines}
 use Rattle.compiler.specs.Outcome.{most}
 use Rattle.reader.specs.Names.{Holds, More}
 use Rattle.reader.specs.Lines.{lineAt, Ends}

@@ -1,7 +1,6 @@
 // The lines of a book in their order, behind line 1.
 use crate::line;
 use crate::progress::Book;
-ghost use mathlib.Core.Path.{_≡_};
 ghost use Rattle.driver.specs.Lines.{Going, Placed, CompilesLines};
 
 // The most sets that a stage made, or the number of a refusal with its line.

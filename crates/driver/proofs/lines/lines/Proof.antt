@@ -3,7 +3,6 @@
 use Rattle.driver.proofs.LinesLaws.{Lengths, Reached, reached-start, reached-next, place-next, lines-off, lines-done, lines-none, going-again}
 use Rattle.driver.specs.Lines.{Placed}
 use borrow.Author.Tests.{not-true, not-false}
-use borrow.Author.Needs.{needs}
 use lib.ListN.{length}
 use native.Mathlib.Omega.{arith}
 use Prim.Native.Nat.{_-_}

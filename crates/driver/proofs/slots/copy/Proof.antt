@@ -3,7 +3,7 @@ use Rattle.stages.specs.Slot.{Written, written-none, written-more}
 use lib.ListN.{getD}
 use borrow.Author.Needs.{needs}
 use native.Mathlib.Omega.{arith}
-use Prim.Native.Nat.{ℕ, _-_, _≤_}
+use Prim.Native.Nat.{_-_, _≤_}
 use mathlib.Core.Path.{_≡_, refl}
 use Rattle.driver.proofs.slots.copy.Statement.{statement}
 use Rattle.driver.proofs.slots.copy.Tie as tie
