@@ -30,6 +30,7 @@ use Rattle.delivery.specs.declared.BoardAnswer as S
 use Rattle.delivery.specs.declared.Delivered as D
 use Rattle.delivery.specs.Answers.{onBoard, boardSays, judged, delivery}
 use Rattle.delivery.specs.Answers as A
+use Rattle.delivery.specs.Handing.{Within, handed}
 use Rattle.delivery.specs.Delivers.{lettersIn, HopelessAfter, ForeignAfter, Accepted, Delivers}
 use Rattle.delivery.proofs.VerdictLaws.{verdict-means}
 
@@ -43,6 +44,21 @@ pub board-refuses : (c plan : List ℕ) (l : B.Loaded) (number : ℕ) → l ≡ 
     → onBoard (S.the-variants.NotLoaded number) ≡ boardSays (load narrow c) (judge narrow c plan)
 board-refuses c plan l number e h = ap (λ x. boardSays x (judge narrow c plan)) (sym (ap loading e) ∙ h)
 
+-- ---- handing over
+
+pub hands-card : (buffer plan : List ℕ) (a : C.Compiled) (n p : ℕ) (b : S.BoardAnswer) → a ≡ C.the-variants.Card n p → onBoard b ≡ boardSays (load narrow (take n buffer)) (judge narrow (take n buffer) plan)
+    → delivery (D.the-variants.Card n p b) ≡ handed a buffer plan
+hands-card buffer plan a n p b e h = rw e (ap (A.card n p) h)
+
+pub hands-refusal : (buffer plan : List ℕ) (a : C.Compiled) (number line : ℕ) → a ≡ C.the-variants.Refused number line → delivery (D.the-variants.Refused number line) ≡ handed a buffer plan
+hands-refusal buffer plan a number line e = rw e refl
+
+pub within : (buffer : List ℕ) (a : C.Compiled) (n p : ℕ) → a ≡ C.the-variants.Card n p → Within a buffer → n ≤ length buffer
+within buffer a n p e w = rw e at w
+
+pub taken : (n : ℕ) (s : List ℕ) → n ≤ length s → n ≡ length (take n s)
+taken n s h = sym (length-take-le n s h)
+
 -- ---- an accepted book
 
 module _ (text lent old new : List ℕ) where
@@ -53,18 +69,16 @@ module _ (text lent old new : List ℕ) where
   no-refusal : (n p r at : ℕ) → outcome narrow documented text lent (length old) ≡ stop r at → reading (C.the-variants.Card n p) ≡ answer (stop r at) → ⊥
   no-refusal n p r at e a = let b = refusal-numbered narrow documented text lent (length old) r at e in let z : 0 ≡ r = ap (λ x. x .number) a in omega arith
 
-  -- The card's length is within the buffer.
-  pub card-within : (s : C.Compiled) (n p : ℕ) → s ≡ C.the-variants.Card n p → Answers (outcome narrow documented text lent (length old)) old new s → n ≤ length new
-  card-within s n p q a = go o refl (rw q at a)
+  -- The card is within its buffer.
+  pub card-within : (s : C.Compiled) → Answers (outcome narrow documented text lent (length old)) old new s → Within s new
+  card-within (C.the-variants.Refused number line) a = tt
+  card-within (C.the-variants.Card n p) a = go o refl a
     where
       go : (x : Outcome) → outcome narrow documented text lent (length old) ≡ x → Answers x old new (C.the-variants.Card n p) → n ≤ length new
       go (card c peak) e a =
           let z : n ≡ length c = ap (λ x. x .length) (a .answer) in
           omega (arith, ap length (a .buffer), length-append c (drop (length c) old))
       go (stop r at) e a = absurd (no-refusal n p r at e (a .answer))
-
-pub taken : (n : ℕ) (s : List ℕ) → n ≤ length s → n ≡ length (take n s)
-taken n s h = sym (length-take-le n s h)
 
 module _ (text plan lent old new : List ℕ) where
   module _ (c : List ℕ) (peak : ℕ) (e : outcome narrow documented text lent (length old) ≡ card c peak) where
@@ -112,27 +126,19 @@ module _ (text plan lent old new : List ℕ) where
       every = demand;
     }
 
-  -- THE CARD was made, loaded and judged by.
-  pub delivered-card : (s : C.Compiled) (n p : ℕ) (b : S.BoardAnswer) → s ≡ C.the-variants.Card n p → Answers (outcome narrow documented text lent (length old)) old new s
-      → onBoard b ≡ boardSays (load narrow (take n new)) (judge narrow (take n new) plan) → Delivers text plan lent old new (D.the-variants.Card n p b)
-  delivered-card s n p b q a h = record { accepted = accepted; refusal = λ r at e. absurd (no-refusal text lent old new n p r at e (rw (q, e) at (a .answer))) }
+  -- THE WHOLE WAY: what the compiler answers, handed over.
+  pub delivers : (s : C.Compiled) (r : D.Delivered) → Answers (outcome narrow documented text lent (length old)) old new s → delivery r ≡ handed s new plan → Delivers text plan lent old new r
+  delivers (C.the-variants.Card n p) r a h = record { accepted = accepted; refusal = λ number line e. absurd (no-refusal text lent old new n p number line e (rw e at (a .answer))) }
     where
-      accepted : (c : List ℕ) (peak : ℕ) → outcome narrow documented text lent (length old) ≡ card c peak → Accepted text plan c peak old new (D.the-variants.Card n p b)
+      accepted : (c : List ℕ) (peak : ℕ) → outcome narrow documented text lent (length old) ≡ card c peak → Accepted text plan c peak old new r
       accepted c peak e =
-          let x : Answers (card c peak) old new (C.the-variants.Card n p) = rw (q, e) at a in
+          let x : Answers (card c peak) old new (C.the-variants.Card n p) = rw e at a in
           let l : n ≡ length c = ap (λ x. x .length) (x .answer) in
           let t : take n new ≡ c = ap₂ take l (x .buffer) ∙ card-stands c peak old in
-          whole c peak e (D.the-variants.Card n p b)
-          ((λ i. A.card (l i) (x .answer i .peak) (onBoard b)) ∙ ap (A.card (length c) peak) (h ∙ ap (λ y. boardSays (load narrow y) (judge narrow y plan)) t))
+          whole c peak e r
+          (h ∙ (λ i. A.card (l i) (x .answer i .peak) (boardSays (load narrow (t i)) (judge narrow (t i) plan))))
           (x .buffer)
-
-  -- THE BOOK was refused.
-  pub delivered-none : (s : C.Compiled) (number line : ℕ) → s ≡ C.the-variants.Refused number line → Answers (outcome narrow documented text lent (length old)) old new s
-      → Delivers text plan lent old new (D.the-variants.Refused number line)
-  delivered-none s number line q a = record {
-    accepted = λ c peak e. absurd (nothing c peak e);
-    refusal = λ r at e. let x : Answers (stop r at) old new (C.the-variants.Refused number line) = rw (q, e) at a in ((λ i. A.refused (x .answer i .number) (x .answer i .line)), x .buffer);
+  delivers (C.the-variants.Refused number line) r a h = record {
+    accepted = λ c peak e. let x : Answers (card c peak) old new (C.the-variants.Refused number line) = rw e at a in absurd (some c peak e (sym (ap (λ y. y .length) (x .answer))));
+    refusal = λ n at e. let x : Answers (stop n at) old new (C.the-variants.Refused number line) = rw e at a in (h ∙ (λ i. A.refused (x .answer i .number) (x .answer i .line)), x .buffer);
   }
-    where
-      nothing : (c : List ℕ) (peak : ℕ) → outcome narrow documented text lent (length old) ≡ card c peak → ⊥
-      nothing c peak e = let x : Answers (card c peak) old new (C.the-variants.Refused number line) = rw (q, e) at a in some c peak e (sym (ap (λ y. y .length) (x .answer)))

@@ -7,8 +7,9 @@ ghost use Rattle.automata.specs.Format.{narrow};
 ghost use Rattle.card.specs.Answer.{load};
 ghost use Rattle.card.specs.Judge.{judge};
 ghost use Rattle.driver.specs.Entry.{lentLengths};
-ghost use Rattle.delivery.specs.Answers.{onBoard, boardSays};
+ghost use Rattle.delivery.specs.Answers.{onBoard, boardSays, delivery};
 ghost use Rattle.delivery.specs.Delivers.{Delivers};
+ghost use Rattle.delivery.specs.Handing.{Within, handed};
 
 // What the board answers on a card and a plan: the card's letters and states, and the answer of judging; or the number of a card that does not load.
 pub enum BoardAnswer {
@@ -32,7 +33,22 @@ fn load_and_judge(card: &[u8], plan: &[u8]) -> BoardAnswer
     }
 }
 
-// Compiles a book and judges a plan by its card: the board is handed the card buffer's bytes up to the card's length, and no others.
+// The board is handed the card buffer's bytes up to the card's length, and no others.
+fn hand_over(answer: Compiled, card: &[u8], plan: &[u8]) -> Delivered
+    requires { ⌜ Within answer (now card) ⌝ }
+    ensures { λ r. ⌜ delivery r ≡ handed answer (now (card .entry)) (now (plan .entry)) ⌝ }
+{
+    match answer {
+        Compiled::Card(length, peak) => Delivered::Card(
+            length,
+            peak,
+            load_and_judge(&card[..length], plan),
+        ),
+        Compiled::Refused(number, line) => Delivered::Refused(number, line),
+    }
+}
+
+// Compiles a book and judges a plan by its card.
 pub fn deliver(
     text: &[u8],
     plan: &[u8],
@@ -48,7 +64,7 @@ pub fn deliver(
 ) -> Delivered
     ensures { λ r. ⌜ Delivers (now (text .entry)) (now (plan .entry)) (lentLengths (now (low .entry)) (now (high .entry)) (now (registers .entry)) (now (stack .entry)) (now (rows .entry)) (now (table .entry)) (now (work .entry)) (now (code .entry))) (now (card .entry)) (now (card .exit)) r ⌝ }
 {
-    match driver::compile(
+    let answer = driver::compile(
         text,
         card,
         low,
@@ -59,12 +75,6 @@ pub fn deliver(
         table,
         work,
         code,
-    ) {
-        Compiled::Card(length, peak) => Delivered::Card(
-            length,
-            peak,
-            load_and_judge(&card[..length], plan),
-        ),
-        Compiled::Refused(number, line) => Delivered::Refused(number, line),
-    }
+    );
+    hand_over(answer, &card[..], plan)
 }
