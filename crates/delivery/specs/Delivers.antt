@@ -49,13 +49,14 @@ pub record ForeignAfter (text plan : List ℕ) (j : ℕ) : Type 0 where
 
 -- What is promised where the book is accepted, with the card c and this peak.
 pub record Accepted (text plan c : List ℕ) (peak : ℕ) (old new : List ℕ) (r : Delivered) : Type 0 where
+  -- the machine on the card, and what judging replied
   pub machine : Machine
   pub reply : Reply
-  -- "Success returns the card's length and the peak"; the board loads it, with the book's letters and the machine's states, and replies
+  -- "Success returns the card's length and the peak"; the board loads the card, with the book's letters and the machine's states, and replies
   pub answer : delivery r ≡ card (length c) peak (judged (length (lettersIn text)) (size machine) reply)
   -- "its card is then the card buffer's bytes up to that length"; "bytes past that length are unchanged"
   pub buffer : new ≡ c ++ drop (length c) old
-  -- "loading and judging are handed just these bytes"
+  -- "in demand 3 loading and judging are handed just these bytes": both answers are those on c
   pub loaded : load narrow c ≡ holds (length (lettersIn text)) (size machine)
   pub replied : judge narrow c plan ≡ reply
   -- "The board loads its card, laid out and numbered as 01 says."
@@ -69,8 +70,8 @@ pub record Accepted (text plan c : List ℕ) (peak : ℕ) (old new : List ℕ) (
   pub hopeless-after : Known (lettersIn text) plan → (k : ℕ) → (reply ≡ verdict (hopeless k)) ↔ HopelessAfter text plan k
   -- unfinished in every other case."
   pub other : Known (lettersIn text) plan → (reply ≡ verdict unfinished) ↔ ((¬ (bookAllows text plan ≡ true)) × ((k : ℕ) → ¬ HopelessAfter text plan k))
-  -- "exactly when, for every rule in the book and every cut of the plan into left, middle and right with the middle in the rule's pattern, one listed
-  -- context has both that left and that right"
+  -- demand 2 of this plan: "exactly when, for every rule in the book and every cut of the plan into left, middle and right with the middle in the
+  -- rule's pattern, one listed context has both that left and that right"
   pub obeys : Known (lettersIn text) plan → (reply ≡ verdict allowed) ↔ Obeys (bookRules (linesOf text)) (columns (lettersIn text) plan)
   -- of any other plan: "27 in judging adds how many letters precede the first foreign one"
   pub foreign : (j : ℕ) → ForeignAfter text plan j → reply ≡ Judge.refused 27 j
