@@ -1,6 +1,6 @@
 -- `hash` meets its contract: the sum of the bytes before i fits. Assumes nothing.
 use Prim.Native.Nat.{_*_, _-_, _≤_}
-use Rattle.explore.proofs.HashLaws.{weight-small, term-small, sum-next, hash-is, hashed-long, hashed-short}
+use Rattle.explore.proofs.HashLaws.{term-small, sum-next, hash-is, hashed-long, hashed-short}
 use Rattle.explore.specs.Steps.{hashSum, hashed}
 use borrow.Author.Needs.{needs}
 use lib.ListN.{length}
@@ -11,7 +11,7 @@ use Rattle.explore.proofs.rows.hash.Statement.{statement}
 use Rattle.explore.proofs.rows.hash.Tie as tie
 
 abbrev Inv-loop : tie.InvT-loop
-Inv-loop row end sum₀ i₀ sum i = (i ≤ end) × (end ≤ 4096) × (end ≤ length row) × (end ≡ hashed (length row)) × (sum ≡ hashSum row i) × (sum ≤ i * 173400000000255)
+Inv-loop row end sum₀ i₀ sum i = (i ≤ end) × (end ≤ 128) × (end ≤ length row) × (end ≡ hashed (length row)) × (sum ≡ hashSum row i) × (sum ≤ i * 16711425)
 
 abbrev μ-loop : tie.MeasureT-loop
 μ-loop row end sum₀ i₀ sum i = end - i
@@ -25,43 +25,29 @@ loop-holds c =
     (λ w. (omega arith, omega (arith, w .0 .left, w .1), omega (arith, w .1), w .1 ∙ hashed-short (length (args .row .now)) (w .0 .left), refl, omega arith))
     (c .if1 .came)
 
+weight-requires : tie.Need-weight-requires Inv-loop μ-loop
+weight-requires c κs = omega (arith, c .before .before .before .loop .inv .1, c .before .before .loop-test .taken)
+
 mul-sum : tie.Need-mul-sum Inv-loop μ-loop
-mul-sum c = omega (arith, c .before .before .before .loop .inv .1)
+mul-sum c = omega (arith, term-small (c .before .wide .result) (c .weight .result) (c .before .wide .ensures .1) (c .weight .ensures .1))
 
 add-sum : tie.Need-add-sum Inv-loop μ-loop
-add-sum c = omega (arith, c .before .before .before .loop .inv .1)
-
-mul-sum-2 : tie.Need-mul-sum-2 Inv-loop μ-loop
-mul-sum-2 c =
-    let loop = c .before .before .before .loop in
-    omega (arith, weight-small (loop .i) (omega (arith, loop .inv .1, c .before .before .loop-test .taken)))
-
-add-sum-2 : tie.Need-add-sum-2 Inv-loop μ-loop
-add-sum-2 c =
-    let loop = c .before .before .before .loop in
-    omega (arith, weight-small (loop .i) (omega (arith, loop .inv .1, c .before .before .loop-test .taken)))
-
-mul-sum-3 : tie.Need-mul-sum-3 Inv-loop μ-loop
-mul-sum-3 c =
-    let loop = c .before .before .before .loop in
-    omega (arith, term-small (loop .i) (c .wide .result) (omega (arith, loop .inv .1, c .before .before .loop-test .taken)) (c .wide .ensures .1))
-
-add-sum-3 : tie.Need-add-sum-3 Inv-loop μ-loop
-add-sum-3 c =
-    let loop = c .before .before .before .loop in
-    omega (arith, term-small (loop .i) (c .wide .result) (omega (arith, loop .inv .1, c .before .before .loop-test .taken)) (c .wide .ensures .1), loop .inv .5, loop .inv .1, c .before .before .loop-test .taken)
+add-sum c =
+    let v = c .before .before .before .before .loop .inv in
+    omega (arith, term-small (c .before .wide .result) (c .weight .result) (c .before .wide .ensures .1) (c .weight .ensures .1), v .5, v .1, c .before .before .before .loop-test .taken)
 
 loop-again : tie.Need-loop-again Inv-loop μ-loop
 loop-again c =
-    let loop = c .before .before .before .loop in
+    let loop = c .before .before .before .before .loop in
     let v = loop .inv in
-    let e = c .wide .ensures in (
+    let x = c .before .wide .ensures in
+    let y = c .weight .ensures in (
       omega arith,
       v .1,
       v .2,
       v .3,
-      rw (sum-next (c .before .before .before .before .before .before .args .row .now) (loop .i), ← (v .4), ← (e .0)),
-      omega (arith, term-small (loop .i) (c .wide .result) (omega (arith, v .1, c .before .before .loop-test .taken)) (e .1), v .5),
+      rw (sum-next (c .before .before .before .before .before .before .before .args .row .now) (loop .i), ← (v .4), ← (x .0), ← (y .0)),
+      omega (arith, term-small (c .before .wide .result) (c .weight .result) (x .1) (y .1), v .5),
     )
 
 returns : tie.Need-returns Inv-loop μ-loop
@@ -69,7 +55,7 @@ returns c =
     let loop = c .before .loop in
     let v = loop .inv in
     let e : loop .i ≡ c .before .before .if1 .end = omega arith in
-    hash-is (c .before .before .before .before .args .row .now) (c .before .before .if1 .end) (loop .sum) (v .3) (rw e at (v .4))
+    (hash-is (c .before .before .before .before .args .row .now) (c .before .before .if1 .end) (loop .sum) (v .3) (rw e at (v .4)), omega arith)
 
 pub hash-spec : {M : Type 1} → statement M
 hash-spec =
@@ -80,12 +66,9 @@ hash-spec =
     loop-holds
     (λ c. search needs)
     (λ c κs. search needs)
+    weight-requires
     mul-sum
     add-sum
-    mul-sum-2
-    add-sum-2
-    mul-sum-3
-    add-sum-3
     (λ c. search needs)
     (λ c. search needs)
     loop-again
