@@ -2,26 +2,50 @@
 use mathlib.Core.Path.{_≡_, refl, sym, ap, _∙_}
 use mathlib.Core.Logic.{inl, inr}
 use mathlib.Core.List.{List}
-use Prim.Native.Nat.{ℕ, _+_, _*_, _-_, _%_, _≤_, _<_}
+use Prim.Native.Nat.{ℕ, _+_, _*_, _-_, _/_, _%_, _≤_, _<_}
 use native.Mathlib.Nat.{mul-le-mul}
 use native.Mathlib.Numerals.{add-one}
 use native.Mathlib.Omega.{arith}
-use lib.ListN.{length, getD, set, replicate, getD-replicate}
+use lib.ListN.{length, getD, set, replicate, length-set, getD-replicate}
 use lib.Seq.{getD-set-same, getD-set-other}
 use borrow.Author.Tests.{lt-ltb, le-ltb}
 use Rattle.automata.specs.Basics.{LtCases, lt-cases, SameCases, same-cases, nat-test}
 use Rattle.explore.specs.Rows.{rowAt}
-use Rattle.explore.specs.Steps.{weight, hashSum, hashed, rowHash}
+use Rattle.explore.specs.Steps.{weight, Weighted, hashSum, hashed, rowHash}
 use Rattle.explore.specs.Answer.{Last, Chained, Appended}
 
 pub term-small : (x y : ℕ) → x < 256 → y < 65536 → x * y ≤ 16711425
 term-small x y h b = mul-le-mul {n₁ = x} {m₁ = y} {n₂ = 255} {m₂ = 65535} (omega arith) (omega arith)
 
+pub weight-small : (i : ℕ) → weight i < 65536
+unfolding weight
+weight-small i = omega arith
+
+pub weight-entry : (row l : List ℕ) → Weighted (length row) l → (i : ℕ) → i < length row → i < 128 → (getD l i 0 ≡ weight i) × (getD l i 0 < 65536)
+weight-entry row l W i h b = let e = W .entry i h b in (e, omega (arith, weight-small i, e))
+
+-- the weights fit while they are made
+pub weight-fits : (i : ℕ) → i < 128 → (i * 40503 + 12347) * i ≤ 700000000
+weight-fits i h = omega (arith, mul-le-mul {n₁ = i * 40503 + 12347} {m₁ = i} {n₂ = 5156228} {m₂ = 127} (omega arith) (omega arith))
+
+-- the weights of the places below i are entered
+pub record Entered (w i : ℕ) (l : List ℕ) : Type 0 where
+  pub long : length l ≡ 128
+  pub entry : (p : ℕ) → p < i → getD l p 0 ≡ weight p
+
+pub entered-more : (w i v : ℕ) (l : List ℕ) → Entered w i l → i < 128 → v ≡ ((i * 40503 + 12347) * i + 30011) % 65536 → Entered w (i + 1) (set l i v)
+unfolding weight
+entered-more w i v l E h e = record { long = length-set l i v ∙ E .long; entry = λ p b. go p b (lt-cases p i) }
+  where
+    go : (p : ℕ) → p < i + 1 → LtCases p i → getD (set l i v) p 0 ≡ weight p
+    go p b (inl x) = getD-set-other l i p v 0 (λ z. omega (arith, x .0)) ∙ E .entry p (x .0)
+    go p b (inr x) = let z : p ≡ i = omega (arith, x .0) in rw (z, getD-set-same l i v 0 (omega (arith, E .long))) e
+
 pub sum-next : (r : List ℕ) (i : ℕ) → hashSum r (i + 1) ≡ hashSum r i + getD r i 0 * weight i
 unfolding hashSum
 sum-next r i = rw (add-one i)
 
-pub hash-is : (r : List ℕ) (e sum : ℕ) → e ≡ hashed (length r) → sum ≡ hashSum r e → sum % 1024 ≡ rowHash r
+pub hash-is : (r : List ℕ) (e sum : ℕ) → e ≡ hashed (length r) → sum ≡ hashSum r e → sum / 64 % 1024 ≡ rowHash r
 unfolding rowHash
 hash-is r e sum x y = cc
 

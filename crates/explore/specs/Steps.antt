@@ -1,7 +1,8 @@
 -- What the functions on single rows ask and answer.
+use mathlib.Core.Path.{_≡_}
 use mathlib.Core.Bool.{Bool, not, _&&_, _||_}
-use Prim.Native.Nat.{ℕ, zero, suc, _+_, _*_, _%_, _≤_, _<_}
-use mathlib.Core.List.{List, [], _∷_}
+use Prim.Native.Nat.{ℕ, zero, suc, _+_, _*_, _/_, _%_, _≤_, _<_}
+use mathlib.Core.List.{List}
 use lib.ListN.{length, getD, set, drop}
 use lib.Dec.{ltb}
 use Rattle.automata.specs.Booleans.{choose}
@@ -30,12 +31,13 @@ concatGain a p row = numberBytes p (choose (flagAt a p) (λ _. set (drop 2 row) 
 
 -- ---- a number that equal rows share, by which a row is looked up
 
--- a number for each place
-unfoldable pub weights : List ℕ
-weights = 7807 ∷ 20939 ∷ 32933 ∷ 62349 ∷ 33543 ∷ 42415 ∷ 56361 ∷ 62453 ∷ 6727 ∷ 57943 ∷ 14635 ∷ 58643 ∷ 39391 ∷ 40731 ∷ 36475 ∷ 27567 ∷ 51341 ∷ 37525 ∷ 35903 ∷ 55209 ∷ 47877 ∷ 50895 ∷ 32173 ∷ 49221 ∷ 50665 ∷ 38439 ∷ 28909 ∷ 15725 ∷ 167 ∷ 40253 ∷ 5291 ∷ 7259 ∷ 18825 ∷ 53529 ∷ 6427 ∷ 29469 ∷ 753 ∷ 53397 ∷ 58391 ∷ 44905 ∷ 32133 ∷ 44525 ∷ 20595 ∷ 13779 ∷ 26033 ∷ 16485 ∷ 22785 ∷ 64221 ∷ 65465 ∷ 23373 ∷ 52767 ∷ 24665 ∷ 65515 ∷ 48889 ∷ 33659 ∷ 41795 ∷ 5003 ∷ 47391 ∷ 22309 ∷ 5877 ∷ 36535 ∷ 35263 ∷ 19145 ∷ 18849 ∷ 29981 ∷ 9235 ∷ 57441 ∷ 46137 ∷ 46951 ∷ 37843 ∷ 55563 ∷ 46589 ∷ 24173 ∷ 30217 ∷ 5945 ∷ 26135 ∷ 38387 ∷ 36337 ∷ 32667 ∷ 56835 ∷ 7633 ∷ 27883 ∷ 52597 ∷ 49163 ∷ 56805 ∷ 39333 ∷ 57373 ∷ 32181 ∷ 26095 ∷ 60081 ∷ 34385 ∷ 16951 ∷ 55345 ∷ 27523 ∷ 36963 ∷ 64375 ∷ 31405 ∷ 33617 ∷ 33947 ∷ 52769 ∷ 1665 ∷ 37719 ∷ 14715 ∷ 50191 ∷ 8455 ∷ 53619 ∷ 3205 ∷ 63095 ∷ 43941 ∷ 6723 ∷ 47011 ∷ 30805 ∷ 9335 ∷ 31597 ∷ 57955 ∷ 15003 ∷ 55683 ∷ 58061 ∷ 7997 ∷ 41071 ∷ 45923 ∷ 29937 ∷ 44193 ∷ 30763 ∷ 46827 ∷ 62891 ∷ 64699 ∷ 64153 ∷ []
-
+-- the weight of a place
 unfoldable pub weight : ℕ → ℕ
-weight i = getD weights i 0 % 65536
+weight i = ((i * 40503 + 12347) * i + 30011) % 65536
+
+-- the weights of the first w places, of which 128 are used
+pub record Weighted (w : ℕ) (l : List ℕ) : Type 0 where
+  pub entry : (i : ℕ) → i < w → i < 128 → getD l i 0 ≡ weight i
 
 -- The sum of the first i bytes, each by the weight of its place.
 unfoldable pub hashSum : List ℕ → ℕ → ℕ
@@ -47,4 +49,4 @@ unfoldable pub hashed : ℕ → ℕ
 hashed n = choose (ltb 128 n) (λ _. 128) (λ _. n)
 
 unfoldable pub rowHash : List ℕ → ℕ
-rowHash r = hashSum r (hashed (length r)) % 1024
+rowHash r = hashSum r (hashed (length r)) / 64 % 1024

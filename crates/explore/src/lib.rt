@@ -15,6 +15,7 @@ ghost use mathlib.Core.Path.{_≡_};
 ghost use Prim.Native.Nat.{_<_, _≤_};
 ghost use lib.ListN.{length, replicate};
 ghost use Rattle.explore.specs.Rows.{bit};
+ghost use Rattle.explore.specs.Steps.{Weighted};
 ghost use Rattle.explore.specs.Answer.{rowsFor, Fits, Room, Source, Step, Twins, Turning, Turned, Flagging, Flagged, Explores, Answers};
 
 // The operation's code (0 `|`, 1 `&`, 2 `-`, 3 concatenation, 4 star, 5 erase), the number of columns, for each operand its number of states and
@@ -125,19 +126,21 @@ fn turn(
     row: &mut [u8],
     table: &mut [u16],
     heads: &mut [u16; 1024],
+    weights: &[u16; 128],
     count: usize,
     state: usize,
     column: usize,
     q: usize,
 ) -> Explored
     requires { ⌜ Turning s (now a) (now b) (now rows) (now row) (now table) (now heads) count state column q ⌝ }
+    requires { ⌜ Weighted (s .w) (now weights) ⌝ }
     ensures { λ r. ⌜ Turned (rowsFor s (now (a .entry)) (now (b .entry))) (s .k) (s .w) (s .limit) count state column (now (rows .exit)) (now (table .exit)) (now (heads .exit)) r ⌝ }
 {
     let w = s.w;
     let limit = s.limit;
     let at = state * w;
     next_row(a, b, s, column, &rows[at..at + w], row);
-    let h = rows::hash(&row[..]);
+    let h = rows::hash(&row[..], weights);
     match rows::find(&rows[..], &table[..], heads, w, count, &row[..], h) {
         rows::Found::At(j) => {
             table[limit + q] = (j % 65536) as u16;
@@ -165,6 +168,7 @@ fn advance(
     row: &mut [u8],
     table: &mut [u16],
     heads: &mut [u16; 1024],
+    weights: &[u16; 128],
     count: usize,
     state: usize,
     column: usize,
@@ -172,6 +176,7 @@ fn advance(
     q: usize,
 ) -> Explored
     requires { ⌜ Turning s (now a) (now b) (now rows) (now row) (now table) (now heads) count state column q ⌝ }
+    requires { ⌜ Weighted (s .w) (now weights) ⌝ }
     requires { ⌜ (twin < column → Twins s (now a) (now b) twin column) ⌝ }
     ensures { λ r. ⌜ Turned (rowsFor s (now (a .entry)) (now (b .entry))) (s .k) (s .w) (s .limit) count state column (now (rows .exit)) (now (table .exit)) (now (heads .exit)) r ⌝ }
 {
@@ -181,7 +186,20 @@ fn advance(
         table[limit + q] = j;
         return Explored::Sets(count);
     }
-    turn(a, b, s, rows, row, table, heads, count, state, column, q)
+    turn(
+        a,
+        b,
+        s,
+        rows,
+        row,
+        table,
+        heads,
+        weights,
+        count,
+        state,
+        column,
+        q,
+    )
 }
 
 // All sets that are reached, each once, with their transitions and flags.
@@ -199,10 +217,12 @@ pub fn explore(
     let k = s.k;
     let w = s.w;
     let twins = columns::twins(a, b, s);
+    let weights = rows::weights(w);
     let mut heads = [0; 1024];
     start_row(a, b, s, row);
     rows::append(rows, w, 0, &row[..]);
-    rows::chain(table, &mut heads, 0, rows::hash(&row[..]));
+    let h = rows::hash(&row[..], &weights);
+    rows::chain(table, &mut heads, 0, h);
     let mut count = 1;
     let mut state = 0;
     let mut column = 0;
@@ -217,6 +237,7 @@ pub fn explore(
             row,
             table,
             &mut heads,
+            &weights,
             count,
             state,
             column,

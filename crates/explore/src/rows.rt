@@ -4,151 +4,28 @@ ghost use mathlib.Core.Bool.{true};
 ghost use mathlib.Core.Path.{_≡_};
 ghost use Prim.Native.Nat.{_+_, _*_, _<_, _≤_};
 ghost use lib.ListN.{length, getD, set};
-ghost use Rattle.explore.specs.Steps.{weight as weightOf, rowHash};
+ghost use Rattle.explore.specs.Steps.{Weighted, rowHash};
 ghost use Rattle.explore.specs.Answer.{Chained, Looked, Appended};
-
-// A number for each place of a row, odd and without a pattern, so that sets with few members seldom share a hash.
-const WEIGHTS: [u32; 128] = [
-    7807,
-    20939,
-    32933,
-    62349,
-    33543,
-    42415,
-    56361,
-    62453,
-    6727,
-    57943,
-    14635,
-    58643,
-    39391,
-    40731,
-    36475,
-    27567,
-    51341,
-    37525,
-    35903,
-    55209,
-    47877,
-    50895,
-    32173,
-    49221,
-    50665,
-    38439,
-    28909,
-    15725,
-    167,
-    40253,
-    5291,
-    7259,
-    18825,
-    53529,
-    6427,
-    29469,
-    753,
-    53397,
-    58391,
-    44905,
-    32133,
-    44525,
-    20595,
-    13779,
-    26033,
-    16485,
-    22785,
-    64221,
-    65465,
-    23373,
-    52767,
-    24665,
-    65515,
-    48889,
-    33659,
-    41795,
-    5003,
-    47391,
-    22309,
-    5877,
-    36535,
-    35263,
-    19145,
-    18849,
-    29981,
-    9235,
-    57441,
-    46137,
-    46951,
-    37843,
-    55563,
-    46589,
-    24173,
-    30217,
-    5945,
-    26135,
-    38387,
-    36337,
-    32667,
-    56835,
-    7633,
-    27883,
-    52597,
-    49163,
-    56805,
-    39333,
-    57373,
-    32181,
-    26095,
-    60081,
-    34385,
-    16951,
-    55345,
-    27523,
-    36963,
-    64375,
-    31405,
-    33617,
-    33947,
-    52769,
-    1665,
-    37719,
-    14715,
-    50191,
-    8455,
-    53619,
-    3205,
-    63095,
-    43941,
-    6723,
-    47011,
-    30805,
-    9335,
-    31597,
-    57955,
-    15003,
-    55683,
-    58061,
-    7997,
-    41071,
-    45923,
-    29937,
-    44193,
-    30763,
-    46827,
-    62891,
-    64699,
-    64153,
-];
 
 pub enum Found {
     At(usize),
     Nothing,
 }
 
-fn weight(i: usize) -> u32
-    requires { ⌜ i < 128 ⌝ }
-    ensures { λ r. ⌜ (r ≡ weightOf i) × (r < 65536) ⌝ }
+// The weights of the first w places: odd numbers without a simple pattern, so that few rows share a hash.
+pub fn weights(w: usize) -> [u16; 128]
+    ensures { λ r. ⌜ Weighted w r ⌝ }
 {
-    WEIGHTS[i] % 65536
+    let mut table = [0; 128];
+    let mut i = 0;
+    while i < 128 {
+        if w <= i {
+            return table;
+        }
+        table[i] = (((i * 40503 + 12347) * i + 30011) % 65536) as u16;
+        i += 1;
+    }
+    table
 }
 
 fn wide(x: u8) -> u32
@@ -158,7 +35,8 @@ fn wide(x: u8) -> u32
 }
 
 // A number that equal rows share. The products are independent of each other, so that the sum is quick.
-pub fn hash(row: &[u8]) -> usize
+pub fn hash(row: &[u8], weights: &[u16; 128]) -> usize
+    requires { ⌜ Weighted (length (now row)) (now weights) ⌝ }
     ensures { λ r. ⌜ (r ≡ rowHash (now (row .entry))) × (r < 1024) ⌝ }
 {
     let mut end = row.len();
@@ -168,10 +46,10 @@ pub fn hash(row: &[u8]) -> usize
     let mut sum = 0;
     let mut i = 0;
     while i < end {
-        sum += wide(row[i]) * weight(i);
+        sum += wide(row[i]) * weights[i] as u32;
         i += 1;
     }
-    (sum % 1024) as usize
+    (sum / 64 % 1024) as usize
 }
 
 // Whether two rows are equal. It looks at all bytes, so that several are compared at once.

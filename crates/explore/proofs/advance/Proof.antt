@@ -47,11 +47,11 @@ same-length c = search needs
 
 -- src/lib.rt:182:9
 returns : tie.Need-returns
-returns c = turn-twin (c .before .before .before .before .before .before .before .args .s) (c .before .before .before .before .before .before .before .args .a .now) (c .before .before .before .before .before .before .before .args .b .now) (c .before .before .before .before .before .before .before .args .rows .now) (c .before .before .before .before .before .before .before .args .row .now) (c .before .before .before .before .before .before .before .args .table .now) (c .before .before .before .before .before .before .before .args .heads .now) (c .before .before .before .before .before .before .before .args .count) (c .before .before .before .before .before .before .before .args .state) (c .before .before .before .before .before .before .before .args .column) (c .before .before .before .before .before .before .before .args .q) (c .before .before .before .before .before .before .before .pre .0) (c .before .before .before .before .before .before .before .args .twin) (c .before .if1 .taken) (c .before .before .before .before .before .before .before .pre .1 (c .before .if1 .taken)) _ refl
+returns c = turn-twin (c .before .before .before .before .before .before .before .args .s) (c .before .before .before .before .before .before .before .args .a .now) (c .before .before .before .before .before .before .before .args .b .now) (c .before .before .before .before .before .before .before .args .rows .now) (c .before .before .before .before .before .before .before .args .row .now) (c .before .before .before .before .before .before .before .args .table .now) (c .before .before .before .before .before .before .before .args .heads .now) (c .before .before .before .before .before .before .before .args .count) (c .before .before .before .before .before .before .before .args .state) (c .before .before .before .before .before .before .before .args .column) (c .before .before .before .before .before .before .before .args .q) (c .before .before .before .before .before .before .before .pre .0) (c .before .before .before .before .before .before .before .args .twin) (c .before .if1 .taken) (c .before .before .before .before .before .before .before .pre .1 .1 (c .before .if1 .taken)) _ refl
 
 -- src/lib.rt:184:5
 turn-requires : tie.Need-turn-requires
-turn-requires c κs = c .before .before .before .before .before .before .before .before .before .before .pre .0
+turn-requires c κs = (c .before .before .before .before .before .before .before .before .before .before .pre .0, c .before .before .before .before .before .before .before .before .before .before .pre .1 .0)
 
 -- src/lib.rt:160:1
 same-length-2 : tie.Need-same-length-2

@@ -1,9 +1,9 @@
 -- `hash` meets its contract: the sum of the bytes before i fits. Assumes nothing.
 use Prim.Native.Nat.{_*_, _-_, _≤_}
-use Rattle.explore.proofs.HashLaws.{term-small, sum-next, hash-is, hashed-long, hashed-short}
+use Rattle.explore.proofs.HashLaws.{weight-entry, term-small, sum-next, hash-is, hashed-long, hashed-short}
 use Rattle.explore.specs.Steps.{hashSum, hashed}
 use borrow.Author.Needs.{needs}
-use lib.ListN.{length}
+use lib.ListN.{length, getD}
 use mathlib.Core.Logic.{⊎-elim}
 use mathlib.Core.Path.{_≡_, refl, _∙_}
 use native.Mathlib.Omega.{arith}
@@ -11,10 +11,10 @@ use Rattle.explore.proofs.rows.hash.Statement.{statement}
 use Rattle.explore.proofs.rows.hash.Tie as tie
 
 abbrev Inv-loop : tie.InvT-loop
-Inv-loop row end sum₀ i₀ sum i = (i ≤ end) × (end ≤ 128) × (end ≤ length row) × (end ≡ hashed (length row)) × (sum ≡ hashSum row i) × (sum ≤ i * 16711425)
+Inv-loop row weights end sum₀ i₀ sum i = (i ≤ end) × (end ≤ 128) × (end ≤ length row) × (end ≡ hashed (length row)) × (sum ≡ hashSum row i) × (sum ≤ i * 16711425)
 
 abbrev μ-loop : tie.MeasureT-loop
-μ-loop row end sum₀ i₀ sum i = end - i
+μ-loop row weights end sum₀ i₀ sum i = end - i
 
 loop-holds : tie.Need-loop-holds Inv-loop μ-loop
 unfolding hashSum
@@ -25,29 +25,32 @@ loop-holds c =
     (λ w. (omega arith, omega (arith, w .0 .left, w .1), omega (arith, w .1), w .1 ∙ hashed-short (length (args .row .now)) (w .0 .left), refl, omega arith))
     (c .if1 .came)
 
-weight-requires : tie.Need-weight-requires Inv-loop μ-loop
-weight-requires c κs = omega (arith, c .before .before .before .loop .inv .1, c .before .before .loop-test .taken)
+element-copy-out-sum : tie.Need-element-copy-out-sum Inv-loop μ-loop
+element-copy-out-sum c = omega (arith, c .before .before .before .loop .inv .1, c .before .before .loop-test .taken)
 
-mul-sum : tie.Need-mul-sum Inv-loop μ-loop
-mul-sum c = omega (arith, term-small (c .before .wide .result) (c .weight .result) (c .before .wide .ensures .1) (c .weight .ensures .1))
+cast-sum : tie.Need-cast-sum Inv-loop μ-loop
+cast-sum c = omega (arith, weight-entry (c .before .before .before .before .before .before .before .args .row .now) (c .before .before .before .before .before .before .before .args .weights .now) (c .before .before .before .before .before .before .before .pre) (c .before .before .before .before .loop .i) (omega (arith, c .before .before .before .before .loop .inv .2, c .before .before .before .loop-test .taken)) (omega (arith, c .before .before .before .before .loop .inv .1, c .before .before .before .loop-test .taken)) .1)
+
+mul-sum-2 : tie.Need-mul-sum-2 Inv-loop μ-loop
+mul-sum-2 c = omega (arith, term-small (c .before .wide .result) (getD (c .before .before .before .before .before .before .before .args .weights .now) (c .before .before .before .before .loop .i) 0) (c .before .wide .ensures .1) (weight-entry (c .before .before .before .before .before .before .before .args .row .now) (c .before .before .before .before .before .before .before .args .weights .now) (c .before .before .before .before .before .before .before .pre) (c .before .before .before .before .loop .i) (omega (arith, c .before .before .before .before .loop .inv .2, c .before .before .before .loop-test .taken)) (omega (arith, c .before .before .before .before .loop .inv .1, c .before .before .before .loop-test .taken)) .1))
 
 add-sum : tie.Need-add-sum Inv-loop μ-loop
 add-sum c =
     let v = c .before .before .before .before .loop .inv in
-    omega (arith, term-small (c .before .wide .result) (c .weight .result) (c .before .wide .ensures .1) (c .weight .ensures .1), v .5, v .1, c .before .before .before .loop-test .taken)
+    omega (arith, term-small (c .before .wide .result) (getD (c .before .before .before .before .before .before .before .args .weights .now) (c .before .before .before .before .loop .i) 0) (c .before .wide .ensures .1) (weight-entry (c .before .before .before .before .before .before .before .args .row .now) (c .before .before .before .before .before .before .before .args .weights .now) (c .before .before .before .before .before .before .before .pre) (c .before .before .before .before .loop .i) (omega (arith, c .before .before .before .before .loop .inv .2, c .before .before .before .loop-test .taken)) (omega (arith, c .before .before .before .before .loop .inv .1, c .before .before .before .loop-test .taken)) .1), v .5, v .1, c .before .before .before .loop-test .taken)
 
 loop-again : tie.Need-loop-again Inv-loop μ-loop
 loop-again c =
     let loop = c .before .before .before .before .loop in
     let v = loop .inv in
     let x = c .before .wide .ensures in
-    let y = c .weight .ensures in (
+    let y = weight-entry (c .before .before .before .before .before .before .before .args .row .now) (c .before .before .before .before .before .before .before .args .weights .now) (c .before .before .before .before .before .before .before .pre) (c .before .before .before .before .loop .i) (omega (arith, c .before .before .before .before .loop .inv .2, c .before .before .before .loop-test .taken)) (omega (arith, c .before .before .before .before .loop .inv .1, c .before .before .before .loop-test .taken)) in (
       omega arith,
       v .1,
       v .2,
       v .3,
       rw (sum-next (c .before .before .before .before .before .before .before .args .row .now) (loop .i), ← (v .4), ← (x .0), ← (y .0)),
-      omega (arith, term-small (c .before .wide .result) (c .weight .result) (x .1) (y .1), v .5),
+      omega (arith, term-small (c .before .wide .result) (getD (c .before .before .before .before .before .before .before .args .weights .now) (loop .i) 0) (x .1) (y .1), v .5),
     )
 
 returns : tie.Need-returns Inv-loop μ-loop
@@ -66,8 +69,10 @@ hash-spec =
     loop-holds
     (λ c. search needs)
     (λ c κs. search needs)
-    weight-requires
-    mul-sum
+    (λ c. search needs)
+    element-copy-out-sum
+    cast-sum
+    mul-sum-2
     add-sum
     (λ c. search needs)
     (λ c. search needs)
