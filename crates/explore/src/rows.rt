@@ -52,8 +52,8 @@ pub fn hash(row: &[u8], weights: &[u16; 128]) -> usize
     (sum / 64 % 1024) as usize
 }
 
-// Whether two rows are equal. It looks at all bytes, so that several are compared at once.
-fn same(a: &[u8], b: &[u8]) -> bool
+// Whether two long rows are equal. It looks at all bytes, so that several are compared at once.
+fn same_long(a: &[u8], b: &[u8]) -> bool
     requires { ⌜ length (now a) ≡ length (now b) ⌝ }
     ensures { λ r. ⌜ (r ≡ true → now (a .entry) ≡ now (b .entry)) × (now (a .entry) ≡ now (b .entry) → r ≡ true) ⌝ }
 {
@@ -66,6 +66,17 @@ fn same(a: &[u8], b: &[u8]) -> bool
         i += 1;
     }
     ok
+}
+
+// Whether two rows are equal.
+fn same(a: &[u8], b: &[u8]) -> bool
+    requires { ⌜ length (now a) ≡ length (now b) ⌝ }
+    ensures { λ r. ⌜ (r ≡ true → now (a .entry) ≡ now (b .entry)) × (now (a .entry) ≡ now (b .entry) → r ≡ true) ⌝ }
+{
+    if a.len() < 16 {
+        return check::same(a, b);
+    }
+    same_long(a, b)
 }
 
 // Where the row with the hash h stands among the first `count` rows of w bytes: only rows with the same hash are compared.

@@ -1,4 +1,4 @@
--- `same` meets its contract: the bytes before i are equal, or `ok` is false. Assumes nothing.
+-- `same_long` meets its contract: the bytes before i are equal, or `ok` is false. Assumes nothing.
 use Prim.Native.Nat.{ℕ, _-_, _<_, _≤_}
 use borrow.Author.Count.{below-more}
 use borrow.Author.Needs.{needs}
@@ -9,10 +9,10 @@ use mathlib.Core.List.{List}
 use mathlib.Core.Logic.{⊎-elim}
 use mathlib.Core.Path.{_≡_, sym, ap, _∙_}
 use native.Mathlib.Omega.{arith}
-use Rattle.explore.proofs.rows.same.Statement.{statement}
-use Rattle.explore.proofs.rows.same.Tie as tie
-use Rattle.explore.proofs.rows.same.Reads as reads
-use Rattle.explore.proofs.rows.same.Lts as lts
+use Rattle.explore.proofs.rows.same_long.Statement.{statement}
+use Rattle.explore.proofs.rows.same_long.Tie as tie
+use Rattle.explore.proofs.rows.same_long.Reads as reads
+use Rattle.explore.proofs.rows.same_long.Lts as lts
 
 abbrev Inv-loop : tie.InvT-loop
 Inv-loop a b ok₀ i₀ ok i = (i ≤ length a) × (ok ≡ true → (j : ℕ) → j < i → getD a j 0 ≡ getD b j 0) × (a ≡ b → ok ≡ true)
@@ -53,8 +53,8 @@ loop-again c =
 returns : tie.Need-returns Inv-loop μ-loop
 returns c = (λ t. ext-getD 0 _ _ (c .before .before .pre) (λ i h. c .before .loop .inv .1 t i (omega arith)), c .before .loop .inv .2)
 
-pub same-spec : {M : Type 1} → statement M
-same-spec =
+pub same-long-spec : {M : Type 1} → statement M
+same-long-spec =
     tie.close
     (tie.spec
     Inv-loop
