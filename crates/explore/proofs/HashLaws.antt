@@ -57,6 +57,12 @@ pub hashed-short : (n : ℕ) → n ≤ 128 → n ≡ hashed n
 unfolding hashed
 hashed-short n h = rw (le-ltb 128 n h)
 
+-- a row of four bytes
+pub hash-four : (r : List ℕ) (a b c d : ℕ) → length r ≡ 4 → a ≡ getD r 0 0 → b ≡ getD r 1 0 → c ≡ getD r 2 0 → d ≡ getD r 3 0
+    → (a * 30011 + b * 17325 + (c * 20109 + d * 38363)) / 64 % 1024 ≡ rowHash r
+unfolding rowHash hashed hashSum weight
+hash-four r a b c d l ea eb ec ed = rw (l, ← ea, ← eb, ← ec, ← ed) (ap (λ (x : ℕ). x / 64 % 1024) (omega arith))
+
 -- ---- chains
 
 abbrev hashes : ℕ → List ℕ → ℕ → ℕ

@@ -34,11 +34,24 @@ fn wide(x: u8) -> u32
     x as u32
 }
 
+// The same for a row of four bytes, a pair of states, with the weights of its places.
+fn hash_pair(row: &[u8]) -> usize
+    requires { ⌜ length (now row) ≡ 4 ⌝ }
+    ensures { λ r. ⌜ (r ≡ rowHash (now (row .entry))) × (r < 1024) ⌝ }
+{
+    let low = wide(row[0]) * 30011 + wide(row[1]) * 17325;
+    let high = wide(row[2]) * 20109 + wide(row[3]) * 38363;
+    ((low + high) / 64 % 1024) as usize
+}
+
 // A number that equal rows share. The products are independent of each other, so that the sum is quick.
 pub fn hash(row: &[u8], weights: &[u16; 128]) -> usize
     requires { ⌜ Weighted (length (now row)) (now weights) ⌝ }
     ensures { λ r. ⌜ (r ≡ rowHash (now (row .entry))) × (r < 1024) ⌝ }
 {
+    if row.len() == 4 {
+        return hash_pair(row);
+    }
     let mut end = row.len();
     if 128 < end {
         end = 128;
