@@ -37,6 +37,10 @@ pub record Led (n : ℕ) (f : ℕ → ℕ) : Type 0 where
   pub low : (p : ℕ) → p < n → f p ≤ p
   pub again : (p : ℕ) → p < n → f (f p) ≡ f p
 
+-- States of one class answer alike.
+abbrev pub Told : ℕ → Machine → (ℕ → ℕ) → Type 0
+Told n M f = (p q : ℕ) → p < n → q < n → f p ≡ f q → automaton M .accepting p ≡ automaton M .accepting q
+
 -- how many states below m lead a class
 unfoldable pub leaders : (ℕ → ℕ) → ℕ → ℕ
 leaders g zero = zero
@@ -105,6 +109,7 @@ pub record Sized (base n k : ℕ) (t w : List ℕ) : Type 0 where
 pub record Begun (base n k : ℕ) (t w : List ℕ) : Type 0 where
   pub sized : Sized base n k t w
   pub led : Led n (classOf (take n w))
+  pub told : Told n (tableMachine base n k t) (classOf (take n w))
 
 -- These, and a state that is not yet placed, but all before it are.
 pub record Under (base n k p : ℕ) (t w : List ℕ) : Type 0 where
@@ -112,6 +117,7 @@ pub record Under (base n k p : ℕ) (t w : List ℕ) : Type 0 where
   pub room : n + (n + n) ≤ length w
   pub few : n < 65536
   pub inside : p < n
+  pub told : Told n (tableMachine base n k t) (classOf (take n w))
   pub partial : Partial k n (tableMachine base n k t) (take n w) w p
 
 -- r is the leader that p goes with: an earlier one, or p itself where the round keeps no earlier leader together with p

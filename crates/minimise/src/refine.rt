@@ -8,22 +8,21 @@ use crate::entries::target;
 ghost use mathlib.Core.Path.{_≡_};
 ghost use Prim.Native.Nat.{ℕ, _+_, _≤_, _<_};
 ghost use lib.ListN.{length, getD, take};
+ghost use Rattle.automata.specs.Machine.{automaton};
 ghost use Rattle.automata.specs.Refinement.{SameSignature};
 ghost use Rattle.automata.specs.Partition.{classes};
 ghost use Rattle.automata.specs.Table.{tableMachine, ClosedTable};
 ghost use Rattle.minimise.specs.Refine.{Says, classOf, next, FirstOther, sideOf, Parted, Sized, Begun, Under, Leads, Placing, Rounded};
 
-// Whether a round sees the same of states p and q: both accept or neither, and each column leads to one class.
+// Whether a round sees the same of states p and q, of which both accept or neither: each column leads to one class.
 fn alike(table: &[u16], base: usize, n: usize, k: usize, work: &[u16], p: usize, q: usize) -> bool
     requires { ⌜ ClosedTable base n k (now table) ⌝ }
     requires { ⌜ n ≤ length (now work) ⌝ }
     requires { ⌜ p < n ⌝ }
     requires { ⌜ q < n ⌝ }
+    requires { ⌜ automaton (tableMachine base n k (now table)) .accepting p ≡ automaton (tableMachine base n k (now table)) .accepting q ⌝ }
     ensures { λ r. ⌜ Says r (SameSignature k (tableMachine base n k (now (table .entry))) (classOf (take n (now (work .entry)))) p q) ⌝ }
 {
-    if flag(table, p) != flag(table, q) {
-        return false;
-    }
     let mut c = 0;
     while c < k {
         let s = target(table, base, n, k, p, c);
