@@ -16,6 +16,10 @@ Compiled product_compile(const Text *text, uint8_t *card) {
 
 Compiled twin_compile(const Text *text, uint8_t *card) { return plain_compile(text->text, text->length, card, CARD); }
 
+#ifdef WITH_SECOND
+Compiled second_twin(const Text *text, uint8_t *card) { return second_compile(text->text, text->length, card, CARD); }
+#endif
+
 // Old contents alter nothing; this makes sure that they are not all zero.
 void spoil_buffers(void) {
     uint8_t *byte[] = {low, high, registers, stack, rows, code, (uint8_t *)table, (uint8_t *)work};
@@ -24,15 +28,23 @@ void spoil_buffers(void) {
         for (size_t i = 0; i < length[b]; i++) byte[b][i] = (uint8_t)(i * 37 + 11);
 }
 
-static int same(const Text *text) {
+static int same_as(const Text *text, Compiled (*other)(const Text *, uint8_t *)) {
     uint8_t x[CARD], y[CARD];
     memset(x, 0xA5, sizeof x);
     memset(y, 0xA5, sizeof y);
-    Compiled p = product_compile(text, x), c = twin_compile(text, y);
+    Compiled p = product_compile(text, x), c = other(text, y);
     int equal = p.number == c.number && p.line == c.line && p.length == c.length && p.peak == c.peak && memcmp(x, y, CARD) == 0;
     if (!equal)
         printf("differs: %s: product %d line %d, %zu bytes, peak %d; C %d line %d, %zu bytes, peak %d\n", text->name, p.number, p.line, p.length, p.peak,
                c.number, c.line, c.length, c.peak);
+    return equal;
+}
+
+static int same(const Text *text) {
+    int equal = same_as(text, twin_compile);
+#ifdef WITH_SECOND
+    equal &= same_as(text, second_twin);
+#endif
     return equal;
 }
 

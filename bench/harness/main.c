@@ -38,6 +38,17 @@ static int loop(const char *folder, const char *name, const char *who) {
     return 0;
 }
 
+// The states from which a plan may still be allowed; other tools keep no others. One at least.
+static int live(const char *folder, const char *name) {
+    Texts t = find_text(folder, name);
+    static uint8_t card[CARD];
+    int states = 0;
+    if (!t.count || twin_compile(t.text, card).number) return 1;
+    for (int p = 0; p < card[6]; p++) states += card[12 + card[2] + p] != 2;
+    printf("%d\n", states ? states : 1);
+    return 0;
+}
+
 int main(int argc, char **argv) {
     if (argc < 3) return 2;
     double seconds = argc > 3 ? atof(argv[3]) : 1;
@@ -45,6 +56,10 @@ int main(int argc, char **argv) {
     if (!strcmp(argv[1], "check")) return check(argv[2]);
     if (!strcmp(argv[1], "compile")) return compile_all(argv[2], seconds);
     if (!strcmp(argv[1], "board")) return board_both(argv[2], seconds) != 0;
+    if (!strcmp(argv[1], "stages")) return stage_times(seconds), 0;
+    if (!strcmp(argv[1], "growth") && argc > 4) return growth(argv[2], seconds, argv[4]);
+    if (!strcmp(argv[1], "memory")) return memory(argv[2]), 0;
+    if (!strcmp(argv[1], "live") && argc > 3) return live(argv[2], argv[3]);
     if (!strcmp(argv[1], "loop") && argc > 3) return loop(argv[2], argv[3], argc > 4 ? argv[4] : "product");
     if (!strcmp(argv[1], "one") && argc > 3) {
         Texts t = find_text(argv[2], argv[3]);

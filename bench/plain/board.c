@@ -74,29 +74,36 @@ static int marked(const Card *c) {
     return 1;
 }
 
-// Splits classes by a key of each state. Classes are numbered 0, 1, .. as met; a cell per class and key finds the new one.
-static int split(int n, uint8_t *class, const uint8_t *key, int keys) {
-    static _Thread_local uint8_t cell[MOST_STATES * MOST_STATES];
-    uint8_t fresh[MOST_STATES];
+// Splits classes by a key of each state. A class goes by its least state; the classes that one falls into are linked, least states first.
+static int split(int n, const uint8_t *class, const uint8_t *key, uint8_t *fresh) {
+    uint8_t link[MOST_STATES];
     int count = 0;
-    for (int p = 0; p < n; p++) cell[class[p] * keys + key[p]] = 255;
+    memset(link, 0, (size_t)n);
     for (int p = 0; p < n; p++) {
-        uint8_t *to = &cell[class[p] * keys + key[p]];
-        if (*to == 255) *to = (uint8_t)count++;
-        fresh[p] = *to;
+        int r = class[p];
+        while (key[r] != key[p] && link[r]) r = link[r];
+        if (key[r] == key[p] && r != p) {
+            fresh[p] = (uint8_t)r;
+            continue;
+        }
+        if (r != p) link[r] = (uint8_t)p;
+        fresh[p] = (uint8_t)p;
+        count++;
     }
-    memcpy(class, fresh, (size_t)n);
     return count;
 }
 
 // Partition refinement, one column at a time, each as long as it splits, until every state is alone or no column splits.
 static int reduced(const Card *c) {
-    uint8_t class[MOST_STATES] = {0}, key[MOST_STATES];
+    uint8_t one[MOST_STATES] = {0}, two[MOST_STATES], key[MOST_STATES], *class = one, *fresh = two;
     for (int p = 0; p < c->n; p++) key[p] = c->marks[p] == 1;
-    int count = split(c->n, class, key, 2);
+    int count = split(c->n, class, key, fresh);
+    class = two, fresh = one;
     for (int i = 0, idle = 0; count < c->n && idle < c->m;) {
         for (int p = 0; p < c->n; p++) key[p] = class[c->moves[p * c->m + i]];
-        int parts = split(c->n, class, key, count);
+        int parts = split(c->n, class, key, fresh);
+        uint8_t *swap = class;
+        class = fresh, fresh = swap;
         if (parts == count) {
             idle++;
             i = i + 1 == c->m ? 0 : i + 1;

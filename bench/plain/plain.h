@@ -5,6 +5,18 @@
 #include <stddef.h>
 #include <stdint.h>
 
+// Built a second time by another compiler, its names begin with second_.
+#ifdef SECOND
+#define plain_compile second_compile
+#define plain_stage second_stage
+#define plain_minimise second_minimise
+#define plain_card second_card
+#define plain_read second_read
+#define plain_load second_load
+#define plain_judge second_judge
+#define plain_walk second_walk
+#endif
+
 enum { MOST_TEXT = 16384, MOST_SETS = 512, MOST_STATES = 120, MOST_COLUMNS = 27 };
 
 // A complete deterministic machine over the letters and, as the last column, the mark. Its rows stand k apart, k being the number of columns.
