@@ -57,8 +57,8 @@ Leaves (plus e) = Leaves e
 Leaves (option e) = Leaves e
 Leaves (complement e) = Leaves e
 
--- What a code does to the height of the stack: a leaf, a given machine and a register push; `|`, `&`, `-`, joining, storing and meeting pop one; the
--- others work in place.
+-- What a code does to the height of the stack: a leaf, a given machine and a register push; `|`, `&`, `-`, joining and storing pop one; the others,
+-- meeting the book among them, work in place.
 abbrev pub pushes : ℕ → Bool
 pushes c = (leb 1 (kindOf c) && leb (kindOf c) 4) || (leb 1 c && leb c 4)
 

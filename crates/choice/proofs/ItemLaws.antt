@@ -7,6 +7,7 @@ use lib.ListN.{length, take, drop}
 use Rattle.book.specs.Reader.{got, bad, closed, repeated}
 use Rattle.book.specs.Text.{tokens}
 use Rattle.choice.specs.Token.{At, kindAhead}
+use Rattle.choice.specs.BufferLaws.{grown-more}
 use Rattle.choice.specs.Reading.{a-choice, an-item, an-atom, left, Reads}
 use Rattle.choice.specs.ReadingLaws.{read-to, read-not}
 use Rattle.choice.specs.Steps.{Put, Suffixed, complements, Nots, Negated}
@@ -22,7 +23,14 @@ use Rattle.choice.proofs.StepLaws.{same-left, negated-got, negated-bad}
 
 module _ {s o o₁ : List ℕ} {c : Spot} {n k : ℕ} {a : Made} (x : Nots s (c .at) n k) (d : Reads an-atom s o (record { at = n; pos = c .pos }) o₁ a) where
   pub item-refused : a ≡ Refused → Reads an-item s o c o₁ Refused
-  item-refused q = record { says = rw negated-bad at (x .passed .goes bad (seq (λ f. repeated) (read-not d q) (item-atom _ (x .none)) (omega arith) (λ f h. refl))) }
+  item-refused q =
+      let y = read-not d q in
+      record {
+        says = record {
+          reads = rw negated-bad at (x .passed .goes bad (seq (λ f. repeated) (y .reads) (item-atom _ (x .none)) (omega arith) (λ f h. refl)));
+          before = y .before;
+        };
+      }
 
   pub item-done : {o₂ o′ : List ℕ} {y m r : Spot} → a ≡ Done y → Suffixed s o₁ y o₂ m → Negated o₂ m k o′ r → Reads an-item s o c o′ (Done r)
   item-done {o₂} {o′} {y} {m} {r} q u v =
@@ -34,6 +42,7 @@ module _ {s o o₁ : List ℕ} {c : Spot} {n k : ℕ} {a : Made} (x : Nots s (c 
           expr = complements k (z .expr);
           reads = rw (there, ← negated-got k) (x .passed .goes (got (z .expr) (left s m)) (seq (λ f. repeated) (t .reads) (item-atom _ (x .none)) (omega arith) (λ f h. z .reads)));
           code = v .goes (take (c .pos) o) (z .expr) (z .code-is);
+          grown = grown-more (t .grown) (grown-more (u .grown) (v .grown));
           fewer = omega (arith, ap length there, u .fewer, t .fewer, x .passed .fewer);
           falls = omega (arith, v .at-is, u .falls, t .falls, x .passed .falls);
           room = omega (arith, v .at-is, v .pos-is, u .room, t .room, x .passed .falls);
@@ -51,24 +60,32 @@ atom-put {s} {o} {o′} {c} {r} {k} {b} {n} x h h′ w =
         expr = y .expr;
         reads = rw there (stop (y .reads));
         code = w .code-is ∙ ap (λ (l : List ℕ). take (c .pos) o ++ l) (sym (y .code));
+        grown = w .grown;
         fewer = omega (arith, ap length there, at-fewer x);
         falls = omega (arith, w .at-is, x .falls);
         room = omega (arith, w .at-is, w .pos-is, x .falls);
       };
     }
 
-pub atom-refused : {s o o′ : List ℕ} {c : Spot} (k : ℕ) → k ≡ kindAhead (left s c) → (1 ≤ k → 5 < k) → Reads an-atom s o c o′ Refused
-atom-refused {s} {c = c} k q h = record { says = stop (atom-none (left s c) k q h) }
+pub atom-refused : {s o : List ℕ} {c : Spot} (k : ℕ) → k ≡ kindAhead (left s c) → (1 ≤ k → 5 < k) → Reads an-atom s o c o Refused
+atom-refused {s} {c = c} k q h = record { says = record { reads = stop (atom-none (left s c) k q h); before = refl } }
 
 -- a choice in brackets
 module _ {s o o′ : List ℕ} {c : Spot} {k b n : ℕ} {a : Made} (x : At s (c .at) k b n) (e : k ≡ 5) (d : Reads a-choice s o (record { at = n; pos = c .pos }) o′ a) where
   pub bracket-refused : a ≡ Refused → Reads an-atom s o c o′ Refused
-  bracket-refused q = record { says = seq (λ f. closed) (read-not d q) (atom-bracket x e) (omega (arith, at-fewer x)) (λ f h. refl) }
+  bracket-refused q =
+      let y = read-not d q in
+      record { says = record { reads = seq (λ f. closed) (y .reads) (atom-bracket x e) (omega (arith, at-fewer x)) (λ f h. refl); before = y .before } }
 
   pub bracket-open : {y : Spot} (j : ℕ) → a ≡ Done y → j ≡ kindAhead (left s y) → (j ≡ 13 → ⊥) → Reads an-atom s o c o′ Refused
   bracket-open {y} j q p h =
       let t = read-to d q in
-      record { says = seq (λ f. closed) (t .reads) (atom-bracket x e) (omega (arith, at-fewer x)) (λ f g. closed-not (t .expr) (left s y) j p h) }
+      record {
+        says = record {
+          reads = seq (λ f. closed) (t .reads) (atom-bracket x e) (omega (arith, at-fewer x)) (λ f g. closed-not (t .expr) (left s y) j p h);
+          before = t .grown .before;
+        };
+      }
 
   pub bracket-done : {y : Spot} {j b′ n′ : ℕ} → a ≡ Done y → At s (y .at) j b′ n′ → j ≡ 13 → Reads an-atom s o c o′ (Done (record { at = n′; pos = y .pos }))
   bracket-done q z h =
@@ -78,6 +95,7 @@ module _ {s o o′ : List ℕ} {c : Spot} {k b n : ℕ} {a : Made} (x : At s (c 
           expr = t .expr;
           reads = seq (λ f. closed) (t .reads) (atom-bracket x e) (omega (arith, at-fewer x)) (λ f g. closed-to (t .expr) z h);
           code = t .code;
+          grown = t .grown;
           fewer = omega (arith, at-fewer x, at-fewer z, t .fewer);
           falls = omega (arith, x .falls, z .falls, t .falls);
           room = omega (arith, x .falls, z .falls, t .room);

@@ -1,5 +1,5 @@
 -- Laws of reading with any fuel that is enough: one step of the definitions' reader for one step of the code.
-use mathlib.Core.Path.{_≡_, refl, sym, ap, _∙_}
+use mathlib.Core.Path.{_≡_, refl, sym, ap, _∙_, subst}
 use mathlib.Core.List.{List, [], _∷_, _++_, append-assoc}
 use Prim.Native.Nat.{ℕ, zero, suc, _+_, _*_, _-_, _<_, _≤_}
 use native.Mathlib.Omega.{arith}
@@ -7,6 +7,8 @@ use lib.ListN.{length, take}
 use Rattle.language.specs.Expression.{Expr}
 use Rattle.book.specs.Reader.{Read, got, bad, andThen}
 use Rattle.book.specs.Program.{postfix}
+use Rattle.choice.specs.Buffer.{Grown}
+use Rattle.choice.specs.BufferLaws.{grown-none, grown-before, grown-more}
 use Rattle.choice.specs.Reading.{Part, a-choice, a-blend, a-chain, an-item, an-atom, more-choices, more-blends, more-chains, read, rank, Is, left, To, Reads}
 use Rattle.choice.specs.ReadingLaws.{read-to, read-not}
 use Rattle.choice.specs.Steps.{Put}
@@ -74,6 +76,7 @@ pub record Further (m : Expr → Part) (before : List ℕ) (e : Expr) (ts code u
 -- what a loop over such a row keeps
 pub record Goes (m : Expr → Part) (s o : List ℕ) (c : Spot) (o′ : List ℕ) (n : Spot) : Type 0 where
   pub goes : (before : List ℕ) (e : Expr) → take (c .pos) o ≡ before ++ postfix e → Further m before e (left s c) (take (n .pos) o′) (left s n)
+  pub grown : Grown o (c .pos) o′ (n .pos)
   pub fewer : length (left s n) ≤ length (left s c)
   pub falls : length s - n .at ≤ length s - c .at
   pub room : n .pos + 2 * (length s - n .at) ≤ c .pos + 2 * (length s - c .at)
@@ -82,6 +85,7 @@ pub record Goes (m : Expr → Part) (s o : List ℕ) (c : Spot) (o′ : List ℕ
 pub goes-start : (m : Expr → Part) (s o : List ℕ) (c : Spot) → Goes m s o c o c
 goes-start m s o c = record {
   goes = λ before e q. record { expr = e; code-is = q; goes = λ X i. i };
+  grown = grown-none o (c .pos);
   fewer = omega arith;
   falls = omega arith;
   room = omega arith;
@@ -91,7 +95,9 @@ goes-start m s o c = record {
 module _ {l p : Part} {m : Expr → Part} {r : ℕ} (w : Row l p m r) where
   -- the first part is refused
   pub first-not : {s o o′ : List ℕ} {c : Spot} {a : Made} → Reads p s o c o′ a → a ≡ Refused → Reads l s o c o′ Refused
-  first-not {s} {o} {o′} {c} d q = record { says = seq (λ f e us. read f (m e) us) (read-not d q) (λ f. w .first f _) (omega (arith, w .part-less)) (λ f g. refl) }
+  first-not {s} {o} {o′} {c} d q =
+      let y = read-not d q in
+      record { says = record { reads = seq (λ f e us. read f (m e) us) (y .reads) (λ f. w .first f _) (omega (arith, w .part-less)) (λ f g. refl); before = y .before } }
 
   -- the row ends
   pub row-done : {s o o₁ o′ : List ℕ} {c n : Spot} {x : Spot} {a : Made} → Reads p s o c o₁ a → a ≡ Done x → Goes m s o₁ x o′ n → Stops m (left s n) → Reads l s o c o′ (Done n)
@@ -104,6 +110,7 @@ module _ {l p : Part} {m : Expr → Part} {r : ℕ} (w : Row l p m r) where
           reads = seq (λ f e us. read f (m e) us) (y .reads) (λ f. w .first f _) (omega (arith, w .part-less))
               (λ f h. z .goes (got (z .expr) (left s n)) (stop (λ k. st k (z .expr))) .run f (omega (arith, w .rank-is (y .expr), y .fewer, w .more-less)));
           code = z .code-is;
+          grown = grown-more (y .grown) (g .grown);
           fewer = omega (arith, g .fewer, y .fewer);
           falls = omega (arith, g .falls, y .falls);
           room = omega (arith, g .room, y .room);
@@ -113,13 +120,17 @@ module _ {l p : Part} {m : Expr → Part} {r : ℕ} (w : Row l p m r) where
   -- a later part is refused
   pub row-not : {s o o₁ o′ o″ : List ℕ} {c n : Spot} {x : Spot} {a b : Made} {v : Spot} (op : Expr → Expr → Expr)
       → Reads p s o c o₁ a → a ≡ Done x → Goes m s o₁ x o′ n → Reads p s o′ v o″ b → b ≡ Refused → Turn m p op (left s n) (left s v)
-      → 6 * length (left s v) + rank p < 6 * length (left s n) + r → Reads l s o c o″ Refused
-  row-not {s} {o} {o₁} {o′} {o″} {c} {n} {x} op d q g d′ q′ tu h =
+      → v .pos ≡ n .pos → 6 * length (left s v) + rank p < 6 * length (left s n) + r → Reads l s o c o″ Refused
+  row-not {s} {o} {o₁} {o′} {o″} {c} {n} {x} op d q g d′ q′ tu hv h =
       let y = read-to d q in
+      let y′ = read-not d′ q′ in
       let z = g .goes (take (c .pos) o) (y .expr) (y .code) in
       record {
-        says = seq (λ f e us. read f (m e) us) (y .reads) (λ f. w .first f _) (omega (arith, w .part-less))
-            (λ f h′. z .goes bad (seq (λ f e us. read f (m (op (z .expr) e)) us) (read-not d′ q′) (λ f. tu f (z .expr)) (omega (arith, w .rank-is (z .expr))) (λ f g. refl)) .run f (omega (arith, w .rank-is (y .expr), y .fewer, w .more-less)));
+        says = record {
+          reads = seq (λ f e us. read f (m e) us) (y .reads) (λ f. w .first f _) (omega (arith, w .part-less))
+              (λ f h′. z .goes bad (seq (λ f e us. read f (m (op (z .expr) e)) us) (y′ .reads) (λ f. tu f (z .expr)) (omega (arith, w .rank-is (z .expr))) (λ f g. refl)) .run f (omega (arith, w .rank-is (y .expr), y .fewer, w .more-less)));
+          before = grown-before o″ (grown-more (y .grown) (g .grown)) (subst (λ (i : ℕ). take i o″ ≡ take i o′) hv (y′ .before));
+        };
       }
 
 -- one part more was read and its operator b was written
@@ -132,6 +143,7 @@ goes-turn {l} {p} {m} {r} {s} {o} {o₁} {o′} {o″} {c} {n} {x} {n′} {v} {a
     let there : left s n′ ≡ left s x = ap (λ (i : ℕ). left s (record { at = i; pos = 0 })) (u .at-is) in
     record {
       goes = λ before e q₀. step y there before e (g .goes before e q₀);
+      grown = grown-more (g .grown) (grown-more (subst (λ (i : ℕ). Grown o₁ i o′ (x .pos)) hv (y .grown)) (u .grown));
       fewer = omega (arith, g .fewer, y .fewer, ap length there);
       falls = omega (arith, g .falls, y .falls, u .at-is);
       room = omega (arith, g .room, y .room, u .at-is, u .pos-is);

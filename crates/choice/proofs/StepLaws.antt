@@ -1,5 +1,5 @@
 -- Laws of the small functions below the five: how their loops go on, and what the five make of them.
-use mathlib.Core.Path.{_≡_, refl, sym, ap, _∙_}
+use mathlib.Core.Path.{_≡_, refl, sym, ap, _∙_, subst}
 use mathlib.Core.List.{List, [], _∷_, _++_, append-assoc}
 use Prim.Native.Nat.{ℕ, zero, suc, _+_, _*_, _-_, _<_, _≤_}
 use native.Mathlib.Numerals.{add-one}
@@ -10,6 +10,8 @@ use Rattle.book.specs.Reader.{got, bad, andThen, repeats}
 use Rattle.book.specs.Text.{tokens}
 use Rattle.book.specs.Program.{postfix}
 use Rattle.choice.specs.Token.{At}
+use Rattle.choice.specs.Buffer.{Grown}
+use Rattle.choice.specs.BufferLaws.{grown-none, grown-more}
 use Rattle.choice.specs.Reading.{left}
 use Rattle.choice.specs.Steps.{Put, Suffixed, complements, complemented, negated, Passed, Negated}
 use Rattle.choice.specs.declared.Spot.{Spot}
@@ -36,6 +38,7 @@ pub record Repeats (before : List ℕ) (e : Expr) (ts code us : List ℕ) : Type
 -- what the loop over them keeps
 pub record Suffixing (s o : List ℕ) (c : Spot) (o′ : List ℕ) (n : Spot) : Type 0 where
   pub goes : (before : List ℕ) (e : Expr) → take (c .pos) o ≡ before ++ postfix e → Repeats before e (left s c) (take (n .pos) o′) (left s n)
+  pub grown : Grown o (c .pos) o′ (n .pos)
   pub fewer : length (left s n) ≤ length (left s c)
   pub falls : length s - n .at ≤ length s - c .at
   pub room : n .pos + 2 * (length s - n .at) ≤ c .pos + 2 * (length s - c .at)
@@ -44,6 +47,7 @@ pub record Suffixing (s o : List ℕ) (c : Spot) (o′ : List ℕ) (n : Spot) : 
 pub suffixing-start : (s o : List ℕ) (c : Spot) → Suffixing s o c o c
 suffixing-start s o c = record {
   goes = λ before e q. record { expr = e; goes = refl; code-is = q };
+  grown = grown-none o (c .pos);
   fewer = omega arith;
   falls = omega arith;
   room = omega arith;
@@ -54,6 +58,7 @@ pub suffixing-turn : {s o o₁ o′ : List ℕ} {c n v n′ : Spot} {k b : ℕ} 
 suffixing-turn {s} {o} {o₁} {o′} {c} {n} {v} {n′} {k} {b} g x h h′ w hv ln =
     record {
       goes = λ before e q. step before e (g .goes before e q);
+      grown = grown-more (g .grown) (subst (λ (i : ℕ). Grown o₁ i o′ (n′ .pos)) hv (w .grown));
       fewer = omega (arith, g .fewer, at-fewer x, ap length (same-left s v n′ (w .at-is)));
       falls = omega (arith, g .falls, x .falls, w .at-is);
       room = omega (arith, g .room, x .falls, w .at-is, w .pos-is);
@@ -72,6 +77,7 @@ suffixing-turn {s} {o} {o₁} {o′} {c} {n} {v} {n′} {k} {b} g x h h′ w hv 
 pub suffixing-done : {s o o′ : List ℕ} {c n : Spot} → Suffixing s o c o′ n → ((e : Expr) → repeats (left s n) e ≡ got e (left s n)) → Suffixed s o c o′ n
 suffixing-done g st = record {
   goes = λ before e q. let z = g .goes before e q in record { expr = z .expr; reads = z .goes ∙ st (z .expr); code-is = z .code-is };
+  grown = g .grown;
   fewer = g .fewer;
   falls = g .falls;
   room = g .room;
@@ -103,16 +109,18 @@ pub record Negating (o : List ℕ) (c : Spot) (k : ℕ) (o′ : List ℕ) (n : S
   pub at-is : n .at ≡ c .at
   pub pos-is : n .pos + due ≡ c .pos + k
   pub goes : (before : List ℕ) (e : Expr) → take (c .pos) o ≡ before ++ postfix e → (g : Expr) × (take (n .pos) o′ ≡ before ++ postfix g) × (complements due g ≡ complements k e)
+  pub grown : Grown o (c .pos) o′ (n .pos)
   pub same-length : length o′ ≡ length o
 
 pub negating-start : (o : List ℕ) (c : Spot) (k : ℕ) → Negating o c k o c k
-negating-start o c k = record { at-is = refl; pos-is = refl; goes = λ before e q. (e, q, refl); same-length = refl }
+negating-start o c k = record { at-is = refl; pos-is = refl; goes = λ before e q. (e, q, refl); grown = grown-none o (c .pos); same-length = refl }
 
 pub negating-turn : {o o₁ o′ : List ℕ} {c n n′ : Spot} {k due : ℕ} → Negating o c k o₁ n due → 0 < due → Put o₁ n 33 o′ n′ → length o′ ≡ length o₁ → Negating o c k o′ n′ (due - 1)
 negating-turn {o} {o₁} {o′} {c} {n} {n′} {k} {due} g h w ln = record {
   at-is = w .at-is ∙ g .at-is;
   pos-is = omega (arith, w .pos-is, g .pos-is);
   goes = λ before e q. step before e (g .goes before e q);
+  grown = grown-more (g .grown) (w .grown);
   same-length = ln ∙ g .same-length;
 }
   where
@@ -126,6 +134,7 @@ negating-done {o} {o′} {c} {n} {k} {due} g h = record {
   at-is = g .at-is;
   pos-is = omega (arith, g .pos-is);
   goes = λ before e q. last before e (g .goes before e q);
+  grown = g .grown;
 }
   where
     last : (before : List ℕ) (e : Expr) → (g : Expr) × (take (n .pos) o′ ≡ before ++ postfix g) × (complements due g ≡ complements k e) → take (n .pos) o′ ≡ before ++ postfix (complements k e)

@@ -7,6 +7,7 @@ use Rattle.language.specs.Expression.{Expr}
 use Rattle.book.specs.Reader.{Read, got, bad, choice, choices, blend, blends, chain, chains, item, atom}
 use Rattle.book.specs.Text.{tokens}
 use Rattle.book.specs.Program.{postfix}
+use Rattle.choice.specs.Buffer.{Grown}
 use Rattle.choice.specs.declared.Spot.{Spot}
 use Rattle.choice.specs.declared.Made.{Made}
 use Rattle.choice.specs.declared.Made.the-variants.{Done, Refused}
@@ -49,19 +50,25 @@ left s c = tokens (drop (c .at) s)
 abbrev pub Room : List ℕ → List ℕ → Spot → Type 0
 Room s o c = c .pos + 2 * (length s - c .at) ≤ length o
 
--- The part p was read from c up to n; the code, of which the buffer o held what lies before c, goes on with that of the expression. Of the line's
--- bytes at least one is used, and of the two bytes of code that each of them may have at least one is not.
+-- The part p was read from c up to n; the code, of which the buffer o held what lies before c, goes on with that of the expression; what lies past
+-- it is as it was. Of the line's bytes at least one is used, and of the two bytes of code that each of them may have at least one is not.
 pub record To (p : Part) (s o : List ℕ) (c : Spot) (o′ : List ℕ) (n : Spot) : Type 0 where
   pub expr : Expr
   pub reads : Is p (left s c) (got expr (left s n))
   pub code : take (n .pos) o′ ≡ take (c .pos) o ++ postfix expr
+  pub grown : Grown o (c .pos) o′ (n .pos)
   pub fewer : length (left s n) < length (left s c)
   pub falls : length s - n .at < length s - c .at
   pub room : n .pos + 2 * (length s - n .at) < c .pos + 2 * (length s - c .at)
 
+-- There is no p at c; the code so far is as it was.
+pub record Not (p : Part) (s o : List ℕ) (c : Spot) (o′ : List ℕ) : Type 0 where
+  pub reads : Is p (left s c) bad
+  pub before : take (c .pos) o′ ≡ take (c .pos) o
+
 abbrev pub Says : Part → List ℕ → List ℕ → Spot → List ℕ → Made → Type 0
 Says p s o c o′ (Done n) = To p s o c o′ n
-Says p s o c o′ Refused = Is p (left s c) bad
+Says p s o c o′ Refused = Not p s o c o′
 
 pub record Reads (p : Part) (s o : List ℕ) (c : Spot) (o′ : List ℕ) (r : Made) : Type 0 where
   pub says : Says p s o c o′ r

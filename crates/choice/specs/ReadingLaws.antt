@@ -5,7 +5,7 @@ use Prim.Native.Nat.{ℕ, _+_, _*_}
 use native.Mathlib.Nat.{le-refl}
 use lib.ListN.{length}
 use Rattle.book.specs.Reader.{got, bad, readChoice}
-use Rattle.choice.specs.Reading.{Part, a-choice, left, Is, To, Reads}
+use Rattle.choice.specs.Reading.{Part, a-choice, left, To, Not, Reads}
 use Rattle.choice.specs.declared.Spot.{Spot}
 use Rattle.choice.specs.declared.Made.{Made}
 use Rattle.choice.specs.declared.Made.the-variants.{Done, Refused}
@@ -14,7 +14,7 @@ module _ {p : Part} {s o : List ℕ} {c : Spot} {o′ : List ℕ} {r : Made} (d 
   pub read-to : {n : Spot} → r ≡ Done n → To p s o c o′ n
   read-to e = rw e at (d .says)
 
-  pub read-not : r ≡ Refused → Is p (left s c) bad
+  pub read-not : r ≡ Refused → Not p s o c o′
   read-not e = rw e at (d .says)
 
 -- "A choice is blends separated by `|`": what was read
@@ -22,4 +22,4 @@ pub choice-got : {s o : List ℕ} {c : Spot} {o′ : List ℕ} {n : Spot} (t : T
 choice-got {s} {o} {c} t = t .reads .run (6 * length (left s c) + 5) (le-refl (6 * length (left s c) + 5))
 
 pub choice-bad : {s o : List ℕ} {c : Spot} {o′ : List ℕ} {r : Made} → Reads a-choice s o c o′ r → r ≡ Refused → readChoice (left s c) ≡ bad
-choice-bad {s} {o} {c} d e = read-not d e .run (6 * length (left s c) + 5) (le-refl (6 * length (left s c) + 5))
+choice-bad {s} {o} {c} d e = read-not d e .reads .run (6 * length (left s c) + 5) (le-refl (6 * length (left s c) + 5))

@@ -8,6 +8,7 @@ use Rattle.book.specs.Reader.{Read, got, andThen, repeats}
 use Rattle.book.specs.Text.{tokens}
 use Rattle.book.specs.Program.{postfix}
 use Rattle.choice.specs.Token.{kindAhead}
+use Rattle.choice.specs.Buffer.{Grown}
 use Rattle.choice.specs.Reading.{Is, an-item, left}
 use Rattle.choice.specs.declared.Spot.{Spot}
 
@@ -16,6 +17,7 @@ pub record Put (o : List ℕ) (c : Spot) (b : ℕ) (o′ : List ℕ) (n : Spot) 
   pub at-is : n .at ≡ c .at
   pub pos-is : n .pos ≡ c .pos + 1
   pub code-is : take (n .pos) o′ ≡ take (c .pos) o ++ (b ∷ [])
+  pub grown : Grown o (c .pos) o′ (n .pos)
 
 -- The buffer's code goes on from e, behind any other code, to the expression `expr`: that of e with the signs that stand at ts, up to us.
 pub record Repeated (before : List ℕ) (e : Expr) (ts code us : List ℕ) : Type 0 where
@@ -25,6 +27,7 @@ pub record Repeated (before : List ℕ) (e : Expr) (ts code us : List ℕ) : Typ
 
 pub record Suffixed (s o : List ℕ) (c : Spot) (o′ : List ℕ) (n : Spot) : Type 0 where
   pub goes : (before : List ℕ) (e : Expr) → take (c .pos) o ≡ before ++ postfix e → Repeated before e (left s c) (take (n .pos) o′) (left s n)
+  pub grown : Grown o (c .pos) o′ (n .pos)
   pub fewer : length (left s n) ≤ length (left s c)
   pub falls : length s - n .at ≤ length s - c .at
   pub room : n .pos + 2 * (length s - n .at) ≤ c .pos + 2 * (length s - c .at)
@@ -56,3 +59,4 @@ pub record Negated (o : List ℕ) (c : Spot) (k : ℕ) (o′ : List ℕ) (n : Sp
   pub at-is : n .at ≡ c .at
   pub pos-is : n .pos ≡ c .pos + k
   pub goes : (before : List ℕ) (e : Expr) → take (c .pos) o ≡ before ++ postfix e → take (n .pos) o′ ≡ before ++ postfix (complements k e)
+  pub grown : Grown o (c .pos) o′ (n .pos)

@@ -138,7 +138,7 @@ known-form ls names l F e = subst Known e (line-elim ls names l Known (λ r. tt)
     Known (stops r) = Unit {0}
 
 -- a line that was read, as its program
-pub written-program : (l : Line) (ls : List ℕ) (b : Book) (o : List ℕ) (len : ℕ) (F : Form) (d : Draft) → Holds (b .names) (namesOf (d .env)) → answers.Written l ls (b .names) o len F
+pub written-program : {o₀ : List ℕ} (l : Line) (ls : List ℕ) (b : Book) (o : List ℕ) (len : ℕ) (F : Form) (d : Draft) → Holds (b .names) (namesOf (d .env)) → answers.Written l ls (b .names) o₀ o len F
     → Program ls (namesOf (d .env)) len o F
 written-program l ls b o len F d H W = record {
   code = W .code;
@@ -147,18 +147,18 @@ written-program l ls b o len F d H W = record {
   known = known-form ls (namesOf (d .env)) l F (W .reads-as .is (namesOf (d .env)) H);
 }
 
-module _ (text ls : List ℕ) (b : Book) (o : List ℕ) (a : LineAnswer) (R : ReadsNext text (b .at) ls (b .names) o a) where
+module _ (text ls : List ℕ) (b : Book) {o₀ : List ℕ} (o : List ℕ) (a : LineAnswer) (R : ReadsNext text (b .at) ls (b .names) o₀ o a) where
   abbrev line : Line
   line = lineAt text (b .at) (R .end)
 
-  pub named : (x len next : ℕ) → a ≡ lineAnswer.the-variants.Define x len next → WrittenName line ls (b .names) o x len × (next ≡ suc (R .end))
-  named x len next e = subst (answers.NextSays line (R .end) ls (b .names) o) e (R .says)
+  pub named : (x len next : ℕ) → a ≡ lineAnswer.the-variants.Define x len next → WrittenName line ls (b .names) o₀ o x len × (next ≡ suc (R .end))
+  named x len next e = subst (answers.NextSays line (R .end) ls (b .names) o₀ o) e (R .says)
 
-  pub ruled : (len next : ℕ) → a ≡ lineAnswer.the-variants.Rule len next → WrittenRule line ls (b .names) o len × (next ≡ suc (R .end))
-  ruled len next e = subst (answers.NextSays line (R .end) ls (b .names) o) e (R .says)
+  pub ruled : (len next : ℕ) → a ≡ lineAnswer.the-variants.Rule len next → WrittenRule line ls (b .names) o₀ o len × (next ≡ suc (R .end))
+  ruled len next e = subst (answers.NextSays line (R .end) ls (b .names) o₀ o) e (R .says)
 
   -- a form compiled is its line compiled
-  goes : (F : Form) (d : Draft) (next len : ℕ) (low high registers low′ high′ registers′ : List ℕ) (v : Bool) (r : Next) → answers.Written line ls (b .names) o len F → next ≡ suc (R .end)
+  goes : (F : Form) (d : Draft) (next len : ℕ) (low high registers low′ high′ registers′ : List ℕ) (v : Bool) (r : Next) → answers.Written line ls (b .names) o₀ o len F → next ≡ suc (R .end)
       → Drafted ls d b low high registers → FormSays ls d F b next low′ high′ registers′ v r → LineSays text ls d b (R .end) low′ high′ registers′ v r
   unfolding compileLine
   goes F d next len low high registers low′ high′ registers′ true r W n D (d′, q, D′, at, ln) =
@@ -195,7 +195,7 @@ module _ (text ls : List ℕ) (b : Book) (o : List ℕ) (a : LineAnswer) (R : Re
     end = R .end;
     ends = R .ends;
     says = λ d D.
-        let w : Reads line ls (b .names) (stops k) = subst (answers.NextSays line (R .end) ls (b .names) o) e (R .says) in
+        let w : Reads line ls (b .names) (stops k) = subst (answers.NextSays line (R .end) ls (b .names) o₀ o) e (R .says) in
         subst (λ v. LineSays text ls d b (R .end) low′ high′ registers′ v n) (sym t)
         (ap (λ x. afterRead x (compileForm narrow ls d)) (w .is (namesOf (d .env)) (D .names)) ∙ ap off (sym z));
   }

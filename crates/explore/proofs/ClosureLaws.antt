@@ -7,29 +7,24 @@ use Prim.Native.Nat.{ℕ, zero, suc, _+_, _-_, _≤_, _<_, suc-le-suc}
 use native.Mathlib.Nat.{le-refl, not-suc-le-zero, le-of-suc-le-suc}
 use native.Mathlib.Omega.{arith}
 use lib.Dec.{eqb}
-use lib.ListN.{length, getD, set, length-set}
+use lib.ListN.{length, getD, set, replicate, length-set, length-replicate}
 use lib.Seq.{getD-set-same, getD-set-other}
-use borrow.Author.Tests.{eq-eqb}
+use borrow.Author.Tests.{eq-eqb, ne-eqb}
 use Rattle.automata.specs.Booleans.{choose, bool-cases, bool-iff, and-left, and-right, and-both}
 use Rattle.automata.specs.Basics.{SameCases, same-cases, nat-test, LtCases, lt-cases, Inj, pigeonhole}
 use Rattle.automata.specs.Decide.{anyBelow, any-below, below-any}
 use Rattle.automata.specs.Machine.{automaton}
 use Rattle.automata.specs.Table.{ClosedTable, tableMachine, table-step, flagOf}
-use Rattle.explore.specs.Rows.{bit, flagAt, flagRow, marks, gained}
+use Rattle.explore.specs.Rows.{bit, flagAt, flagRow, leadsTo, marks, gained}
 use Rattle.explore.specs.Steps.{cell}
-use Rattle.explore.specs.Closure.{times, unset, Bits, Chased, Gains}
-use Rattle.explore.proofs.FlagLaws.{Flags, flags-row, row-flags, flags-at}
+use Rattle.explore.specs.Closure.{times, unset, Bits, Closed, Chased, Gains}
+use Rattle.explore.proofs.FlagLaws.{flags-row, flag-clear, any-next}
 
 -- ---- steps
 
 times-next : (f : ℕ → ℕ) (i q : ℕ) → times f i (f q) ≡ f (times f i q)
 times-next f zero q = refl
 times-next f (suc i) q = times-next f i (f q)
-
--- i steps and then j are some number of steps
-times-on : (f : ℕ → ℕ) (i j q : ℕ) → (l : ℕ) × (times f l q ≡ times f j (times f i q))
-times-on f zero j q = (j, refl)
-times-on f (suc i) j q = let (l, e) = times-on f i j (f q) in (suc l, e)
 
 times-sum : (f : ℕ → ℕ) (i j q : ℕ) → times f j (times f i q) ≡ times f (i + j) q
 times-sum f zero j q = let z : zero + j ≡ j = omega arith in rw z
@@ -121,25 +116,25 @@ module _ (l : List ℕ) (q : ℕ) (h : q < length l) where
 
 -- ---- on the way along the marks
 
--- q is reached from p, and the flags set besides lead to flags or to q.
+-- q is reached from p, and where the row was closed, its flags lead to flags or to q.
 pub record Chasing (next : ℕ → ℕ) (n p : ℕ) (row row′ : List ℕ) (q : ℕ) : Type 0 where
   pub long : length row′ ≡ n
   pub keeps : (x : ℕ) → flagAt row x ≡ true → flagAt row′ x ≡ true
   pub within : q < n
-  pub way : (i : ℕ) × (times next i (next p) ≡ q)
-  pub first : (flagAt row′ (next p) ≡ true) ⊎ (next p ≡ q)
-  pub grows : (x : ℕ) → flagAt row′ x ≡ true → (flagAt row x ≡ true) ⊎ ((flagAt row′ (next x) ≡ true) ⊎ (next x ≡ q))
-  pub sound : (x : ℕ) → flagAt row′ x ≡ true → (flagAt row x ≡ true) ⊎ ((i : ℕ) × (times next i (next p) ≡ x))
+  pub way : (i : ℕ) × (times next i p ≡ q)
+  pub first : (flagAt row′ p ≡ true) ⊎ (p ≡ q)
+  pub closed : Closed next row → (x : ℕ) → flagAt row′ x ≡ true → (flagAt row′ (next x) ≡ true) ⊎ (next x ≡ q)
+  pub sound : (x : ℕ) → flagAt row′ x ≡ true → (flagAt row x ≡ true) ⊎ ((i : ℕ) × (times next i p ≡ x))
   pub bits : Bits row → Bits row′
 
-pub chase-start : (next : ℕ → ℕ) (n p : ℕ) (row : List ℕ) (q : ℕ) → q ≡ next p → length row ≡ n → q < n → Chasing next n p row row q
-chase-start next n p row q e l h = record {
+pub chase-start : (next : ℕ → ℕ) (n p : ℕ) (row : List ℕ) → length row ≡ n → p < n → Chasing next n p row row p
+chase-start next n p row l h = record {
   long = l;
   keeps = λ x f. f;
   within = h;
-  way = (zero, sym e);
-  first = inr (sym e);
-  grows = λ x f. inl f;
+  way = (zero, refl);
+  first = inr refl;
+  closed = λ C x f. inl (C x f);
   sound = λ x f. inl f;
   bits = λ b. b;
 }
@@ -149,9 +144,9 @@ chase-more {next} {n} {p} {row} {row′} {q} C q′ e b = record {
   long = length-set row′ q 1 ∙ C .long;
   keeps = λ x f. keep row′ q h x (C .keeps x f);
   within = b;
-  way = (suc (C .way .0), times-next next (C .way .0) (next p) ∙ ap next (C .way .1) ∙ sym e);
+  way = (suc (C .way .0), times-next next (C .way .0) p ∙ ap next (C .way .1) ∙ sym e);
   first = inl (first (C .first));
-  grows = λ x f. from x (source row′ q h x f);
+  closed = λ K x f. from K x (source row′ q h x f);
   sound = λ x f. root x (source row′ q h x f);
   bits = λ v. bits-set row′ q h (C .bits v);
 }
@@ -159,20 +154,19 @@ chase-more {next} {n} {p} {row} {row′} {q} C q′ e b = record {
     h : q < length row′
     h = omega (arith, C .long, C .within)
 
-    first : (flagAt row′ (next p) ≡ true) ⊎ (next p ≡ q) → flagAt (set row′ q 1) (next p) ≡ true
-    first (inl f) = keep row′ q h (next p) f
+    first : (flagAt row′ p ≡ true) ⊎ (p ≡ q) → flagAt (set row′ q 1) p ≡ true
+    first (inl f) = keep row′ q h p f
     first (inr z) = rw z (here row′ q h)
 
-    old : (x : ℕ) → (flagAt row x ≡ true) ⊎ ((flagAt row′ (next x) ≡ true) ⊎ (next x ≡ q)) → (flagAt row x ≡ true) ⊎ ((flagAt (set row′ q 1) (next x) ≡ true) ⊎ (next x ≡ q′))
-    old x (inl f) = inl f
-    old x (inr (inl f)) = inr (inl (keep row′ q h (next x) f))
-    old x (inr (inr z)) = inr (inl (rw z (here row′ q h)))
+    old : (x : ℕ) → (flagAt row′ (next x) ≡ true) ⊎ (next x ≡ q) → flagAt (set row′ q 1) (next x) ≡ true
+    old x (inl f) = keep row′ q h (next x) f
+    old x (inr z) = rw z (here row′ q h)
 
-    from : (x : ℕ) → (x ≡ q) ⊎ (flagAt row′ x ≡ true) → (flagAt row x ≡ true) ⊎ ((flagAt (set row′ q 1) (next x) ≡ true) ⊎ (next x ≡ q′))
-    from x (inl z) = inr (inr (ap next z ∙ sym e))
-    from x (inr f) = old x (C .grows x f)
+    from : Closed next row → (x : ℕ) → (x ≡ q) ⊎ (flagAt row′ x ≡ true) → (flagAt (set row′ q 1) (next x) ≡ true) ⊎ (next x ≡ q′)
+    from K x (inl z) = inr (ap next z ∙ sym e)
+    from K x (inr f) = inl (old x (C .closed K x f))
 
-    root : (x : ℕ) → (x ≡ q) ⊎ (flagAt row′ x ≡ true) → (flagAt row x ≡ true) ⊎ ((i : ℕ) × (times next i (next p) ≡ x))
+    root : (x : ℕ) → (x ≡ q) ⊎ (flagAt row′ x ≡ true) → (flagAt row x ≡ true) ⊎ ((i : ℕ) × (times next i p ≡ x))
     root x (inl z) = inr (C .way .0, C .way .1 ∙ sym z)
     root x (inr f) = C .sound x f
 
@@ -180,84 +174,100 @@ pub chase-end : {next : ℕ → ℕ} {n p : ℕ} {row row′ : List ℕ} {q : �
 chase-end {next} {n} {p} {row} {row′} {q} C e = record {
   long = C .long;
   keeps = C .keeps;
-  first = first (C .first);
-  grows = λ x f. old x (C .grows x f);
+  first = at p (C .first);
+  closed = λ K x f. at (next x) (C .closed K x f);
   sound = C .sound;
   bits = C .bits;
 }
   where
-    first : (flagAt row′ (next p) ≡ true) ⊎ (next p ≡ q) → flagAt row′ (next p) ≡ true
-    first (inl f) = f
-    first (inr z) = rw z e
-
-    old : (x : ℕ) → (flagAt row x ≡ true) ⊎ ((flagAt row′ (next x) ≡ true) ⊎ (next x ≡ q)) → (flagAt row x ≡ true) ⊎ (flagAt row′ (next x) ≡ true)
-    old x (inl f) = inl f
-    old x (inr (inl f)) = inr f
-    old x (inr (inr z)) = inr (rw z e)
+    at : (x : ℕ) → (flagAt row′ x ≡ true) ⊎ (x ≡ q) → flagAt row′ x ≡ true
+    at x (inl f) = f
+    at x (inr z) = rw z e
 
 -- ---- on the way along the members
 
--- The members before p lead to members.
-pub record Closing (next : ℕ → ℕ) (n : ℕ) (row row′ : List ℕ) (p : ℕ) : Type 0 where
-  pub long : length row′ ≡ n
-  pub keeps : (x : ℕ) → flagAt row x ≡ true → flagAt row′ x ≡ true
-  pub closed : (x : ℕ) → flagAt row′ x ≡ true → (p ≤ x) ⊎ (flagAt row′ (next x) ≡ true)
-  pub sound : (x : ℕ) → flagAt row′ x ≡ true → (q : ℕ) × (i : ℕ) × (flagAt row q ≡ true) × (times next i q ≡ x)
-  pub bits : Bits row → Bits row′
-
-pub close-start : (next : ℕ → ℕ) (n : ℕ) (row : List ℕ) → length row ≡ n → Closing next n row row 0
-close-start next n row l = record { long = l; keeps = λ x f. f; closed = λ x f. inl (omega arith); sound = λ x f. (x, zero, f, refl); bits = λ b. b }
-
-pub close-out : {next : ℕ → ℕ} {n : ℕ} {row row′ : List ℕ} {p : ℕ} → Closing next n row row′ p → flagAt row′ p ≡ false → Closing next n row row′ (p + 1)
-close-out {next} {n} {row} {row′} {p} C e = record { long = C .long; keeps = C .keeps; closed = λ x f. go x f (C .closed x f); sound = C .sound; bits = C .bits }
-  where
-    go : (x : ℕ) → flagAt row′ x ≡ true → (p ≤ x) ⊎ (flagAt row′ (next x) ≡ true) → (p + 1 ≤ x) ⊎ (flagAt row′ (next x) ≡ true)
-    go x f (inr g) = inr g
-    go x f (inl h) = at (same-cases nat-test x p)
-      where
-        at : SameCases nat-test x p → (p + 1 ≤ x) ⊎ (flagAt row′ (next x) ≡ true)
-        at (inl z) = absurd (false≢true (sym e ∙ ap (flagAt row′) (sym (z .0)) ∙ f))
-        at (inr z) = inl (let o : x ≡ p → ⊥ = z .0 in omega (arith, o))
-
-pub close-in : {next : ℕ → ℕ} {n : ℕ} {row row′ row″ : List ℕ} {p : ℕ} → Closing next n row row′ p → flagAt row′ p ≡ true → Chased next n p row′ row″ → Closing next n row row″ (p + 1)
-close-in {next} {n} {row} {row′} {row″} {p} C e D = record {
-  long = D .long;
-  keeps = λ x f. D .keeps x (C .keeps x f);
-  closed = λ x f. go x (D .grows x f);
-  sound = λ x f. root x (D .sound x f);
-  bits = λ b. D .bits (C .bits b);
+-- no flag is set
+pub gain-none : (next : ℕ → ℕ) (n : ℕ) (row : List ℕ) → row ≡ replicate n 0 → Gains next n (λ t. false) row
+gain-none next n row e = record {
+  long = ap length e ∙ length-replicate n 0;
+  keeps = λ x f. absurd (false≢true f);
+  closed = λ x f. absurd (none x f);
+  sound = λ x f. absurd (none x f);
+  bits = λ x. rw (blank x);
 }
   where
-    old : (x : ℕ) → (p ≤ x) ⊎ (flagAt row′ (next x) ≡ true) → (p + 1 ≤ x) ⊎ (flagAt row″ (next x) ≡ true)
-    old x (inr g) = inr (D .keeps (next x) g)
-    old x (inl h) = at (same-cases nat-test x p)
-      where
-        at : SameCases nat-test x p → (p + 1 ≤ x) ⊎ (flagAt row″ (next x) ≡ true)
-        at (inl z) = inr (rw (z .0) (D .first))
-        at (inr z) = inl (let o : x ≡ p → ⊥ = z .0 in omega (arith, o))
+    all : (m x y : ℕ) → getD (replicate m y) x y ≡ y
+    all zero x y = refl
+    all (suc m) zero y = refl
+    all (suc m) (suc x) y = all m x y
 
-    go : (x : ℕ) → (flagAt row′ x ≡ true) ⊎ (flagAt row″ (next x) ≡ true) → (p + 1 ≤ x) ⊎ (flagAt row″ (next x) ≡ true)
-    go x (inl f) = old x (C .closed x f)
-    go x (inr f) = inr f
+    blank : (x : ℕ) → getD row x 0 ≡ 0
+    blank x = ap (λ (l : List ℕ). getD l x 0) e ∙ all n x 0
 
-    root : (x : ℕ) → (flagAt row′ x ≡ true) ⊎ ((i : ℕ) × (times next i (next p) ≡ x)) → (q : ℕ) × (i : ℕ) × (flagAt row q ≡ true) × (times next i q ≡ x)
-    root x (inl f) = C .sound x f
-    root x (inr (i, z)) =
-        let (q, j, f, g) = C .sound p e in
-        let (l, y) = times-on next j (suc i) q in
-        (q, l, f, y ∙ ap (times next (suc i)) g ∙ z)
+    none : (x : ℕ) → flagAt row x ≡ true → ⊥
+    none x f = false≢true (sym (flag-clear row x (blank x)) ∙ f)
+
+-- the same members by another test
+pub gain-same : {next : ℕ → ℕ} {n : ℕ} {f g : ℕ → Bool} {row : List ℕ} → Gains next n f row → ((x : ℕ) → f x ≡ g x) → Gains next n g row
+gain-same {next} {n} {f} {g} {row} G same = record { long = G .long; keeps = λ x e. G .keeps x (same x ∙ e); closed = G .closed; sound = λ x e. root x (G .sound x e); bits = G .bits }
+  where
+    root : (x : ℕ) → (q : ℕ) × (i : ℕ) × (f q ≡ true) × (times next i q ≡ x) → (q : ℕ) × (i : ℕ) × (g q ≡ true) × (times next i q ≡ x)
+    root x (q, i, m, y) = (q, i, sym (same q) ∙ m, y)
+
+-- p is one member more
+gain-more : {next : ℕ → ℕ} {n p : ℕ} {f g : ℕ → Bool} {row row′ : List ℕ} → Gains next n f row → Chased next n p row row′ → ((x : ℕ) → g x ≡ true → (f x ≡ true) ⊎ (x ≡ p))
+    → ((x : ℕ) → f x ≡ true → g x ≡ true) → g p ≡ true → Gains next n g row′
+gain-more {next} {n} {p} {f} {g} {row} {row′} G C only also here = record {
+  long = C .long;
+  keeps = λ x e. keeps x (only x e);
+  closed = C .closed (G .closed);
+  sound = λ x e. root x (C .sound x e);
+  bits = C .bits (G .bits);
+}
+  where
+    keeps : (x : ℕ) → (f x ≡ true) ⊎ (x ≡ p) → flagAt row′ x ≡ true
+    keeps x (inl e) = C .keeps x (G .keeps x e)
+    keeps x (inr z) = rw z (C .first)
+
+    root : (x : ℕ) → (flagAt row x ≡ true) ⊎ ((i : ℕ) × (times next i p ≡ x)) → (q : ℕ) × (i : ℕ) × (g q ≡ true) × (times next i q ≡ x)
+    root x (inl e) = let (q, i, m, y) = G .sound x e in (q, i, also q m, y)
+    root x (inr (i, y)) = (p, i, here, y)
+
+-- p is the one member
+pub gain-one : {next : ℕ → ℕ} {n p : ℕ} {row row′ : List ℕ} → row ≡ replicate n 0 → Chased next n p row row′ → Gains next n (λ t. eqb t p) row′
+gain-one {next} {n} {p} {row} {row′} e C =
+    gain-more {f = λ t. false} {g = λ t. eqb t p} (gain-none next n row e) C (λ x z. inr (nat-test .sound x p z)) (λ x z. absurd (false≢true z)) (eq-eqb p p refl)
+
+module _ {next : ℕ → ℕ} {n : ℕ} {row : List ℕ} (member : ℕ → Bool) (to : ℕ → ℕ) (q : ℕ) (G : Gains next n (leadsTo member to q) row) where
+  -- q is no member
+  pub gain-out : member q ≡ false → Gains next n (leadsTo member to (q + 1)) row
+  gain-out e = gain-same G (λ x. sym (any-next (λ p. member p && eqb (to p) x) q ∙ rw e))
+
+  -- q is one, and what it leads to is chased
+  pub gain-in : {row′ : List ℕ} (p : ℕ) → p ≡ to q → member q ≡ true → Chased next n p row row′ → Gains next n (leadsTo member to (q + 1)) row′
+  gain-in p z e C = gain-more {f = leadsTo member to q} {g = leadsTo member to (q + 1)} G (rw z at C) (λ x f. only x f (same-cases nat-test x (to q))) also here
+    where
+      step : (x : ℕ) → leadsTo member to (q + 1) x ≡ choose (eqb (to q) x) (λ _. true) (λ _. leadsTo member to q x)
+      step x = any-next (λ p. member p && eqb (to p) x) q ∙ rw e
+
+      only : (x : ℕ) → leadsTo member to (q + 1) x ≡ true → SameCases nat-test x (to q) → (leadsTo member to q x ≡ true) ⊎ (x ≡ to q)
+      only x f (inl z) = inr (z .0)
+      only x f (inr z) = inl (sym (step x ∙ rw (ne-eqb (to q) x (λ y. z .0 (sym y)))) ∙ f)
+
+      also : (x : ℕ) → leadsTo member to q x ≡ true → leadsTo member to (q + 1) x ≡ true
+      also x f = step x ∙ go (eqb (to q) x)
+        where
+          go : (b : Bool) → choose b (λ _. true) (λ _. leadsTo member to q x) ≡ true
+          go true = refl
+          go false = f
+
+      here : leadsTo member to (q + 1) (to q) ≡ true
+      here = step (to q) ∙ rw (eq-eqb (to q) (to q) refl)
 
 flag-length : (l : List ℕ) (x : ℕ) → flagAt l x ≡ true → x < length l
 flag-length [] x e = absurd (false≢true e)
 flag-length (y ∷ l) zero e = omega arith
 flag-length (y ∷ l) (suc x) e = suc-le-suc (flag-length l x e)
-
-pub close-end : {next : ℕ → ℕ} {n : ℕ} {row row′ : List ℕ} {p : ℕ} → Closing next n row row′ p → n ≤ p → Gains next n row row′
-close-end {next} {n} {row} {row′} {p} C h = record { long = C .long; keeps = C .keeps; closed = λ x f. go x f (C .closed x f); sound = C .sound; bits = C .bits }
-  where
-    go : (x : ℕ) → flagAt row′ x ≡ true → (p ≤ x) ⊎ (flagAt row′ (next x) ≡ true) → flagAt row′ (next x) ≡ true
-    go x f (inr g) = g
-    go x f (inl b) = absurd (omega (arith, flag-length row′ x f, C .long))
 
 -- ---- the closed row is the one that the definition says
 
@@ -266,49 +276,34 @@ module _ (base n k : ℕ) (t : List ℕ) (T : ClosedTable base n k t) (m : ℕ) 
   marks-times zero q h = refl
   marks-times (suc i) q h = rw (table-step base n k t T q m h b) (marks-times i (cell base k m t q) (T .inside q m h b))
 
-  pub gains-row : (row row′ : List ℕ) (member : ℕ → Bool) → row ≡ flagRow member n → Gains (cell base k m t) n row row′ → row′ ≡ flagRow (gained m n (automaton (tableMachine base n k t)) member) n
-  gains-row row row′ member e G = flags-row {f = gained m n (automaton (tableMachine base n k t)) member} (record { long = G .long; entry = λ x h. G .bits clean x ∙ ap bit (same x h) })
+  pub gains-row : (row : List ℕ) (member : ℕ → Bool) → Gains (cell base k m t) n member row → row ≡ flagRow (gained m n (automaton (tableMachine base n k t)) member) n
+  gains-row row member G = flags-row {f = gained m n (automaton (tableMachine base n k t)) member} (record { long = G .long; entry = λ x h. G .bits x ∙ ap bit (same x h) })
     where
-      F : Flags n member row
-      F = row-flags e
-
       next : ℕ → ℕ
       next = cell base k m t
 
-      clean : Bits row
-      clean x = go (lt-cases x n)
-        where
-          zero-out : (l : List ℕ) (x : ℕ) → length l ≤ x → getD l x 0 ≡ 0
-          zero-out [] x h = refl
-          zero-out (y ∷ l) zero h = absurd (omega arith)
-          zero-out (y ∷ l) (suc x) h = zero-out l x (le-of-suc-le-suc h)
-
-          go : LtCases x n → getD row x 0 ≡ bit (flagAt row x)
-          go (inl p) = F .entry x (p .0) ∙ ap bit (sym (flags-at F x (p .0)))
-          go (inr p) = let z : getD row x 0 ≡ 0 = zero-out row x (omega (arith, F .long)) in rw z
-
-      walk : (i q : ℕ) → flagAt row′ q ≡ true → flagAt row′ (times next i q) ≡ true
+      walk : (i q : ℕ) → flagAt row q ≡ true → flagAt row (times next i q) ≡ true
       walk zero q f = f
       walk (suc i) q f = walk i (next q) (G .closed q f)
 
-      there : (x : ℕ) → flagAt row′ x ≡ true → gained m n (automaton (tableMachine base n k t)) member x ≡ true
+      there : (x : ℕ) → flagAt row x ≡ true → gained m n (automaton (tableMachine base n k t)) member x ≡ true
       there x f =
           let (q, i, g, y) = G .sound x f in
-          let h : q < n = omega (arith, flag-length row q g, F .long) in
+          let h : q < n = omega (arith, flag-length row q (G .keeps q g), G .long) in
           let (j, c, z) = short next n (λ p l. T .inside p m l b) i q h in
           below-any (λ q. member q && anyBelow (λ i. eqb (marks (automaton (tableMachine base n k t)) m i q) x) n) n q h
-          (and-both (member q) (anyBelow (λ i. eqb (marks (automaton (tableMachine base n k t)) m i q) x) n) (sym (flags-at F q h) ∙ g)
+          (and-both (member q) (anyBelow (λ i. eqb (marks (automaton (tableMachine base n k t)) m i q) x) n) g
           (below-any (λ i. eqb (marks (automaton (tableMachine base n k t)) m i q) x) n j c
           (eq-eqb (marks (automaton (tableMachine base n k t)) m j q) x (marks-times j q h ∙ z ∙ y))))
 
-      back : (x : ℕ) → gained m n (automaton (tableMachine base n k t)) member x ≡ true → flagAt row′ x ≡ true
+      back : (x : ℕ) → gained m n (automaton (tableMachine base n k t)) member x ≡ true → flagAt row x ≡ true
       back x f =
           let (q, h, g) = any-below (λ q. member q && anyBelow (λ i. eqb (marks (automaton (tableMachine base n k t)) m i q) x) n) n f in
           let u = and-left (member q) (anyBelow (λ i. eqb (marks (automaton (tableMachine base n k t)) m i q) x) n) g in
           let v = and-right (member q) (anyBelow (λ i. eqb (marks (automaton (tableMachine base n k t)) m i q) x) n) g in
           let (j, c, z) = any-below (λ i. eqb (marks (automaton (tableMachine base n k t)) m i q) x) n v in
           let y : times next j q ≡ x = sym (marks-times j q h) ∙ nat-test .sound (marks (automaton (tableMachine base n k t)) m j q) x z in
-          subst (λ (p : ℕ). flagAt row′ p ≡ true) y (walk j q (G .keeps q (flags-at F q h ∙ u)))
+          subst (λ (p : ℕ). flagAt row p ≡ true) y (walk j q (G .keeps q u))
 
-      same : (x : ℕ) → x < n → flagAt row′ x ≡ gained m n (automaton (tableMachine base n k t)) member x
-      same x h = bool-iff (flagAt row′ x) (gained m n (automaton (tableMachine base n k t)) member x) (there x) (back x)
+      same : (x : ℕ) → x < n → flagAt row x ≡ gained m n (automaton (tableMachine base n k t)) member x
+      same x h = bool-iff (flagAt row x) (gained m n (automaton (tableMachine base n k t)) member x) (there x) (back x)

@@ -5,8 +5,7 @@ use Prim.Native.Nat.{ℕ, _+_, _*_, _-_, _≤_, _<_}
 use native.Mathlib.Nat.{mul-le-mul-right, suc-mul, zero-mul}
 use native.Mathlib.Numerals.{add-one}
 use native.Mathlib.Omega.{arith}
-use lib.ListN.{length, set, length-set}
-use lib.Seq.{getD-set-same}
+use lib.ListN.{length, getD, set, replicate, length-set, length-replicate}
 use Rattle.automata.specs.Stage.{MoreThan}
 use Rattle.explore.specs.Rows.{rowAt}
 use Rattle.explore.specs.Steps.{rowHash}
@@ -16,16 +15,17 @@ use Rattle.explore.specs.declared.Explored.{Explored}
 use Rattle.explore.specs.declared.Explored.the-variants.{Sets, TooMany}
 use Rattle.explore.proofs.RowLaws.{row-within, cell-within}
 use Rattle.explore.proofs.FitLaws.{reach-fits}
+use Rattle.explore.proofs.HashLaws.{chained-none, chained-more}
 use Rattle.explore.proofs.LoopLaws.{partial-start, partial-wrap, partial-done}
 
 -- The transitions before the q-th are laid out; it is that of the row p by the column c.
-pub record Running (s : Shape) (a b rows row table : List ℕ) (count p c q : ℕ) : Type 0 where
+pub record Running (s : Shape) (a b rows row table heads : List ℕ) (count p c q : ℕ) : Type 0 where
   pub fits : Fits s a b
   pub room : Room s rows row table
   pub state : p ≤ count
   pub column : c < s .k
   pub cell : q ≡ p * s .k + c
-  pub partial : Partial (rowsFor s a b) (s .k) (s .w) (s .limit) count p c rows table
+  pub partial : Partial (rowsFor s a b) (s .k) (s .w) (s .limit) count p c rows table heads
 
 pub room-kept : {s : Shape} {rows row table : List ℕ} → Room s rows row table → (rows′ row′ table′ : List ℕ) → length rows′ ≡ length rows → length row′ ≡ length row → length table′ ≡ length table → Room s rows′ row′ table′
 room-kept R rows′ row′ table′ x y z = record {
@@ -39,21 +39,23 @@ room-kept R rows′ row′ table′ x y z = record {
 pub first-room : {s : Shape} {rows row table : List ℕ} → Room s rows row table → 0 * s .w + s .w ≤ length rows
 first-room {s} R = omega (arith, row-within 0 (s .limit) (s .w) (R .some), R .rowsLong)
 
-pub run-start : (s : Shape) (a b rows row table rows′ row′ : List ℕ) (v : ℕ) → Explores s a b rows row table → row′ ≡ rowsFor s a b .start → length row′ ≡ length row
-    → Appended (s .w) 0 rows row′ rows′ → length rows′ ≡ length rows → v ≡ rowHash row′ → Running s a b rows′ row′ (set table 0 v) 1 0 0 0
-run-start s a b rows row table rows′ row′ v E e y A x h = record {
+pub run-start : (s : Shape) (a b rows row table rows′ row′ table′ heads′ : List ℕ) (h : ℕ) → Explores s a b rows row table → row′ ≡ rowsFor s a b .start → length row′ ≡ length row
+    → Appended (s .w) 0 rows row′ rows′ → length rows′ ≡ length rows → h ≡ rowHash row′ → h < 1024
+    → table′ ≡ set table 0 (getD (replicate 1024 0) h 0) → heads′ ≡ set (replicate 1024 0) h 1 → Running s a b rows′ row′ table′ heads′ 1 0 0 0
+run-start s a b rows row table rows′ row′ table′ heads′ h E e y A x v l et eh = record {
   fits = E .fits;
-  room = room-kept (E .room) rows′ row′ (set table 0 v) x y (length-set table 0 v);
+  room = room-kept (E .room) rows′ row′ table′ x y (ap length et ∙ length-set table 0 (getD (replicate 1024 0) h 0));
   state = omega arith;
   column = omega (arith, E .fits .columns);
   cell = omega (arith, zero-mul (s .k));
-  partial = partial-start (rowsFor s a b) (s .k) (s .w) (s .limit) rows′ (set table 0 v) (E .room .some) (A .here ∙ e)
-      (getD-set-same table 0 v 0 (omega (arith, E .room .some, E .room .tableLong)) ∙ h ∙ ap rowHash (sym (A .here)));
+  partial = partial-start (rowsFor s a b) (s .k) (s .w) (s .limit) rows′ table′ heads′ (E .room .some) (A .here ∙ e)
+      (rw (et, eh) (chained-more (s .w) 0 h rows row′ rows′ table (replicate 1024 0) (chained-none (s .w) rows table) A v l (omega (arith, E .room .some, E .room .tableLong)) (length-replicate {A = ℕ} 1024 0)))
+      (ap length eh ∙ length-set (replicate 1024 0) h 1 ∙ length-replicate {A = ℕ} 1024 0);
 }
 
-module _ (s : Shape) (a b rows row table : List ℕ) (count p c q : ℕ) (R : Running s a b rows row table count p c q) where
+module _ (s : Shape) (a b rows row table heads : List ℕ) (count p c q : ℕ) (R : Running s a b rows row table heads count p c q) where
   module _ (h : p < count) where
-    pub run-turning : Turning s a b rows row table count p c q
+    pub run-turning : Turning s a b rows row table heads count p c q
     run-turning = record {
       fits = R .fits;
       room = R .room;
@@ -68,33 +70,33 @@ module _ (s : Shape) (a b rows row table : List ℕ) (count p c q : ℕ) (R : Ru
     pub run-less : s .limit * s .k - (q + 1) < s .limit * s .k - q
     run-less = omega (arith, run-below)
 
-    module _ (rows′ row′ table′ : List ℕ) (x : length rows′ ≡ length rows) (y : length row′ ≡ length row) (z : length table′ ≡ length table) (r : Explored)
-        (t : Turned (rowsFor s a b) (s .k) (s .w) (s .limit) count p c rows′ table′ r) where
+    module _ (rows′ row′ table′ heads′ : List ℕ) (x : length rows′ ≡ length rows) (y : length row′ ≡ length row) (z : length table′ ≡ length table) (r : Explored)
+        (t : Turned (rowsFor s a b) (s .k) (s .w) (s .limit) count p c rows′ table′ heads′ r) where
       -- the next column
-      pub run-on : (n : ℕ) → r ≡ Sets n → (c + 1 ≡ s .k → ⊥) → Running s a b rows′ row′ table′ n p (c + 1) (q + 1)
+      pub run-on : (n : ℕ) → r ≡ Sets n → (c + 1 ≡ s .k → ⊥) → Running s a b rows′ row′ table′ heads′ n p (c + 1) (q + 1)
       run-on n e o =
-          let u : Turned (rowsFor s a b) (s .k) (s .w) (s .limit) count p c rows′ table′ (Sets n) = rw e at t in
+          let v : Turned (rowsFor s a b) (s .k) (s .w) (s .limit) count p c rows′ table′ heads′ (Sets n) = rw e at t in
           record {
             fits = R .fits;
             room = room-kept (R .room) rows′ row′ table′ x y z;
-            state = omega (arith, u .0);
+            state = omega (arith, v .0);
             column = omega (arith, R .column, o);
             cell = omega (arith, R .cell);
-            partial = u .1;
+            partial = v .1;
           }
 
       -- the next row
-      pub run-wrap : (n : ℕ) → r ≡ Sets n → c + 1 ≡ s .k → Running s a b rows′ row′ table′ n (p + 1) 0 (q + 1)
+      pub run-wrap : (n : ℕ) → r ≡ Sets n → c + 1 ≡ s .k → Running s a b rows′ row′ table′ heads′ n (p + 1) 0 (q + 1)
       run-wrap n e o =
-          let u : Turned (rowsFor s a b) (s .k) (s .w) (s .limit) count p c rows′ table′ (Sets n) = rw e at t in
+          let v : Turned (rowsFor s a b) (s .k) (s .w) (s .limit) count p c rows′ table′ heads′ (Sets n) = rw e at t in
           let m : (p + 1) * s .k ≡ p * s .k + s .k = rw (add-one, suc-mul) in
           record {
             fits = R .fits;
             room = room-kept (R .room) rows′ row′ table′ x y z;
-            state = omega (arith, u .0);
+            state = omega (arith, v .0);
             column = omega (arith, R .fits .columns);
             cell = omega (arith, R .cell);
-            partial = partial-wrap (rowsFor s a b) (s .k) (s .w) (s .limit) n p (c + 1) rows′ table′ o (u .1);
+            partial = partial-wrap (rowsFor s a b) (s .k) (s .w) (s .limit) n p (c + 1) rows′ table′ heads′ o (v .1);
           }
 
       pub run-many : r ≡ TooMany → MoreThan (s .k) (rowsFor s a b) (s .limit)
@@ -114,4 +116,4 @@ module _ (s : Shape) (a b rows row table : List ℕ) (count p c q : ℕ) (R : Ru
     }
 
     pub run-done : (table′ : List ℕ) → length table′ ≡ length table → Flagged (rowsFor s a b) (s .w) (s .limit) count rows table table′ → AllRows (rowsFor s a b) (s .k) (s .w) (s .limit) count rows table′
-    run-done table′ z F = partial-done (rowsFor s a b) (s .k) (s .w) (s .limit) count p c rows table table′ h (R .partial) F (omega (arith, cells, R .room .tableLong))
+    run-done table′ z F = partial-done (rowsFor s a b) (s .k) (s .w) (s .limit) count p c rows table heads table′ h (R .partial) F (omega (arith, cells, R .room .tableLong))

@@ -58,7 +58,7 @@ pub bit-flag : (r : List ℕ) (q : ℕ) (b : Bool) → getD r q 0 ≡ bit b → 
 bit-flag r q true e = rw e
 bit-flag r q false e = rw e
 
-any-next : (f : ℕ → Bool) (n : ℕ) → anyBelow f (n + 1) ≡ choose (f n) (λ _. true) (λ _. anyBelow f n)
+pub any-next : (f : ℕ → Bool) (n : ℕ) → anyBelow f (n + 1) ≡ choose (f n) (λ _. true) (λ _. anyBelow f n)
 any-next f n = rw add-one
 
 pub any-ext : (f g : ℕ → Bool) (n : ℕ) → ((i : ℕ) → i < n → f i ≡ g i) → anyBelow f n ≡ anyBelow g n

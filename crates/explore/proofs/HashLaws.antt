@@ -1,32 +1,166 @@
--- The sum that a row is looked up by: it fits, and goes on byte by byte. Assumes nothing.
-use mathlib.Core.Path.{_≡_}
+-- The sum that a row is looked up by: it fits, and goes on byte by byte. And the chains of rows with the same hash. Assumes nothing.
+use mathlib.Core.Path.{_≡_, refl, sym, ap, _∙_}
+use mathlib.Core.Logic.{inl, inr}
 use mathlib.Core.List.{List}
-use Prim.Native.Nat.{ℕ, _+_, _*_, _%_, _≤_, _<_}
+use Prim.Native.Nat.{ℕ, _+_, _*_, _-_, _/_, _%_, _≤_, _<_}
 use native.Mathlib.Nat.{mul-le-mul}
 use native.Mathlib.Numerals.{add-one}
 use native.Mathlib.Omega.{arith}
-use lib.ListN.{length, getD}
+use lib.ListN.{length, getD, set, replicate, length-set, getD-replicate}
+use lib.Seq.{getD-set-same, getD-set-other}
 use borrow.Author.Tests.{lt-ltb, le-ltb}
-use Rattle.explore.specs.Steps.{hashSum, hashed, rowHash}
+use Rattle.automata.specs.Basics.{LtCases, lt-cases, SameCases, same-cases, nat-test}
+use Rattle.explore.specs.Rows.{rowAt}
+use Rattle.explore.specs.Steps.{weight, Weighted, hashSum, hashed, rowHash}
+use Rattle.explore.specs.Answer.{Last, Chained, Appended}
 
-pub weight-small : (i : ℕ) → i < 4096 → (i * 40503 + 12347) * i ≤ 680000000000
-weight-small i h = omega (arith, mul-le-mul {n₁ = i * 40503 + 12347} {m₁ = i} {n₂ = 165872132} {m₂ = 4095} (omega arith) (omega arith))
+pub term-small : (x y : ℕ) → x < 256 → y < 65536 → x * y ≤ 16711425
+term-small x y h b = mul-le-mul {n₁ = x} {m₁ = y} {n₂ = 255} {m₂ = 65535} (omega arith) (omega arith)
 
-pub term-small : (i x : ℕ) → i < 4096 → x < 256 → x * ((i * 40503 + 12347) * i + 1) ≤ 255 * 680000000001
-term-small i x h b = mul-le-mul {n₁ = x} {m₁ = (i * 40503 + 12347) * i + 1} {n₂ = 255} {m₂ = 680000000001} (omega arith) (omega (arith, weight-small i h))
+pub weight-small : (i : ℕ) → weight i < 65536
+unfolding weight
+weight-small i = omega arith
 
-pub sum-next : (r : List ℕ) (i : ℕ) → hashSum r (i + 1) ≡ hashSum r i + getD r i 0 * ((i * 40503 + 12347) * i + 1)
+pub weight-entry : (row l : List ℕ) → Weighted (length row) l → (i : ℕ) → i < length row → i < 128 → (getD l i 0 ≡ weight i) × (getD l i 0 < 65536)
+weight-entry row l W i h b = let e = W .entry i h b in (e, omega (arith, weight-small i, e))
+
+-- the weights fit while they are made
+pub weight-fits : (i : ℕ) → i < 128 → (i * 40503 + 12347) * i ≤ 700000000
+weight-fits i h = omega (arith, mul-le-mul {n₁ = i * 40503 + 12347} {m₁ = i} {n₂ = 5156228} {m₂ = 127} (omega arith) (omega arith))
+
+-- the weights of the places below i are entered
+pub record Entered (w i : ℕ) (l : List ℕ) : Type 0 where
+  pub long : length l ≡ 128
+  pub entry : (p : ℕ) → p < i → getD l p 0 ≡ weight p
+
+pub entered-more : (w i v : ℕ) (l : List ℕ) → Entered w i l → i < 128 → v ≡ ((i * 40503 + 12347) * i + 30011) % 65536 → Entered w (i + 1) (set l i v)
+unfolding weight
+entered-more w i v l E h e = record { long = length-set l i v ∙ E .long; entry = λ p b. go p b (lt-cases p i) }
+  where
+    go : (p : ℕ) → p < i + 1 → LtCases p i → getD (set l i v) p 0 ≡ weight p
+    go p b (inl x) = getD-set-other l i p v 0 (λ z. omega (arith, x .0)) ∙ E .entry p (x .0)
+    go p b (inr x) = let z : p ≡ i = omega (arith, x .0) in rw (z, getD-set-same l i v 0 (omega (arith, E .long))) e
+
+pub sum-next : (r : List ℕ) (i : ℕ) → hashSum r (i + 1) ≡ hashSum r i + getD r i 0 * weight i
 unfolding hashSum
 sum-next r i = rw (add-one i)
 
-pub hash-is : (r : List ℕ) (e sum : ℕ) → e ≡ hashed (length r) → sum ≡ hashSum r e → sum % 65536 ≡ rowHash r
+pub hash-is : (r : List ℕ) (e sum : ℕ) → e ≡ hashed (length r) → sum ≡ hashSum r e → sum / 64 % 1024 ≡ rowHash r
 unfolding rowHash
 hash-is r e sum x y = cc
 
-pub hashed-long : (n : ℕ) → 4096 < n → 4096 ≡ hashed n
+pub hashed-long : (n : ℕ) → 128 < n → 128 ≡ hashed n
 unfolding hashed
-hashed-long n h = rw (lt-ltb 4096 n h)
+hashed-long n h = rw (lt-ltb 128 n h)
 
-pub hashed-short : (n : ℕ) → n ≤ 4096 → n ≡ hashed n
+pub hashed-short : (n : ℕ) → n ≤ 128 → n ≡ hashed n
 unfolding hashed
-hashed-short n h = rw (le-ltb 4096 n h)
+hashed-short n h = rw (le-ltb 128 n h)
+
+-- a row of four bytes
+pub hash-four : (r : List ℕ) (a b c d : ℕ) → length r ≡ 4 → a ≡ getD r 0 0 → b ≡ getD r 1 0 → c ≡ getD r 2 0 → d ≡ getD r 3 0
+    → (a * 30011 + b * 17325 + (c * 20109 + d * 38363)) / 64 % 1024 ≡ rowHash r
+unfolding rowHash hashed hashSum weight
+hash-four r a b c d l ea eb ec ed = rw (l, ← ea, ← eb, ← ec, ← ed) (ap (λ (x : ℕ). x / 64 % 1024) (omega arith))
+
+-- ---- chains
+
+abbrev hashes : ℕ → List ℕ → ℕ → ℕ
+hashes w rows i = rowHash (rowAt w i rows)
+
+-- the same numbers below n
+last-same : {f g : ℕ → ℕ} {n b x : ℕ} → ((i : ℕ) → i < n → f i ≡ g i) → Last f n b x → Last g n b x
+last-same e L = record {
+  within = L .within;
+  is = λ i z. sym (e i (omega (arith, L .within))) ∙ L .is i z;
+  none = λ i a h z. L .none i a h (e i h ∙ z);
+}
+
+-- one place more, with another number
+last-more : {f : ℕ → ℕ} {n b x : ℕ} → (f n ≡ b → ⊥) → Last f n b x → Last f (n + 1) b x
+last-more {f} {n} {b} {x} o L = record { within = omega (arith, L .within); is = L .is; none = λ i a h z. go i a h z (lt-cases i n) }
+  where
+    go : (i : ℕ) → x ≤ i → i < n + 1 → f i ≡ b → LtCases i n → ⊥
+    go i a h z (inl y) = L .none i a (y .0) z
+    go i a h z (inr y) = let e : i ≡ n = omega arith in o (ap f (sym e) ∙ z)
+
+-- the last place has the number
+last-here : {f : ℕ → ℕ} {b : ℕ} (n : ℕ) → f n ≡ b → Last f (n + 1) b (n + 1)
+last-here {f} {b} n e = record {
+  within = omega arith;
+  is = λ i z. let y : i ≡ n = omega arith in ap f y ∙ e;
+  none = λ i a h z. omega arith;
+}
+
+-- no place is below 0
+last-none : {f : ℕ → ℕ} {b x : ℕ} → x ≡ 0 → Last f 0 b x
+last-none e = record { within = omega arith; is = λ i z. absurd (omega arith); none = λ i a h z. omega arith }
+
+-- before the first row all heads are 0
+pub chained-none : (w : ℕ) (rows links : List ℕ) → Chained w 0 rows links (replicate 1024 0)
+chained-none w rows links = record { head = λ b h. last-none (getD-replicate 1024 b 0 0 h); link = λ j h. absurd (omega arith) }
+
+-- the row that is put behind the others becomes the last of its chain
+pub chained-more : (w count h : ℕ) (rows row rows′ links heads : List ℕ) → Chained w count rows links heads → Appended w count rows row rows′ → h ≡ rowHash row → h < 1024
+    → count < length links → length heads ≡ 1024 → Chained w (count + 1) rows′ (set links count (getD heads h 0)) (set heads h (count + 1))
+chained-more w count h rows row rows′ links heads C A e b l m = record { head = λ x y. head x y (same-cases nat-test x h); link = λ j y. link j y (lt-cases j count) }
+  where
+    old : (i : ℕ) → i < count → hashes w rows i ≡ hashes w rows′ i
+    old i y = ap rowHash (sym (A .before i y))
+
+    here : hashes w rows′ count ≡ h
+    here = ap rowHash (A .here) ∙ sym e
+
+    head : (x : ℕ) → x < 1024 → SameCases nat-test x h → Last (hashes w rows′) (count + 1) x (getD (set heads h (count + 1)) x 0)
+    head x y (inl p) = rw (p .0, getD-set-same heads h (count + 1) 0 (omega arith)) (last-here count here)
+    head x y (inr p) = rw (getD-set-other heads h x (count + 1) 0 (p .0)) (last-more (λ z. p .0 (sym z ∙ here)) (last-same old (C .head x y)))
+
+    link : (j : ℕ) → j < count + 1 → LtCases j count → Last (hashes w rows′) j (hashes w rows′ j) (getD (set links count (getD heads h 0)) j 0)
+    link j y (inl p) =
+        rw (getD-set-other links count j (getD heads h 0) 0 (λ z. let q = p .0 in omega arith), sym (old j (p .0)))
+        (last-same (λ i z. old i (let q = p .0 in omega arith)) (C .link j (p .0)))
+    link j y (inr p) =
+        let z : j ≡ count = omega arith in
+        rw (z, getD-set-same links count (getD heads h 0) 0 l, here) (last-same old (C .head h b))
+
+-- what is stored behind the rows' links changes no chain
+pub chained-store : (w count x v : ℕ) (rows links heads : List ℕ) → count ≤ x → Chained w count rows links heads → Chained w count rows (set links x v) heads
+chained-store w count x v rows links heads h C = record {
+  head = C .head;
+  link = λ j y. rw (getD-set-other links x j v 0 (λ z. omega arith)) (C .link j y);
+}
+
+-- ---- along a chain
+
+pub pred-suc : (n : ℕ) → 0 < n → n - 1 + 1 ≡ n
+pred-suc n h = omega arith
+
+-- from `next` on no row is the one looked for; the row before it has its hash
+pub record Seeking (w count next : ℕ) (rows row : List ℕ) : Type 0 where
+  pub within : next ≤ count
+  pub is : (i : ℕ) → i + 1 ≡ next → rowHash (rowAt w i rows) ≡ rowHash row
+  pub none : (i : ℕ) → next ≤ i → i < count → rowAt w i rows ≡ row → ⊥
+
+pub seek-first : (w count h : ℕ) (rows row links heads : List ℕ) → Chained w count rows links heads → h ≡ rowHash row → h < 1024 → Seeking w count (getD heads h 0) rows row
+seek-first w count h rows row links heads C e b =
+    let L = C .head h b in
+    record { within = L .within; is = λ i z. L .is i z ∙ e; none = λ i a y z. L .none i a y (ap rowHash z ∙ sym e) }
+
+pub seek-next : (w count j : ℕ) (rows row links heads : List ℕ) → Chained w count rows links heads → Seeking w count (j + 1) rows row → (rowAt w j rows ≡ row → ⊥)
+    → Seeking w count (getD links j 0) rows row
+seek-next w count j rows row links heads C S o = record {
+  within = omega (arith, L .within, S .within);
+  is = λ i z. L .is i z ∙ S .is j refl;
+  none = λ i a y z. go i a y z (lt-cases i j);
+}
+  where
+    L : Last (λ i. rowHash (rowAt w i rows)) j (rowHash (rowAt w j rows)) (getD links j 0)
+    L = C .link j (omega (arith, S .within))
+
+    go : (i : ℕ) → getD links j 0 ≤ i → i < count → rowAt w i rows ≡ row → LtCases i j → ⊥
+    go i a y z (inl p) = L .none i a (p .0) (ap rowHash z ∙ sym (S .is j refl))
+    go i a y z (inr p) = at (lt-cases j i)
+      where
+        at : LtCases j i → ⊥
+        at (inl q) = S .none i (omega (arith, q .0)) y z
+        at (inr q) = let e : i ≡ j = omega (arith, p .0, q .0) in o (ap (λ (n : ℕ). rowAt w n rows) (sym e) ∙ z)

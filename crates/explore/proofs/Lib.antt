@@ -9,6 +9,7 @@ pub mod StarLaws
 pub mod ClosureLaws
 pub mod EraseLaws
 pub mod FitLaws
+pub mod TwinLaws
 pub mod LoopLaws
 pub mod TurnLaws
 pub mod ExploreLaws

@@ -13,9 +13,9 @@ use Rattle.automata.specs.Basics.{LtCases, lt-cases, Inj, lt-ltb, ltb-false}
 use Rattle.automata.specs.Automaton.{Automaton, Reachable, reached-step}
 use Rattle.automata.specs.Stage.{MoreThan}
 use Rattle.explore.specs.Rows.{rowAt}
-use Rattle.explore.specs.Steps.{rowHash}
-use Rattle.explore.specs.Answer.{Appended, AllRows, Earlier, Partial, Place, Flagged}
+use Rattle.explore.specs.Answer.{Chained, Appended, AllRows, Earlier, Partial, Place, Flagged}
 use Rattle.explore.proofs.RowLaws.{row-within}
+use Rattle.explore.proofs.HashLaws.{chained-store}
 
 -- what lies before the next place is before this one, or this one
 earlier-split : (p c state column : ℕ) → Earlier p c state (column + 1) → Earlier p c state column ⊎ ((p ≡ state) × (c ≡ column))
@@ -35,8 +35,8 @@ earlier-below p c state column count h (inl g) = omega arith
 earlier-below p c state column count h (inr (e, g)) = rw e h
 
 module _ (R : Automaton (List ℕ)) (k w limit : ℕ) where
-  pub partial-start : (rows table : List ℕ) → 1 ≤ limit → rowAt w 0 rows ≡ R .start → getD table 0 0 ≡ rowHash (rowAt w 0 rows) → Partial R k w limit 1 0 0 rows table
-  partial-start rows table h e v = record {
+  pub partial-start : (rows table heads : List ℕ) → 1 ≤ limit → rowAt w 0 rows ≡ R .start → Chained w 1 rows table heads → length heads ≡ 1024 → Partial R k w limit 1 0 0 rows table heads
+  partial-start rows table heads h e v l = record {
     some = omega arith;
     within = h;
     start = e;
@@ -44,7 +44,8 @@ module _ (R : Automaton (List ℕ)) (k w limit : ℕ) where
     reached = λ i b. let z : i ≡ 0 = omega arith in ([], tt, rw z (sym e));
     inside = λ p c b f. absurd (none p c f);
     moves = λ p c b f. absurd (none p c f);
-    hashes = λ i b. let z : i ≡ 0 = omega arith in rw z v;
+    chained = v;
+    headsLong = l;
   }
     where
       none : (p c : ℕ) → Earlier p c 0 0 → ⊥
@@ -52,8 +53,8 @@ module _ (R : Automaton (List ℕ)) (k w limit : ℕ) where
       none p c (inr (e, h)) = omega arith
 
   -- all columns of a state are laid out
-  pub partial-wrap : (count state column : ℕ) (rows table : List ℕ) → column ≡ k → Partial R k w limit count state column rows table → Partial R k w limit count (state + 1) 0 rows table
-  partial-wrap count state column rows table e P = record {
+  pub partial-wrap : (count state column : ℕ) (rows table heads : List ℕ) → column ≡ k → Partial R k w limit count state column rows table heads → Partial R k w limit count (state + 1) 0 rows table heads
+  partial-wrap count state column rows table heads e P = record {
     some = P .some;
     within = P .within;
     start = P .start;
@@ -61,7 +62,8 @@ module _ (R : Automaton (List ℕ)) (k w limit : ℕ) where
     reached = P .reached;
     inside = λ p c b f. P .inside p c b (back p c b f);
     moves = λ p c b f. P .moves p c b (back p c b f);
-    hashes = P .hashes;
+    chained = P .chained;
+    headsLong = P .headsLong;
   }
     where
       back : (p c : ℕ) → c < k → Earlier p c (state + 1) 0 → Earlier p c state column
@@ -72,9 +74,9 @@ module _ (R : Automaton (List ℕ)) (k w limit : ℕ) where
           go (inl x) = inl (x .0)
           go (inr x) = inr (omega arith, omega arith)
 
-  -- a place for a hash that is not used yet
-  pub partial-store : (count state column x v : ℕ) (rows table : List ℕ) → count ≤ x → x < limit → Partial R k w limit count state column rows table → Partial R k w limit count state column rows (set table x v)
-  partial-store count state column x v rows table h b P = record {
+  -- a place for a link that is not used yet
+  pub partial-store : (count state column x v : ℕ) (rows table heads : List ℕ) → count ≤ x → x < limit → Partial R k w limit count state column rows table heads → Partial R k w limit count state column rows (set table x v) heads
+  partial-store count state column x v rows table heads h b P = record {
     some = P .some;
     within = P .within;
     start = P .start;
@@ -82,13 +84,14 @@ module _ (R : Automaton (List ℕ)) (k w limit : ℕ) where
     reached = P .reached;
     inside = λ p c l f. rw (other (limit + (p * k + c)) (omega arith)) (P .inside p c l f);
     moves = λ p c l f. rw (other (limit + (p * k + c)) (omega arith)) (P .moves p c l f);
-    hashes = λ i l. getD-set-other table x i v 0 (λ z. omega arith) ∙ P .hashes i l;
+    chained = chained-store w count x v rows table heads h (P .chained);
+    headsLong = P .headsLong;
   }
     where
       other : (i : ℕ) → limit ≤ i → getD (set table x v) i 0 ≡ getD table i 0
       other i g = getD-set-other table x i v 0 (λ z. omega arith)
 
-  module _ (count state column q : ℕ) (rows table row : List ℕ) (P : Partial R k w limit count state column rows table) (L : Place k count state column q) (e : row ≡ R .step (rowAt w state rows) column) where
+  module _ (count state column q : ℕ) (rows table heads row : List ℕ) (P : Partial R k w limit count state column rows table heads) (L : Place k count state column q) (e : row ≡ R .step (rowAt w state rows) column) where
     reach : Reachable k R row
     reach = subst (Reachable k R) (sym e) (reached-step k R (rowAt w state rows) column (L .column) (P .reached state (L .state)))
 
@@ -103,12 +106,8 @@ module _ (R : Automaton (List ℕ)) (k w limit : ℕ) where
       new : getD table′ (limit + (state * k + column)) 0 ≡ j
       new = ap (λ (i : ℕ). getD table′ (limit + i) 0) (sym (L .cell)) ∙ getD-set-same table (limit + q) (j % 65536) 0 long ∙ mod-eq-of-lt small
 
-      -- what lies before the transitions is unchanged
-      apart : (i : ℕ) → i < limit → getD table′ i 0 ≡ getD table i 0
-      apart i h = getD-set-other table (limit + q) i (j % 65536) 0 (λ z. omega arith)
-
       -- the row is there already
-      pub partial-found : j < count → rowAt w j rows ≡ row → Partial R k w limit count state (column + 1) rows table′
+      pub partial-found : j < count → rowAt w j rows ≡ row → Partial R k w limit count state (column + 1) rows table′ heads
       partial-found b f = record {
         some = P .some;
         within = P .within;
@@ -117,7 +116,8 @@ module _ (R : Automaton (List ℕ)) (k w limit : ℕ) where
         reached = P .reached;
         inside = λ p c l g. inside p c l (earlier-split p c state column g);
         moves = λ p c l g. moves p c l (earlier-split p c state column g);
-        hashes = λ i l. apart i (omega (arith, P .within)) ∙ P .hashes i l;
+        chained = chained-store w count (limit + q) (j % 65536) rows table heads (omega (arith, P .within)) (P .chained);
+        headsLong = P .headsLong;
       }
         where
           inside : (p c : ℕ) → c < k → Earlier p c state column ⊎ ((p ≡ state) × (c ≡ column)) → getD table′ (limit + (p * k + c)) 0 < count
@@ -130,9 +130,9 @@ module _ (R : Automaton (List ℕ)) (k w limit : ℕ) where
 
     module _ (long : limit + q < length table) (none : (j : ℕ) → j < count → rowAt w j rows ≡ row → ⊥) where
       -- the row is put behind the others
-      pub partial-new : (rows′ : List ℕ) → count < limit → limit ≤ 65536 → Appended w count rows row rows′ → getD table count 0 ≡ rowHash row
-          → Partial R k w limit (count + 1) state (column + 1) rows′ (set table (limit + q) (count % 65536))
-      partial-new rows′ room most A v = record {
+      pub partial-new : (rows′ heads′ : List ℕ) → count < limit → limit < 65536 → Appended w count rows row rows′ → Chained w (count + 1) rows′ table heads′ → length heads′ ≡ 1024
+          → Partial R k w limit (count + 1) state (column + 1) rows′ (set table (limit + q) (count % 65536)) heads′
+      partial-new rows′ heads′ room most A v u = record {
         some = omega arith;
         within = omega arith;
         start = A .before 0 (P .some) ∙ P .start;
@@ -140,13 +140,10 @@ module _ (R : Automaton (List ℕ)) (k w limit : ℕ) where
         reached = λ i b. reached i b (lt-cases i count);
         inside = λ p c l g. inside p c l (earlier-split p c state column g);
         moves = λ p c l g. moves p c l (earlier-split p c state column g);
-        hashes = λ i l. apart count long small i (omega arith) ∙ hashes i l (lt-cases i count);
+        chained = chained-store w (count + 1) (limit + q) (count % 65536) rows′ table heads′ (omega arith) v;
+        headsLong = u;
       }
         where
-          hashes : (i : ℕ) → i < count + 1 → LtCases i count → getD table i 0 ≡ rowHash (rowAt w i rows′)
-          hashes i l (inl x) = P .hashes i (x .0) ∙ ap rowHash (sym (A .before i (x .0)))
-          hashes i l (inr x) = let y : i ≡ count = omega arith in rw y (v ∙ ap rowHash (sym (A .here)))
-
           small : count < 65536
           small = omega arith
 
@@ -207,9 +204,9 @@ module _ (R : Automaton (List ℕ)) (k w limit : ℕ) where
               go (inr x) (inr y) = omega arith
 
   -- all rows have their transitions, and the flags are laid out
-  pub partial-done : (count state column : ℕ) (rows table table′ : List ℕ) → count ≤ state → Partial R k w limit count state column rows table → Flagged R w limit count rows table table′
+  pub partial-done : (count state column : ℕ) (rows table heads table′ : List ℕ) → count ≤ state → Partial R k w limit count state column rows table heads → Flagged R w limit count rows table table′
       → limit + count * k ≤ length table′ → AllRows R k w limit count rows table′
-  partial-done count state column rows table table′ h P F l = record {
+  partial-done count state column rows table heads table′ h P F l = record {
     some = P .some;
     within = P .within;
     start = P .start;

@@ -1,9 +1,9 @@
 -- One turn of the loop: what its calls ask, and what it leaves; and the flags of the rows. Assumes nothing.
-use mathlib.Core.Path.{_≡_, refl, ap, _∙_}
+use mathlib.Core.Path.{_≡_, refl, sym, ap, _∙_}
 use mathlib.Core.Logic.{inl, inr}
 use mathlib.Core.List.{List}
 use Prim.Native.Nat.{ℕ, _+_, _*_, _-_, _%_, _≤_, _<_}
-use native.Mathlib.Nat.{mul-le-mul-right, le-refl}
+use native.Mathlib.Nat.{mul-le-mul-right, le-refl, mod-eq-of-lt}
 use native.Mathlib.Omega.{arith}
 use lib.ListN.{length, getD, set, take, drop, length-set}
 use lib.Seq.{getD-set-same, getD-set-other}
@@ -12,13 +12,15 @@ use Rattle.automata.specs.Automaton.{Automaton}
 use Rattle.automata.specs.Stage.{MoreThan}
 use Rattle.explore.specs.Rows.{rowAt, bit, operationOf}
 use Rattle.explore.specs.Steps.{rowHash}
-use Rattle.explore.specs.Answer.{rowsFor, RowFits, Source, Step, Looked, Appended, Turning, Turned, Flagging, Flagged}
+use Rattle.explore.specs.Answer.{rowsFor, RowFits, Source, Step, Twins, Looked, Appended, Earlier, Turning, Turned, Flagging, Flagged}
 use Rattle.explore.specs.declared.Shape.{Shape}
 use Rattle.explore.specs.declared.Explored.the-variants.{Sets}
 use Rattle.explore.specs.declared.rows.Found.{Found}
 use Rattle.explore.specs.declared.rows.Found.the-variants.{At, Nothing}
 use Rattle.explore.proofs.RowLaws.{row-within, cell-within, row-part, row-length}
 use Rattle.explore.proofs.FitLaws.{reach-fits}
+use Rattle.explore.proofs.HashLaws.{chained-more}
+use Rattle.explore.proofs.TwinLaws.{twin-step}
 use Rattle.explore.proofs.LoopLaws.{partial-store, partial-found, partial-new, partial-full}
 
 -- a row in the buffer is one from which the next is made
@@ -26,15 +28,15 @@ pub row-source : (s : Shape) (rows : List ℕ) (p : ℕ) → p * s .w + s .w ≤
     → Source s (take (p * s .w + s .w - p * s .w) (drop (p * s .w) rows))
 row-source s rows p h f = rw (row-part (s .w) p rows) (record { long = row-length (s .w) p rows h; fits = f })
 
-module _ (s : Shape) (a b rows row table : List ℕ) (count state column q : ℕ) (T : Turning s a b rows row table count state column q) where
+module _ (s : Shape) (a b rows row table heads : List ℕ) (count state column q : ℕ) (T : Turning s a b rows row table heads count state column q) where
   pub turn-row : state * s .w + s .w ≤ length rows
   turn-row = omega (arith, row-within state (s .limit) (s .w) (omega (arith, T .place .state, T .partial .within)), T .room .rowsLong)
 
   pub turn-rows : count * s .w ≤ length rows
   turn-rows = omega (arith, mul-le-mul-right {m = count} {n = s .limit} (s .w) (T .partial .within), T .room .rowsLong)
 
-  pub turn-hashes : count ≤ length table
-  turn-hashes = omega (arith, T .partial .within, T .room .tableLong)
+  pub turn-links : count ≤ length table
+  turn-links = omega (arith, T .partial .within, T .room .tableLong)
 
   pub turn-append : count < s .limit → count * s .w + s .w ≤ length rows
   turn-append h = omega (arith, row-within count (s .limit) (s .w) h, T .room .rowsLong)
@@ -54,29 +56,48 @@ module _ (s : Shape) (a b rows row table : List ℕ) (count state column q : ℕ
     next : row′ ≡ rowsFor s a b .step (rowAt (s .w) state rows) column
     next = e ∙ ap (λ (r : List ℕ). rowsFor s a b .step r column) (row-part (s .w) state rows)
 
-    pub turn-found : (j : ℕ) (r : Found) → Looked (s .w) count rows row′ r → r ≡ At j → Turned (rowsFor s a b) (s .k) (s .w) (s .limit) count state column rows (set table (s .limit + q) (j % 65536)) (Sets count)
+    pub turn-found : (j : ℕ) (r : Found) → Looked (s .w) count rows row′ r → r ≡ At j → Turned (rowsFor s a b) (s .k) (s .w) (s .limit) count state column rows (set table (s .limit + q) (j % 65536)) heads (Sets count)
     turn-found j r l f =
         let h : Looked (s .w) count rows row′ (At j) = rw f at l in (
           le-refl count,
-          partial-found (rowsFor s a b) (s .k) (s .w) (s .limit) count state column q rows table row′ (T .partial) (T .place) next j turn-cell
+          partial-found (rowsFor s a b) (s .k) (s .w) (s .limit) count state column q rows table heads row′ (T .partial) (T .place) next j turn-cell
               (omega (arith, h .0, T .partial .within, T .room .small)) (h .0) (h .1),
         )
 
-    pub turn-new : (r : Found) → Looked (s .w) count rows row′ r → r ≡ Nothing → count < s .limit → (rows′ : List ℕ) → Appended (s .w) count rows row′ rows′ → (v : ℕ) → v ≡ rowHash row′
-        → Turned (rowsFor s a b) (s .k) (s .w) (s .limit) count state column rows′ (set (set table count v) (s .limit + q) (count % 65536)) (Sets (count + 1))
-    turn-new r l f h rows′ A v e′ =
+    pub turn-new : (r : Found) → Looked (s .w) count rows row′ r → r ≡ Nothing → count < s .limit → (rows′ : List ℕ) → Appended (s .w) count rows row′ rows′ → (h : ℕ) → h ≡ rowHash row′ → h < 1024
+        → (table′ heads′ : List ℕ) → table′ ≡ set table count (getD heads h 0) → heads′ ≡ set heads h (count + 1)
+        → Turned (rowsFor s a b) (s .k) (s .w) (s .limit) count state column rows′ (set table′ (s .limit + q) (count % 65536)) heads′ (Sets (count + 1))
+    turn-new r l f room rows′ A h e′ low table′ heads′ et eh =
         let n : Looked (s .w) count rows row′ Nothing = rw f at l in
+        let v = getD heads h 0 in
         let long : s .limit + q < length (set table count v) = omega (arith, turn-cell, length-set table count v) in
-        let here : getD (set table count v) count 0 ≡ rowHash row′ = getD-set-same table count v 0 (omega (arith, turn-cell)) ∙ e′ in (
+        let chained = chained-more (s .w) count h rows row′ rows′ table heads (T .partial .chained) A e′ low (omega (arith, turn-cell, room)) (T .partial .headsLong) in (
           omega arith,
-          partial-new (rowsFor s a b) (s .k) (s .w) (s .limit) count state column q rows (set table count v) row′
-              (partial-store (rowsFor s a b) (s .k) (s .w) (s .limit) count state column count v rows table (le-refl count) h (T .partial)) (T .place) next long n rows′ h (T .room .small) A here,
+          rw (et, eh) (partial-new (rowsFor s a b) (s .k) (s .w) (s .limit) count state column q rows (set table count v) heads row′
+              (partial-store (rowsFor s a b) (s .k) (s .w) (s .limit) count state column count v rows table heads (le-refl count) room (T .partial)) (T .place) next long n rows′ (set heads h (count + 1)) room (T .room .small) A chained (length-set heads h (count + 1) ∙ T .partial .headsLong)),
         )
 
     pub turn-full : (r : Found) → Looked (s .w) count rows row′ r → r ≡ Nothing → s .limit ≤ count → MoreThan (s .k) (rowsFor s a b) (s .limit)
     turn-full r l f h =
         let n : Looked (s .w) count rows row′ Nothing = rw f at l in
-        partial-full (rowsFor s a b) (s .k) (s .w) (s .limit) count state column q rows table row′ (T .partial) (T .place) next turn-cell n h
+        partial-full (rowsFor s a b) (s .k) (s .w) (s .limit) count state column q rows table heads row′ (T .partial) (T .place) next turn-cell n h
+
+  -- an earlier column leads to the same row
+  pub turn-twin : (d : ℕ) → d < column → Twins s a b d column → (j : ℕ) → j ≡ getD table (s .limit + (q - (column - d))) 0 → Turned (rowsFor s a b) (s .k) (s .w) (s .limit) count state column rows (set table (s .limit + q) j) heads (Sets count)
+  turn-twin d h W j e =
+      let x : s .limit + (q - (column - d)) ≡ s .limit + (state * s .k + d) = omega (arith, T .place .cell) in
+      let y : j ≡ getD table (s .limit + (state * s .k + d)) 0 = e ∙ ap (λ (i : ℕ). getD table i 0) x in
+      let before : Earlier state d state column = inr (refl, h) in
+      let d< : d < s .k = omega (arith, T .place .column) in
+      let inside : j < count = rw y (T .partial .inside state d d< before) in
+      let small : j < 65536 = omega (arith, inside, T .partial .within, T .room .small) in
+      let to : rowAt (s .w) j rows ≡ rowsFor s a b .step (rowAt (s .w) state rows) column =
+      ap (λ (i : ℕ). rowAt (s .w) i rows) y ∙ T .partial .moves state d d< before
+      ∙ twin-step s a b d column (T .fits) W (rowAt (s .w) state rows) (reach-fits s a b (T .fits) (rowAt (s .w) state rows) (T .partial .reached state (T .place .state))) in (
+        le-refl count,
+        rw (mod-eq-of-lt small) at (partial-found (rowsFor s a b) (s .k) (s .w) (s .limit) count state column q rows table heads (rowsFor s a b .step (rowAt (s .w) state rows) column)
+            (T .partial) (T .place) refl j turn-cell small inside to),
+      )
 
 -- ---- the flags
 

@@ -9,7 +9,7 @@ use Rattle.automata.specs.Automaton.{Automaton, Reachable}
 use Rattle.automata.specs.Machine.{automaton}
 use Rattle.automata.specs.Table.{ClosedTable, tableMachine}
 use Rattle.automata.specs.Stage.{MoreThan}
-use Rattle.explore.specs.Steps.{rowHash}
+use Rattle.explore.specs.Steps.{cell, rowHash}
 use Rattle.explore.specs.Rows.{rowAt, bit, numberAt, Operation, pairing, concatenation, star, erase, operationOf, rowWidth, rowsOf}
 use Rattle.explore.specs.declared.Shape.{Shape}
 use Rattle.explore.specs.declared.Explored.{Explored}
@@ -41,7 +41,7 @@ pub record Fits (s : Shape) (a b : List ℕ) : Type 0 where
 -- Room for as many rows as the limit says, for one row more, and for their table.
 pub record Room (s : Shape) (rows row table : List ℕ) : Type 0 where
   pub some : 1 ≤ s .limit
-  pub small : s .limit ≤ 65536
+  pub small : s .limit < 65536
   pub rowsLong : s .limit * s .w ≤ length rows
   pub rowLong : length row ≡ s .w
   pub tableLong : s .limit + s .limit * s .k ≤ length table
@@ -70,11 +70,30 @@ pub record Step (s : Shape) (a b : List ℕ) (c : ℕ) (from row : List ℕ) : T
   pub source : Source s from
   pub long : length row ≡ s .w
 
+-- Columns d and c, neither the last, lead each state of both operands to the same place.
+pub record Twins (s : Shape) (a b : List ℕ) (d c : ℕ) : Type 0 where
+  pub left : (q : ℕ) → q < s .na → cell (s .ba) (s .k) d a q ≡ cell (s .ba) (s .k) c a q
+  pub right : (q : ℕ) → q < s .nb → cell (s .bb) (s .k) d b q ≡ cell (s .bb) (s .k) c b q
+  pub low : d + 1 < s .k
+  pub high : c + 1 < s .k
+
+-- Of each of the first 64 columns an earlier one that is its twin, or a number that is not below it.
+pub record TwinTable (s : Shape) (a b l : List ℕ) : Type 0 where
+  pub small : (c : ℕ) → c < 64 → getD l c 0 < 256
+  pub twin : (c : ℕ) → c < 64 → getD l c 0 < c → Twins s a b (getD l c 0) c
+
 -- ---- rows in a buffer
 
--- The hash of each of the first count rows.
-abbrev pub Hashes : ℕ → ℕ → List ℕ → List ℕ → Type 0
-Hashes w count rows table = (i : ℕ) → i < count → getD table i 0 ≡ rowHash (rowAt w i rows)
+-- x is 1 more than the last place below n whose number is b, or 0 where there is none.
+pub record Last (number : ℕ → ℕ) (n b x : ℕ) : Type 0 where
+  pub within : x ≤ n
+  pub is : (i : ℕ) → i + 1 ≡ x → number i ≡ b
+  pub none : (i : ℕ) → x ≤ i → i < n → number i ≡ b → ⊥
+
+-- Rows with the same hash are chained, the last first: a head for each hash, a link for each row.
+pub record Chained (w count : ℕ) (rows links heads : List ℕ) : Type 0 where
+  pub head : (b : ℕ) → b < 1024 → Last (λ i. rowHash (rowAt w i rows)) count b (getD heads b 0)
+  pub link : (j : ℕ) → j < count → Last (λ i. rowHash (rowAt w i rows)) j (rowHash (rowAt w j rows)) (getD links j 0)
 
 -- A row is one of the first count, or none of them.
 abbrev pub Looked : ℕ → ℕ → List ℕ → List ℕ → Found → Type 0
@@ -110,8 +129,8 @@ Answers R k w limit rows table TooMany = MoreThan k R limit
 abbrev pub Earlier : ℕ → ℕ → ℕ → ℕ → Type 0
 Earlier p c state column = (p < state) ⊎ ((p ≡ state) × (c < column))
 
--- What holds of the first count rows where the transitions before one place are laid out. Until the flags are, their places keep the rows' hashes.
-pub record Partial (R : Automaton (List ℕ)) (k w limit count state column : ℕ) (rows table : List ℕ) : Type 0 where
+-- What holds of the first count rows where the transitions before one place are laid out. Until the flags are, their places keep the rows' links.
+pub record Partial (R : Automaton (List ℕ)) (k w limit count state column : ℕ) (rows table heads : List ℕ) : Type 0 where
   pub some : 1 ≤ count
   pub within : count ≤ limit
   pub start : rowAt w 0 rows ≡ R .start
@@ -119,7 +138,8 @@ pub record Partial (R : Automaton (List ℕ)) (k w limit count state column : �
   pub reached : (i : ℕ) → i < count → Reachable k R (rowAt w i rows)
   pub inside : (p c : ℕ) → c < k → Earlier p c state column → getD table (limit + (p * k + c)) 0 < count
   pub moves : (p c : ℕ) → c < k → Earlier p c state column → rowAt w (getD table (limit + (p * k + c)) 0) rows ≡ R .step (rowAt w p rows) c
-  pub hashes : Hashes w count rows table
+  pub chained : Chained w count rows table heads
+  pub headsLong : length heads ≡ 1024
 
 -- the place of a transition that is laid out next
 pub record Place (k count p c q : ℕ) : Type 0 where
@@ -128,16 +148,16 @@ pub record Place (k count p c q : ℕ) : Type 0 where
   pub cell : q ≡ p * k + c
 
 -- One more transition is laid out, or a row is met that no room is left for.
-abbrev pub Turned : Automaton (List ℕ) → ℕ → ℕ → ℕ → ℕ → ℕ → ℕ → List ℕ → List ℕ → Explored → Type 0
-Turned R k w limit count state column rows table (Sets n) = (count ≤ n) × Partial R k w limit n state (column + 1) rows table
-Turned R k w limit count state column rows table TooMany = MoreThan k R limit
+abbrev pub Turned : Automaton (List ℕ) → ℕ → ℕ → ℕ → ℕ → ℕ → ℕ → List ℕ → List ℕ → List ℕ → Explored → Type 0
+Turned R k w limit count state column rows table heads (Sets n) = (count ≤ n) × Partial R k w limit n state (column + 1) rows table heads
+Turned R k w limit count state column rows table heads TooMany = MoreThan k R limit
 
 -- all that one turn asks
-pub record Turning (s : Shape) (a b rows row table : List ℕ) (count p c q : ℕ) : Type 0 where
+pub record Turning (s : Shape) (a b rows row table heads : List ℕ) (count p c q : ℕ) : Type 0 where
   pub fits : Fits s a b
   pub room : Room s rows row table
   pub place : Place (s .k) count p c q
-  pub partial : Partial (rowsFor s a b) (s .k) (s .w) (s .limit) count p c rows table
+  pub partial : Partial (rowsFor s a b) (s .k) (s .w) (s .limit) count p c rows table heads
 
 -- all that the flags ask: rows that are there, and a place for each flag before the limit
 pub record Flagging (s : Shape) (a b : List ℕ) (count : ℕ) (rows table : List ℕ) : Type 0 where

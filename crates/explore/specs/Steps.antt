@@ -1,6 +1,7 @@
 -- What the functions on single rows ask and answer.
+use mathlib.Core.Path.{_≡_}
 use mathlib.Core.Bool.{Bool, not, _&&_, _||_}
-use Prim.Native.Nat.{ℕ, zero, suc, _+_, _*_, _%_, _≤_, _<_}
+use Prim.Native.Nat.{ℕ, zero, suc, _+_, _*_, _/_, _%_, _≤_, _<_}
 use mathlib.Core.List.{List}
 use lib.ListN.{length, getD, set, drop}
 use lib.Dec.{ltb}
@@ -30,14 +31,22 @@ concatGain a p row = numberBytes p (choose (flagAt a p) (λ _. set (drop 2 row) 
 
 -- ---- a number that equal rows share, by which a row is looked up
 
--- The sum of the first i bytes, each by a weight of its own. Weights of the second degree: sets with as many members and the same sum differ.
+-- the weight of a place
+unfoldable pub weight : ℕ → ℕ
+weight i = ((i * 40503 + 12347) * i + 30011) % 65536
+
+-- the weights of the first w places, of which 128 are used
+pub record Weighted (w : ℕ) (l : List ℕ) : Type 0 where
+  pub entry : (i : ℕ) → i < w → i < 128 → getD l i 0 ≡ weight i
+
+-- The sum of the first i bytes, each by the weight of its place.
 unfoldable pub hashSum : List ℕ → ℕ → ℕ
 hashSum r zero = 0
-hashSum r (suc i) = hashSum r i + getD r i 0 * ((i * 40503 + 12347) * i + 1)
+hashSum r (suc i) = hashSum r i + getD r i 0 * weight i
 
--- long rows are told by their first 4,096 bytes
+-- long rows are told by their first 128 bytes
 unfoldable pub hashed : ℕ → ℕ
-hashed n = choose (ltb 4096 n) (λ _. 4096) (λ _. n)
+hashed n = choose (ltb 128 n) (λ _. 128) (λ _. n)
 
 unfoldable pub rowHash : List ℕ → ℕ
-rowHash r = hashSum r (hashed (length r)) % 65536
+rowHash r = hashSum r (hashed (length r)) / 64 % 1024

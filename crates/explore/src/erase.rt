@@ -18,8 +18,7 @@ pub fn start(a: &[u16], b: &[u16], s: Shape, row: &mut [u8])
     let ba = s.ba;
     let na = s.na;
     bits::clear(row);
-    row[0] = 1;
-    closure::close(a, ba, k, na, row);
+    closure::chase(a, ba, k, na, 0, row);
 }
 
 // The row that `from` leads to by the column c: by the mark, the empty one.
@@ -31,11 +30,9 @@ pub fn next(a: &[u16], b: &[u16], s: Shape, c: usize, from: &[u8], row: &mut [u8
     let k = s.k;
     let ba = s.ba;
     let na = s.na;
-    if c + 1 == k {
-        bits::clear(row);
-    } else {
-        bits::lead(a, ba, k, c, from, na, row);
-        closure::close(a, ba, k, na, row);
+    bits::clear(row);
+    if c + 1 != k {
+        closure::lead(a, ba, k, c, from, na, row);
     }
 }
 

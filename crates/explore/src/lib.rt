@@ -2,6 +2,7 @@
 // a table. These are parts: callers give closed tables and buffers that are long enough.
 mod bits;
 mod closure;
+mod columns;
 mod concatenation;
 mod erase;
 mod number;
@@ -14,7 +15,8 @@ ghost use mathlib.Core.Path.{_≡_};
 ghost use Prim.Native.Nat.{_<_, _≤_};
 ghost use lib.ListN.{length, replicate};
 ghost use Rattle.explore.specs.Rows.{bit};
-ghost use Rattle.explore.specs.Answer.{rowsFor, Fits, Room, Source, Step, Turning, Turned, Flagging, Flagged, Explores, Answers};
+ghost use Rattle.explore.specs.Steps.{Weighted};
+ghost use Rattle.explore.specs.Answer.{rowsFor, Fits, Room, Source, Step, Twins, Turning, Turned, Flagging, Flagged, Explores, Answers};
 
 // The operation's code (0 `|`, 1 `&`, 2 `-`, 3 concatenation, 4 star, 5 erase), the number of columns, for each operand its number of states and
 // where its transitions begin, the bytes of a row, and the most sets. Star and erase take their one operand twice.
@@ -123,20 +125,23 @@ fn turn(
     rows: &mut [u8],
     row: &mut [u8],
     table: &mut [u16],
+    heads: &mut [u16; 1024],
+    weights: &[u16; 128],
     count: usize,
     state: usize,
     column: usize,
     q: usize,
 ) -> Explored
-    requires { ⌜ Turning s (now a) (now b) (now rows) (now row) (now table) count state column q ⌝ }
-    ensures { λ r. ⌜ Turned (rowsFor s (now (a .entry)) (now (b .entry))) (s .k) (s .w) (s .limit) count state column (now (rows .exit)) (now (table .exit)) r ⌝ }
+    requires { ⌜ Turning s (now a) (now b) (now rows) (now row) (now table) (now heads) count state column q ⌝ }
+    requires { ⌜ Weighted (s .w) (now weights) ⌝ }
+    ensures { λ r. ⌜ Turned (rowsFor s (now (a .entry)) (now (b .entry))) (s .k) (s .w) (s .limit) count state column (now (rows .exit)) (now (table .exit)) (now (heads .exit)) r ⌝ }
 {
     let w = s.w;
     let limit = s.limit;
     let at = state * w;
     next_row(a, b, s, column, &rows[at..at + w], row);
-    let h = rows::hash(&row[..]);
-    match rows::find(&rows[..], &table[..], w, count, &row[..], h) {
+    let h = rows::hash(&row[..], weights);
+    match rows::find(&rows[..], &table[..], heads, w, count, &row[..], h) {
         rows::Found::At(j) => {
             table[limit + q] = (j % 65536) as u16;
             Explored::Sets(count)
@@ -144,7 +149,7 @@ fn turn(
         rows::Found::Nothing => {
             if count < limit {
                 rows::append(rows, w, count, &row[..]);
-                table[count] = h;
+                rows::chain(table, heads, count, h);
                 table[limit + q] = (count % 65536) as u16;
                 Explored::Sets(count + 1)
             } else {
@@ -152,6 +157,49 @@ fn turn(
             }
         }
     }
+}
+
+// The same, where an earlier column of the same row may be its twin: then both lead to one row.
+fn advance(
+    a: &[u16],
+    b: &[u16],
+    s: Shape,
+    rows: &mut [u8],
+    row: &mut [u8],
+    table: &mut [u16],
+    heads: &mut [u16; 1024],
+    weights: &[u16; 128],
+    count: usize,
+    state: usize,
+    column: usize,
+    twin: usize,
+    q: usize,
+) -> Explored
+    requires { ⌜ Turning s (now a) (now b) (now rows) (now row) (now table) (now heads) count state column q ⌝ }
+    requires { ⌜ Weighted (s .w) (now weights) ⌝ }
+    requires { ⌜ (twin < column → Twins s (now a) (now b) twin column) ⌝ }
+    ensures { λ r. ⌜ Turned (rowsFor s (now (a .entry)) (now (b .entry))) (s .k) (s .w) (s .limit) count state column (now (rows .exit)) (now (table .exit)) (now (heads .exit)) r ⌝ }
+{
+    let limit = s.limit;
+    if twin < column {
+        let j = table[limit + (q - (column - twin))];
+        table[limit + q] = j;
+        return Explored::Sets(count);
+    }
+    turn(
+        a,
+        b,
+        s,
+        rows,
+        row,
+        table,
+        heads,
+        weights,
+        count,
+        state,
+        column,
+        q,
+    )
 }
 
 // All sets that are reached, each once, with their transitions and flags.
@@ -168,15 +216,34 @@ pub fn explore(
 {
     let k = s.k;
     let w = s.w;
+    let twins = columns::twins(a, b, s);
+    let weights = rows::weights(w);
+    let mut heads = [0; 1024];
     start_row(a, b, s, row);
     rows::append(rows, w, 0, &row[..]);
-    table[0] = rows::hash(&row[..]);
+    let h = rows::hash(&row[..], &weights);
+    rows::chain(table, &mut heads, 0, h);
     let mut count = 1;
     let mut state = 0;
     let mut column = 0;
     let mut q = 0;
     while state < count {
-        let Explored::Sets(n) = turn(a, b, s, rows, row, table, count, state, column, q) else {
+        let twin = columns::twin(&twins, column);
+        let Explored::Sets(n) = advance(
+            a,
+            b,
+            s,
+            rows,
+            row,
+            table,
+            &mut heads,
+            &weights,
+            count,
+            state,
+            column,
+            twin,
+            q,
+        ) else {
             return Explored::TooMany;
         };
         count = n;

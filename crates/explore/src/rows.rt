@@ -1,55 +1,121 @@
-// Rows of one width, end to end in a buffer: finding one by its hash, and putting one behind the others.
+// Rows of one width, end to end in a buffer: finding one by its hash, and putting one behind the others. Rows with the same hash are chained: `heads` has
+// for each hash the last such row, and `links` for each row the one before it, each plus 1, or 0 where there is none.
+ghost use mathlib.Core.Bool.{true};
 ghost use mathlib.Core.Path.{_≡_};
 ghost use Prim.Native.Nat.{_+_, _*_, _<_, _≤_};
-ghost use lib.ListN.{length};
-ghost use Rattle.explore.specs.Steps.{rowHash};
-ghost use Rattle.explore.specs.Answer.{Hashes, Looked, Appended};
+ghost use lib.ListN.{length, getD, set};
+ghost use Rattle.explore.specs.Steps.{Weighted, rowHash};
+ghost use Rattle.explore.specs.Answer.{Chained, Looked, Appended};
 
 pub enum Found {
     At(usize),
     Nothing,
 }
 
-// A number that equal rows share. The products are independent of each other, so that the sum is quick.
-pub fn hash(row: &[u8]) -> u16
-    ensures { λ r. ⌜ r ≡ rowHash (now (row .entry)) ⌝ }
+// The weights of the first w places: odd numbers without a simple pattern, so that few rows share a hash.
+pub fn weights(w: usize) -> [u16; 128]
+    ensures { λ r. ⌜ Weighted w r ⌝ }
 {
+    let mut table = [0; 128];
+    let mut i = 0;
+    while i < 128 {
+        if w <= i {
+            return table;
+        }
+        table[i] = (((i * 40503 + 12347) * i + 30011) % 65536) as u16;
+        i += 1;
+    }
+    table
+}
+
+fn wide(x: u8) -> u32
+    ensures { λ r. ⌜ (r ≡ x) × (r < 256) ⌝ }
+{
+    x as u32
+}
+
+// The same for a row of four bytes, a pair of states, with the weights of its places.
+fn hash_pair(row: &[u8]) -> usize
+    requires { ⌜ length (now row) ≡ 4 ⌝ }
+    ensures { λ r. ⌜ (r ≡ rowHash (now (row .entry))) × (r < 1024) ⌝ }
+{
+    let low = wide(row[0]) * 30011 + wide(row[1]) * 17325;
+    let high = wide(row[2]) * 20109 + wide(row[3]) * 38363;
+    ((low + high) / 64 % 1024) as usize
+}
+
+// A number that equal rows share. The products are independent of each other, so that the sum is quick.
+pub fn hash(row: &[u8], weights: &[u16; 128]) -> usize
+    requires { ⌜ Weighted (length (now row)) (now weights) ⌝ }
+    ensures { λ r. ⌜ (r ≡ rowHash (now (row .entry))) × (r < 1024) ⌝ }
+{
+    if row.len() == 4 {
+        return hash_pair(row);
+    }
     let mut end = row.len();
-    if 4096 < end {
-        end = 4096;
+    if 128 < end {
+        end = 128;
     }
     let mut sum = 0;
     let mut i = 0;
     while i < end {
-        sum += wide(row[i]) * ((i * 40503 + 12347) * i + 1);
+        sum += wide(row[i]) * weights[i] as u32;
         i += 1;
     }
-    (sum % 65536) as u16
+    (sum / 64 % 1024) as usize
 }
 
-fn wide(x: u8) -> usize
-    ensures { λ r. ⌜ (r ≡ x) × (r < 256) ⌝ }
+// Whether two long rows are equal. It looks at all bytes, so that several are compared at once.
+fn same_long(a: &[u8], b: &[u8]) -> bool
+    requires { ⌜ length (now a) ≡ length (now b) ⌝ }
+    ensures { λ r. ⌜ (r ≡ true → now (a .entry) ≡ now (b .entry)) × (now (a .entry) ≡ now (b .entry) → r ≡ true) ⌝ }
 {
-    x as usize
+    let mut ok = true;
+    let mut i = 0;
+    while i < a.len() {
+        if a[i] != b[i] {
+            ok = false;
+        }
+        i += 1;
+    }
+    ok
 }
 
-// Where the row with the hash h stands among the first `count` rows of w bytes, whose hashes are given: only rows with the same hash are compared.
-pub fn find(rows: &[u8], hashes: &[u16], w: usize, count: usize, row: &[u8], h: u16) -> Found
+// Whether two rows are equal.
+fn same(a: &[u8], b: &[u8]) -> bool
+    requires { ⌜ length (now a) ≡ length (now b) ⌝ }
+    ensures { λ r. ⌜ (r ≡ true → now (a .entry) ≡ now (b .entry)) × (now (a .entry) ≡ now (b .entry) → r ≡ true) ⌝ }
+{
+    if a.len() < 16 {
+        return check::same(a, b);
+    }
+    same_long(a, b)
+}
+
+// Where the row with the hash h stands among the first `count` rows of w bytes: only rows with the same hash are compared.
+pub fn find(
+    rows: &[u8],
+    links: &[u16],
+    heads: &[u16; 1024],
+    w: usize,
+    count: usize,
+    row: &[u8],
+    h: usize,
+) -> Found
     requires { ⌜ count * w ≤ length (now rows) ⌝ }
-    requires { ⌜ count ≤ length (now hashes) ⌝ }
-    requires { ⌜ Hashes w count (now rows) (now hashes) ⌝ }
-    requires { ⌜ h ≡ rowHash (now row) ⌝ }
+    requires { ⌜ (count ≤ length (now links)) × (length (now row) ≡ w) ⌝ }
+    requires { ⌜ Chained w count (now rows) (now links) (now heads) ⌝ }
+    requires { ⌜ (h ≡ rowHash (now row)) × (h < 1024) ⌝ }
     ensures { λ r. ⌜ Looked w count (now (rows .entry)) (now (row .entry)) r ⌝ }
 {
-    let mut j = 0;
-    while j < count {
-        if hashes[j] == h {
-            let at = j * w;
-            if check::same(&rows[at..at + w], row) {
-                return Found::At(j);
-            }
+    let mut next = heads[h] as usize;
+    while 0 < next {
+        let j = next - 1;
+        let at = j * w;
+        if same(&rows[at..at + w], row) {
+            return Found::At(j);
         }
-        j += 1;
+        next = links[j] as usize;
     }
     Found::Nothing
 }
@@ -62,4 +128,14 @@ pub fn append(rows: &mut [u8], w: usize, count: usize, row: &[u8])
 {
     let at = count * w;
     bytes::copy(row, &mut rows[at..at + w]);
+}
+
+// The row `count`, whose hash is h, becomes the last of its chain.
+pub fn chain(links: &mut [u16], heads: &mut [u16; 1024], count: usize, h: usize)
+    requires { ⌜ (count < length (now links)) × (count + 1 < 65536) ⌝ }
+    requires { ⌜ (h < 1024) × (length (now heads) ≡ 1024) ⌝ }
+    ensures { λ _. ⌜ (now (links .exit) ≡ set (now (links .entry)) count (getD (now (heads .entry)) h 0)) × (now (heads .exit) ≡ set (now (heads .entry)) h (count + 1)) ⌝ }
+{
+    links[count] = heads[h];
+    heads[h] = (count + 1) as u16;
 }

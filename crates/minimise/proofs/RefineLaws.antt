@@ -1,6 +1,6 @@
 -- Laws of the rounds of partition refinement: a whole round, and that a round which parts no class leaves the classes of equivalent states. Assumes nothing.
 use mathlib.Core.Path.{_≡_, refl, sym, ap, _∙_}
-use mathlib.Core.Bool.{true, false}
+use mathlib.Core.Bool.{Bool, true, false, cond}
 use mathlib.Core.Logic.{_⊎_, inl, inr, _≢_}
 use mathlib.Core.List.{List, [], _∷_}
 use Prim.Native.Nat.{ℕ, zero, suc, _+_, _-_, _≤_, _<_, zero-le}
@@ -13,10 +13,12 @@ use lib.Dec.{eqb}
 use Rattle.automata.specs.Booleans.{bool-cases}
 use Rattle.automata.specs.Basics.{LtCases, SameCases, lt-cases, same-cases, nat-test}
 use Rattle.automata.specs.Machine.{Machine, size, automaton, WellFormed}
-use Rattle.automata.specs.Partition.{classes, classes-whole, classes-low, classes-length, classes-equivalent}
+use Rattle.automata.specs.Partition.{bit, classes, classes-whole, classes-low, classes-length, classes-equivalent}
 use Rattle.automata.specs.Refinement.{SameSignature, Coarse, Settled, settled-equivalent}
-use Rattle.automata.specs.Table.{tableMachine, table-size, table-formed}
-use Rattle.minimise.specs.Refine.{classOf, next, Led, leaders, Placed, Partial, Sized, Begun, Under, Placing, Rounded}
+use Rattle.automata.specs.Table.{flagOf, tableMachine, table-size, table-formed, table-accepting}
+use borrow.Author.Tests.{eq-eqb, ne-eqb}
+use Rattle.minimise.specs.Refine.{classOf, next, flagBit, FirstOther, sideOf, Parted, Led, Told, leaders, Placed, Partial, Sized, Begun, Under, Placing, Rounded}
+use Rattle.minimise.proofs.EntryLaws.{bit-same}
 use Rattle.minimise.proofs.RoundLaws.{together-sym, together-trans}
 
 -- ---- a whole round
@@ -37,7 +39,7 @@ module _ {base n k : ℕ} {t w : List ℕ} (B : Begun base n k t w) where
 
   pub round-under : (p : ℕ) (v : List ℕ) → p < n → length v ≡ length w → Partial k n (tableMachine base n k t) (take n w) v p → Under base n k p t v
   round-under p v h e P =
-      record { closed = B .sized .closed; room = rw e (B .sized .room); few = B .sized .few; inside = h; partial = rw (P .kept) P }
+      record { closed = B .sized .closed; room = rw e (B .sized .room); few = B .sized .few; inside = h; told = rw (P .kept) (B .told); partial = rw (P .kept) P }
 
   pub round-turns : (p r : ℕ) (v v′ : List ℕ) → Partial k n (tableMachine base n k t) (take n w) v p → Placing base n k p t v v′ r
       → Partial k n (tableMachine base n k t) (take n w) v′ (p + 1)
@@ -158,28 +160,96 @@ classes-found k n M F sz cls len D c s = ext-getD zero cls (classes k M) (len �
         let e₂ : getD (classes k M) y zero ≡ x = classes-whole k M F y p ys hs (settled-equivalent k M F (classOf cls) s y p ys hs (D .again p h)) in
         omega (arith, D .low x xn, classes-low k M F y ys)
 
+-- ---- classes by acceptance
+
+pub side-same : (t : List ℕ) (other p : ℕ) → flagBit t p ≡ flagBit t 0 → sideOf t other p ≡ 0
+unfolding sideOf
+side-same t other p e = rw (eq-eqb (flagBit t p) (flagBit t 0) e)
+
+pub side-other : (t : List ℕ) (other p : ℕ) → flagBit t p ≢ flagBit t 0 → sideOf t other p ≡ other
+unfolding sideOf
+side-other t other p d = rw (ne-eqb (flagBit t p) (flagBit t 0) d)
+
+module _ (n : ℕ) (t : List ℕ) (other : ℕ) (F : FirstOther n t other) where
+  pub side-low : (p : ℕ) → p < n → sideOf t other p ≤ p
+  side-low p h = go (same-cases nat-test (flagBit t p) (flagBit t 0))
+    where
+      go : SameCases nat-test (flagBit t p) (flagBit t 0) → sideOf t other p ≤ p
+      go (inl e) = rw (side-same t other p (e .0)) zero-le
+      go (inr e) = rw (side-other t other p (e .0)) (at (lt-cases p other))
+        where
+          at : LtCases p other → other ≤ p
+          at (inl x) = absurd (e .0 (F .before p (x .0)))
+          at (inr x) = x .0
+
+  pub side-again : (p : ℕ) → p < n → sideOf t other (sideOf t other p) ≡ sideOf t other p
+  side-again p h = go (same-cases nat-test (flagBit t p) (flagBit t 0))
+    where
+      go : SameCases nat-test (flagBit t p) (flagBit t 0) → sideOf t other (sideOf t other p) ≡ sideOf t other p
+      go (inl e) = rw (side-same t other p (e .0)) (side-same t other 0 refl)
+      go (inr e) = let z = side-other t other p (e .0) in rw z (side-other t other other (F .differs (omega (arith, side-low p h, z))))
+
+  -- states of one class answer alike: other than state 0 are only the one answer
+  pub side-told : (p q : ℕ) → p < n → q < n → sideOf t other p ≡ sideOf t other q → flagBit t p ≡ flagBit t q
+  side-told p q h b e = go (same-cases nat-test (flagBit t p) (flagBit t 0)) (same-cases nat-test (flagBit t q) (flagBit t 0))
+    where
+      -- the first other state is not state 0
+      apart : (r s : ℕ) → r < n → flagBit t r ≢ flagBit t 0 → flagBit t s ≡ flagBit t 0 → sideOf t other r ≡ sideOf t other s → ⊥
+      apart r s x d i j =
+          let z : other ≡ 0 = sym (side-other t other r d) ∙ j ∙ side-same t other s i in
+          F .differs (omega (arith, z)) (ap (flagBit t) z)
+
+      go : SameCases nat-test (flagBit t p) (flagBit t 0) → SameCases nat-test (flagBit t q) (flagBit t 0) → flagBit t p ≡ flagBit t q
+      go (inl x) (inl y) = x .0 ∙ sym (y .0)
+      go (inl x) (inr y) = absurd (apart q p b (y .0) (x .0) (sym e))
+      go (inr x) (inl y) = absurd (apart p q h (x .0) (y .0) e)
+      go (inr x) (inr y) = bits (flagOf (getD t p 0)) (flagOf (getD t q 0)) (flagOf (getD t 0 0)) (x .0) (y .0)
+        where
+          bits : (a c d : Bool) → bit a ≢ bit d → bit c ≢ bit d → bit a ≡ bit c
+          bits true true d u v = refl
+          bits false false d u v = refl
+          bits true false true u v = absurd (u refl)
+          bits true false false u v = absurd (v refl)
+          bits false true true u v = absurd (v refl)
+          bits false true false u v = absurd (u refl)
+
 -- ---- the rounds over a table
 
 -- The classes of w after some rounds, count of them at most.
 pub record Refining (base n k : ℕ) (t w : List ℕ) (count : ℕ) : Type 0 where
   pub led : Led n (classOf (take n w))
   pub coarse : Coarse k (tableMachine base n k t) (classOf (take n w))
+  pub told : Told n (tableMachine base n k t) (classOf (take n w))
   pub counted : count ≤ leaders (classOf (take n w)) n
 
 module _ {base n k : ℕ} {t w : List ℕ} (S : Sized base n k t w) where
-  -- all states in one class
-  pub refine-starts : (v : List ℕ) → ((p : ℕ) → p < n → getD v p 0 ≡ 0) → Refining base n k t v 0
-  refine-starts v h = record {
-    led = record { low = λ p b. rw (zero-at p b) zero-le; again = λ p b. rw (zero-at p b) (zero-at 0 (S .closed .some)) };
-    coarse = λ p q hp hq a. zero-at p (rw (table-size base n k t (S .closed)) at hp) ∙ sym (zero-at q (rw (table-size base n k t (S .closed)) at hq));
+  -- the states are parted by acceptance
+  pub refine-starts : (v : List ℕ) → Parted n t v → Refining base n k t v 0
+  unfolding sideOf
+  refine-starts v P = record {
+    led = record { low = λ p b. rw (at p b) (side-low n t (P .other) (P .first) p b); again = again };
+    coarse = λ p q hp hq a. at p (inside p hp) ∙ ap (λ (x : ℕ). cond (eqb x (flagBit t 0)) 0 (P .other)) (flags p q (inside p hp) (inside q hq) (a [] tt)) ∙ sym (at q (inside q hq));
+    told = λ p q h b e. accepts p q h b (side-told n t (P .other) (P .first) p q h b (sym (at p h) ∙ e ∙ at q b));
     counted = zero-le;
   }
     where
-      zero-at : (p : ℕ) → p < n → classOf (take n v) p ≡ 0
-      zero-at p b = getD-take n v p 0 b ∙ h p b
+      at : (p : ℕ) → p < n → classOf (take n v) p ≡ sideOf t (P .other) p
+      at p b = getD-take n v p 0 b ∙ P .class p b
+
+      inside : (p : ℕ) → p < size (tableMachine base n k t) → p < n
+      inside p b = rw (table-size base n k t (S .closed)) at b
+
+      again : (p : ℕ) → p < n → classOf (take n v) (classOf (take n v) p) ≡ classOf (take n v) p
+      again p b = ap (classOf (take n v)) (at p b) ∙ at (sideOf t (P .other) p) (omega (arith, side-low n t (P .other) (P .first) p b)) ∙ side-again n t (P .other) (P .first) p b ∙ sym (at p b)
+
+      accepts : (p q : ℕ) → p < n → q < n → flagBit t p ≡ flagBit t q → automaton (tableMachine base n k t) .accepting p ≡ automaton (tableMachine base n k t) .accepting q
+      accepts p q h b e = table-accepting base n k t (S .closed) p h ∙ bit-same _ _ e ∙ sym (table-accepting base n k t (S .closed) q b)
+
+      flags : (p q : ℕ) → p < n → q < n → automaton (tableMachine base n k t) .accepting p ≡ automaton (tableMachine base n k t) .accepting q → flagBit t p ≡ flagBit t q
+      flags p q h b e = ap bit (sym (table-accepting base n k t (S .closed) p h) ∙ e ∙ table-accepting base n k t (S .closed) q b)
 
   pub refine-begun : (v : List ℕ) (c : ℕ) → length v ≡ length w → Refining base n k t v c → Begun base n k t v
-  refine-begun v c e R = record { sized = record { closed = S .closed; room = rw e (S .room); few = S .few }; led = R .led }
+  refine-begun v c e R = record { sized = record { closed = S .closed; room = rw e (S .room); few = S .few }; led = R .led; told = R .told }
 
   module _ (v v′ : List ℕ) (c r : ℕ) (e : length v ≡ length w) (R : Refining base n k t v c) (Q : Rounded base n k t v v′ r) where
     -- a round that parts no class
@@ -206,6 +276,8 @@ module _ {base n k : ℕ} {t w : List ℕ} (S : Sized base n k t w) where
         again = λ p b. rw (same p b) (same (next n v′ p) (omega (arith, Q .placed .low p b)) ∙ Q .placed .again p b);
       };
       coarse = λ p q hp hq a. same p (inside p hp) ∙ new p q hp hq a ∙ sym (same q (inside q hq));
+      told = λ p q x y z. let j = sym (same p x) ∙ z ∙ same q y in
+          sym (Q .placed .sound p x .signature .accepting) ∙ ap (automaton (tableMachine base n k t) .accepting) j ∙ Q .placed .sound q y .signature .accepting;
       counted = rw (leaders-ext (classOf (take n u)) (next n v′) n same, ← Q .count) (le-refl r);
     }
       where

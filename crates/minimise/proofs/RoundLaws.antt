@@ -11,11 +11,9 @@ use lib.Seq.{getD-take, getD-set-same, getD-set-other, take-set-le}
 use borrow.Author.Tests.{eq-eqb, ne-eqb}
 use Rattle.automata.specs.Basics.{LtCases, lt-cases}
 use Rattle.automata.specs.Machine.{Machine, automaton}
-use Rattle.automata.specs.Partition.{bit}
 use Rattle.automata.specs.Refinement.{SameSignature}
-use Rattle.automata.specs.Table.{flagOf, tableMachine, ClosedTable, table-accepting}
+use Rattle.automata.specs.Table.{tableMachine, ClosedTable}
 use Rattle.minimise.specs.Refine.{Says, Target, classOf, next, link, Led, leaders, Together, Placed, Latest, Linked, Under, Leads, Placing}
-use Rattle.minimise.proofs.EntryLaws.{bit-same}
 
 -- ---- comparing two states
 
@@ -37,15 +35,8 @@ module _ (base n k : ℕ) (t w : List ℕ) (p q : ℕ) (C : ClosedTable base n k
   abbrev f : ℕ → ℕ
   f = classOf (take n w)
 
-  pub alike-differ : (x y : ℕ) → x ≡ bit (flagOf (getD t p 0)) → y ≡ bit (flagOf (getD t q 0)) → x ≢ y → Says false (SameSignature k M f p q)
-  alike-differ x y ex ey d = says-no _ λ s.
-      d (ex ∙ ap bit (sym (table-accepting base n k t C p hp) ∙ s .accepting ∙ table-accepting base n k t C q hq) ∙ sym ey)
-
-  pub alike-start : (x y : ℕ) → x ≡ bit (flagOf (getD t p 0)) → y ≡ bit (flagOf (getD t q 0)) → x ≡ y → SameBelow k M f p q 0
-  alike-start x y ex ey e = record {
-    accepting = table-accepting base n k t C p hp ∙ bit-same _ _ (sym ex ∙ e ∙ ey) ∙ sym (table-accepting base n k t C q hq);
-    step = λ a h. absurd (not-suc-le-zero h);
-  }
+  pub alike-start : automaton M .accepting p ≡ automaton M .accepting q → SameBelow k M f p q 0
+  alike-start e = record { accepting = e; step = λ a h. absurd (not-suc-le-zero h) }
 
   -- the class of what a column leads to, as read
   read : (p c r x : ℕ) → Target base n k t p c r → x ≡ getD w r 0 → f (automaton M .step p c) ≡ x

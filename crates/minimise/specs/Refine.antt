@@ -9,7 +9,8 @@ use lib.ListN.{length, getD, take}
 use lib.Dec.{eqb}
 use Rattle.automata.specs.Machine.{Machine, automaton}
 use Rattle.automata.specs.Refinement.{SameSignature}
-use Rattle.automata.specs.Table.{tableMachine, ClosedTable}
+use Rattle.automata.specs.Partition.{bit}
+use Rattle.automata.specs.Table.{flagOf, tableMachine, ClosedTable}
 
 -- An answer says whether P holds.
 pub record Says (r : Bool) (P : Type 0) : Type 0 where
@@ -35,6 +36,10 @@ link n w p = getD w (n + (n + p)) zero
 pub record Led (n : ℕ) (f : ℕ → ℕ) : Type 0 where
   pub low : (p : ℕ) → p < n → f p ≤ p
   pub again : (p : ℕ) → p < n → f (f p) ≡ f p
+
+-- States of one class answer alike.
+abbrev pub Told : ℕ → Machine → (ℕ → ℕ) → Type 0
+Told n M f = (p q : ℕ) → p < n → q < n → f p ≡ f q → automaton M .accepting p ≡ automaton M .accepting q
 
 -- how many states below m lead a class
 unfoldable pub leaders : (ℕ → ℕ) → ℕ → ℕ
@@ -72,6 +77,28 @@ pub record Partial (k n : ℕ) (M : Machine) (cls w : List ℕ) (m : ℕ) : Type
   pub placed : Placed k M (classOf cls) (next n w) m
   pub linked : Linked (classOf cls) (next n w) (link n w) m
 
+-- ---- the classes to begin with
+
+-- a state's flag as 0 or 1
+abbrev pub flagBit : List ℕ → ℕ → ℕ
+flagBit t p = bit (flagOf (getD t p 0))
+
+-- r is the first of the n states that does not answer as state 0 does, or n.
+pub record FirstOther (n : ℕ) (t : List ℕ) (r : ℕ) : Type 0 where
+  pub within : r ≤ n
+  pub before : (p : ℕ) → p < r → flagBit t p ≡ flagBit t 0
+  pub differs : r < n → flagBit t r ≢ flagBit t 0
+
+-- a state's class by acceptance: that of state 0, or of the first other one
+unfoldable pub sideOf : List ℕ → ℕ → ℕ → ℕ
+sideOf t other p = cond (eqb (flagBit t p) (flagBit t 0)) 0 other
+
+-- The states are parted by acceptance.
+pub record Parted (n : ℕ) (t w : List ℕ) : Type 0 where
+  pub other : ℕ
+  pub first : FirstOther n t other
+  pub class : (p : ℕ) → p < n → getD w p 0 ≡ sideOf t other p
+
 -- The table, and a list with room for the three arrays.
 pub record Sized (base n k : ℕ) (t w : List ℕ) : Type 0 where
   pub closed : ClosedTable base n k t
@@ -82,6 +109,7 @@ pub record Sized (base n k : ℕ) (t w : List ℕ) : Type 0 where
 pub record Begun (base n k : ℕ) (t w : List ℕ) : Type 0 where
   pub sized : Sized base n k t w
   pub led : Led n (classOf (take n w))
+  pub told : Told n (tableMachine base n k t) (classOf (take n w))
 
 -- These, and a state that is not yet placed, but all before it are.
 pub record Under (base n k p : ℕ) (t w : List ℕ) : Type 0 where
@@ -89,6 +117,7 @@ pub record Under (base n k p : ℕ) (t w : List ℕ) : Type 0 where
   pub room : n + (n + n) ≤ length w
   pub few : n < 65536
   pub inside : p < n
+  pub told : Told n (tableMachine base n k t) (classOf (take n w))
   pub partial : Partial k n (tableMachine base n k t) (take n w) w p
 
 -- r is the leader that p goes with: an earlier one, or p itself where the round keeps no earlier leader together with p

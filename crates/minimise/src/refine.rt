@@ -8,22 +8,21 @@ use crate::entries::target;
 ghost use mathlib.Core.Path.{_≡_};
 ghost use Prim.Native.Nat.{ℕ, _+_, _≤_, _<_};
 ghost use lib.ListN.{length, getD, take};
+ghost use Rattle.automata.specs.Machine.{automaton};
 ghost use Rattle.automata.specs.Refinement.{SameSignature};
 ghost use Rattle.automata.specs.Partition.{classes};
 ghost use Rattle.automata.specs.Table.{tableMachine, ClosedTable};
-ghost use Rattle.minimise.specs.Refine.{Says, classOf, next, Sized, Begun, Under, Leads, Placing, Rounded};
+ghost use Rattle.minimise.specs.Refine.{Says, classOf, next, FirstOther, sideOf, Parted, Sized, Begun, Under, Leads, Placing, Rounded};
 
-// Whether a round sees the same of states p and q: both accept or neither, and each column leads to one class.
+// Whether a round sees the same of states p and q, of which both accept or neither: each column leads to one class.
 fn alike(table: &[u16], base: usize, n: usize, k: usize, work: &[u16], p: usize, q: usize) -> bool
     requires { ⌜ ClosedTable base n k (now table) ⌝ }
     requires { ⌜ n ≤ length (now work) ⌝ }
     requires { ⌜ p < n ⌝ }
     requires { ⌜ q < n ⌝ }
+    requires { ⌜ automaton (tableMachine base n k (now table)) .accepting p ≡ automaton (tableMachine base n k (now table)) .accepting q ⌝ }
     ensures { λ r. ⌜ Says r (SameSignature k (tableMachine base n k (now (table .entry))) (classOf (take n (now (work .entry)))) p q) ⌝ }
 {
-    if flag(table, p) != flag(table, q) {
-        return false;
-    }
     let mut c = 0;
     while c < k {
         let s = target(table, base, n, k, p, c);
@@ -104,24 +103,51 @@ fn adopt(n: usize, work: &mut [u16])
     }
 }
 
-// All states in one class.
-fn unite(n: usize, work: &mut [u16])
-    requires { ⌜ n ≤ length (now work) ⌝ }
-    ensures { λ _. ⌜ ((p : ℕ) → p < n → getD (now (work .exit)) p 0 ≡ 0) ⌝ }
+// The first state that does not answer as state 0 does, or n.
+fn first_other(table: &[u16], n: usize) -> usize
+    requires { ⌜ (1 ≤ n) × (n ≤ length (now table)) ⌝ }
+    ensures { λ r. ⌜ FirstOther n (now (table .entry)) r ⌝ }
 {
     let mut i = 0;
     while i < n {
-        work[i] = 0;
+        if flag(table, i) != flag(table, 0) {
+            return i;
+        }
+        i += 1;
+    }
+    n
+}
+
+// The class of a state when states are parted by acceptance: that of state 0, or of the first other one.
+fn side(table: &[u16], other: usize, p: usize) -> usize
+    requires { ⌜ (1 ≤ length (now table)) × (p < length (now table)) ⌝ }
+    ensures { λ r. ⌜ r ≡ sideOf (now (table .entry)) other p ⌝ }
+{
+    if flag(table, p) == flag(table, 0) {
+        return 0;
+    }
+    other
+}
+
+// States parted by acceptance.
+fn part(table: &[u16], n: usize, work: &mut [u16])
+    requires { ⌜ (1 ≤ n) × (n ≤ length (now table)) × (n ≤ length (now work)) × (n < 65536) ⌝ }
+    ensures { λ _. ⌜ Parted n (now (table .entry)) (now (work .exit)) ⌝ }
+{
+    let other = first_other(table, n);
+    let mut i = 0;
+    while i < n {
+        put(work, i, side(table, other, i));
         i += 1;
     }
 }
 
-// The classes of equivalent states, each by its first state: rounds from one class of all states on, until a round parts none.
+// The classes of equivalent states, each by its first state: rounds from the two classes by acceptance on, until a round parts none.
 pub fn refine(table: &[u16], base: usize, n: usize, k: usize, work: &mut [u16])
     requires { ⌜ Sized base n k (now table) (now work) ⌝ }
     ensures { λ _. ⌜ take n (now (work .exit)) ≡ classes k (tableMachine base n k (now (table .entry))) ⌝ }
 {
-    unite(n, work);
+    part(table, n, work);
     let mut count = 0;
     loop {
         let parts = round(table, base, n, k, work);

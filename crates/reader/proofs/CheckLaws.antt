@@ -92,9 +92,9 @@ module _ (s : List ℕ) (ended : Bool) (n : ℕ) (q : n ≡ lineTest (lineOf s e
   pub passed-few : n ≡ 0 → countOf 20 s ≤ 4
   passed-few e = passed e .0
 
-  module _ (ls : List ℕ) (f : Names) (o : List ℕ) where
+  module _ (ls : List ℕ) (f : Names) (o o′ : List ℕ) where
     -- 3, 4, or 5 for the missing end
-    pub stopped-tests : (n ≡ 0 → ⊥) → ReadsLine (lineOf s ended) ls f o (answer.the-variants.Refused n)
+    pub stopped-tests : (n ≡ 0 → ⊥) → ReadsLine (lineOf s ended) ls f o o′ (answer.the-variants.Refused n)
     unfolding readLine
     stopped-tests h = record { says = record { is = λ ns _. rw (← q, ne-eqb n 0 h) } }
 
@@ -104,30 +104,30 @@ module _ (s : List ℕ) (ended : Bool) (n : ℕ) (q : n ≡ lineTest (lineOf s e
       form-read ns = rw (← q, eq-eqb n 0 z)
 
       -- 5
-      pub stopped-form : formOf s ≡ malformed → ReadsLine (lineOf s ended) ls f o (answer.the-variants.Refused 5)
+      pub stopped-form : formOf s ≡ malformed → ReadsLine (lineOf s ended) ls f o o′ (answer.the-variants.Refused 5)
       unfolding checkForm
       stopped-form e = record { says = record { is = λ ns _. form-read ns ∙ ap (checkForm ls ns) e } }
 
-      module _ {x len : ℕ} (d : Defines s o x len) {r : Bool} (k : Knows (take (len - 0) (drop 0 o)) ls f r) where
+      module _ {x len : ℕ} (d : Defines s o 0 o′ x len) {r : Bool} (k : Knows (take (len - 0) (drop 0 o′)) ls f r) where
         held : FormHeld 17 (define x (d .body))
         held = subst (FormHeld 17) (d .form) (line-held (lineOf s ended) (sym q ∙ z))
 
         known-is : (ns : List ℕ) → Holds f ns → known ls ns (d .body) ≡ r
-        known-is ns h = sym (k .says ns h ∙ ap (codeKnown ls ns) (first-part o len ∙ d .code) ∙ define-known ls ns 17 x (d .body) held)
+        known-is ns h = sym (k .says ns h ∙ ap (codeKnown ls ns) (first-part o′ len ∙ d .code) ∙ define-known ls ns 17 x (d .body) held)
 
         named-read : (ns : List ℕ) → readLine ls ns (lineOf s ended) ≡ unless (known ls ns (d .body)) (λ _. stops 6) (λ _. choose (member x ns) (λ _. stops 7) (λ _. reads (define x (d .body))))
         unfolding checkForm
         named-read ns = form-read ns ∙ ap (checkForm ls ns) (d .form)
 
         -- 6
-        pub stopped-symbol : r ≡ false → ReadsLine (lineOf s ended) ls f o (answer.the-variants.Refused 6)
+        pub stopped-symbol : r ≡ false → ReadsLine (lineOf s ended) ls f o o′ (answer.the-variants.Refused 6)
         stopped-symbol e = record { says = record { is = λ ns h. named-read ns ∙ rw (known-is ns h, e) } }
 
         -- 7
-        pub stopped-name : r ≡ true → (t : Bool) → t ≡ getD (f .defined) (x - 65) false → t ≡ true → ReadsLine (lineOf s ended) ls f o (answer.the-variants.Refused 7)
+        pub stopped-name : r ≡ true → (t : Bool) → t ≡ getD (f .defined) (x - 65) false → t ≡ true → ReadsLine (lineOf s ended) ls f o o′ (answer.the-variants.Refused 7)
         stopped-name e t u v = record { says = record { is = λ ns h. named-read ns ∙ rw (known-is ns h, e, h .says x (d .named) ∙ sym u ∙ v) } }
 
-        pub read-name : r ≡ true → (t : Bool) → t ≡ getD (f .defined) (x - 65) false → t ≡ false → ReadsLine (lineOf s ended) ls f o (answer.the-variants.Define x len)
+        pub read-name : r ≡ true → (t : Bool) → t ≡ getD (f .defined) (x - 65) false → t ≡ false → ReadsLine (lineOf s ended) ls f o o′ (answer.the-variants.Define x len)
         read-name e t u v = record {
           says = record {
             body = d .body;
@@ -135,6 +135,7 @@ module _ (s : List ℕ) (ended : Bool) (n : ℕ) (q : n ≡ lineTest (lineOf s e
             written = record {
               reads-as = record { is = λ ns h. named-read ns ∙ rw (known-is ns h, e, h .says x (d .named) ∙ sym u ∙ v) };
               code = d .code;
+              past = d .grown .past;
               fits = d .fits;
               held = held;
               whole = passed z .1;
@@ -142,21 +143,21 @@ module _ (s : List ℕ) (ended : Bool) (n : ℕ) (q : n ≡ lineTest (lineOf s e
           };
         }
 
-      module _ {len : ℕ} (d : Rules s o len) {r : Bool} (k : Knows (take (len - 0) (drop 0 o)) ls f r) where
+      module _ {len : ℕ} (d : Rules s o 0 o′ len) {r : Bool} (k : Knows (take (len - 0) (drop 0 o′)) ls f r) where
         held-rule : FormHeld 17 (rule restricts (d .pattern) (d .contexts))
         held-rule = subst (FormHeld 17) (d .form) (line-held (lineOf s ended) (sym q ∙ z))
 
         rule-is : (ns : List ℕ) → Holds f ns → known ls ns (d .pattern) && allKnown ls ns (d .contexts) ≡ r
-        rule-is ns h = sym (k .says ns h ∙ ap (codeKnown ls ns) (first-part o len ∙ d .code) ∙ rule-known ls ns 17 (d .pattern) (d .contexts) held-rule)
+        rule-is ns h = sym (k .says ns h ∙ ap (codeKnown ls ns) (first-part o′ len ∙ d .code) ∙ rule-known ls ns 17 (d .pattern) (d .contexts) held-rule)
 
         rule-read : (ns : List ℕ) → readLine ls ns (lineOf s ended) ≡ unless (known ls ns (d .pattern) && allKnown ls ns (d .contexts)) (λ _. stops 6) (λ _. reads (rule restricts (d .pattern) (d .contexts)))
         unfolding checkForm
         rule-read ns = form-read ns ∙ ap (checkForm ls ns) (d .form)
 
-        pub stopped-rule : r ≡ false → ReadsLine (lineOf s ended) ls f o (answer.the-variants.Refused 6)
+        pub stopped-rule : r ≡ false → ReadsLine (lineOf s ended) ls f o o′ (answer.the-variants.Refused 6)
         stopped-rule e = record { says = record { is = λ ns h. rule-read ns ∙ rw (rule-is ns h, e) } }
 
-        pub read-rule : r ≡ true → ReadsLine (lineOf s ended) ls f o (answer.the-variants.Rule len)
+        pub read-rule : r ≡ true → ReadsLine (lineOf s ended) ls f o o′ (answer.the-variants.Rule len)
         read-rule e = record {
           says = record {
             pattern = d .pattern;
@@ -164,6 +165,7 @@ module _ (s : List ℕ) (ended : Bool) (n : ℕ) (q : n ≡ lineTest (lineOf s e
             written = record {
               reads-as = record { is = λ ns h. rule-read ns ∙ rw (rule-is ns h, e) };
               code = d .code;
+              past = d .grown .past;
               fits = d .fits;
               held = held-rule;
               whole = passed z .1;
@@ -173,11 +175,11 @@ module _ (s : List ℕ) (ended : Bool) (n : ℕ) (q : n ≡ lineTest (lineOf s e
 
 -- ---- what the functions answer, case by case
 
-module _ {s o : List ℕ} {r : Code} (d : ReadsForm s o r) where
-  pub form-name : {x len : ℕ} → r ≡ code.the-variants.Define x len → Defines s o x len
+module _ {s o o′ : List ℕ} {a : ℕ} {r : Code} (d : ReadsForm s o a o′ r) where
+  pub form-name : {x len : ℕ} → r ≡ code.the-variants.Define x len → Defines s o a o′ x len
   form-name e = rw e at (d .says)
 
-  pub form-rules : {len : ℕ} → r ≡ code.the-variants.Rule len → Rules s o len
+  pub form-rules : {len : ℕ} → r ≡ code.the-variants.Rule len → Rules s o a o′ len
   form-rules e = rw e at (d .says)
 
   pub form-not : r ≡ code.the-variants.Malformed → formOf s ≡ malformed
@@ -185,12 +187,12 @@ module _ {s o : List ℕ} {r : Code} (d : ReadsForm s o r) where
 
 -- ---- the line that starts at a place of the text
 
-module _ {s : List ℕ} {at end : ℕ} (e : Ends s at end) {ls : List ℕ} {f : Names} {o : List ℕ} {r : Answer} (d : ReadsLine (lineAt s at end) ls f o r) where
-  pub next-name : {x len : ℕ} → r ≡ answer.the-variants.Define x len → ReadsNext s at ls f o (lineAnswer.the-variants.Define x len (end + 1))
+module _ {s : List ℕ} {at end : ℕ} (e : Ends s at end) {ls : List ℕ} {f : Names} {o o′ : List ℕ} {r : Answer} (d : ReadsLine (lineAt s at end) ls f o o′ r) where
+  pub next-name : {x len : ℕ} → r ≡ answer.the-variants.Define x len → ReadsNext s at ls f o o′ (lineAnswer.the-variants.Define x len (end + 1))
   next-name q = record { end = end; ends = e; says = (rw q at (d .says), add-one end) }
 
-  pub next-rule : {len : ℕ} → r ≡ answer.the-variants.Rule len → ReadsNext s at ls f o (lineAnswer.the-variants.Rule len (end + 1))
+  pub next-rule : {len : ℕ} → r ≡ answer.the-variants.Rule len → ReadsNext s at ls f o o′ (lineAnswer.the-variants.Rule len (end + 1))
   next-rule q = record { end = end; ends = e; says = (rw q at (d .says), add-one end) }
 
-  pub next-not : {n : ℕ} → r ≡ answer.the-variants.Refused n → ReadsNext s at ls f o (lineAnswer.the-variants.Refused n)
+  pub next-not : {n : ℕ} → r ≡ answer.the-variants.Refused n → ReadsNext s at ls f o o′ (lineAnswer.the-variants.Refused n)
   next-not q = record { end = end; ends = e; says = rw q at (d .says) }

@@ -20,12 +20,15 @@ use Rattle.book.specs.Grammar.{reader-sound}
 use Rattle.book.specs.Text.{tokens, countOf, Form, rule, malformed, formOf, defineOf, defineAs, ruleOf, contextsOf, onRead, tailAt, unless}
 use Rattle.book.specs.Program.{postfix, patternProgram, contextProgram, finishProgram, contextsProgram}
 use Rattle.choice.specs.Token.{At}
+use Rattle.choice.specs.Buffer.{Grown}
+use Rattle.choice.specs.BufferLaws.{grown-none, grown-byte, grown-more}
 use Rattle.choice.specs.Reading.{left, To, a-choice}
 use Rattle.choice.specs.ReadingLaws.{choice-got}
 use Rattle.choice.specs.declared.Spot.{Spot}
 use Rattle.choice.specs.declared.Made.{Made}
 use Rattle.choice.specs.declared.Made.the-variants.{Done, Refused}
 use Rattle.reader.specs.Forms.{Row, Room, contextOf, Context, ReadsContext, contextsCode, Ruled, ReadsForm}
+use Rattle.reader.specs.declared.forms.Code.{Code}
 use Rattle.reader.specs.declared.forms.Code.the-variants.{Define, Rule, Malformed}
 
 -- ---- rows of codes
@@ -35,24 +38,27 @@ pub record Filled (o₀ row : List ℕ) (pos : ℕ) (o : List ℕ) (i : ℕ) : T
   pub within : i ≤ length row
   pub same : length o ≡ length o₀
   pub code : take (pos + i) o ≡ take pos o₀ ++ take i row
+  pub grown : Grown o₀ pos o (pos + i)
 
 pub row-start : (o row : List ℕ) (pos : ℕ) → Filled o row pos o 0
-row-start o row pos = let z : pos + 0 ≡ pos = omega arith in record { within = omega arith; same = refl; code = rw (z, append-nil) }
+row-start o row pos = let z : pos + 0 ≡ pos = omega arith in record { within = omega arith; same = refl; code = rw (z, append-nil); grown = rw z (grown-none o pos) }
 
 pub row-next : (o₀ row : List ℕ) (pos : ℕ) (o : List ℕ) (i : ℕ) → pos + length row ≤ length o₀ → i < length row → Filled o₀ row pos o i → Filled o₀ row pos (set o (pos + i) (getD row i 0)) (i + 1)
 row-next o₀ row pos o i r l d =
     let z : pos + (i + 1) ≡ suc (pos + i) = omega arith in
     let h : pos + i < length o = omega (arith, d .same) in
+    let w : pos + (i + 1) ≡ pos + i + 1 = omega arith in
     record {
       within = omega arith;
       same = length-set o (pos + i) (getD row i 0) ∙ d .same;
       code = rw (z, take-suc-set o (pos + i) (getD row i 0) h, d .code, add-one, take-suc row i 0 l) (append-assoc (take pos o₀) (take i row) (getD row i 0 ∷ []));
+      grown = rw w (grown-more (d .grown) (grown-byte o (pos + i) (getD row i 0)));
     }
 
 pub row-end : (o₀ row : List ℕ) (pos : ℕ) (o : List ℕ) (i : ℕ) → length row ≤ i → Filled o₀ row pos o i → Row o₀ pos row o (pos + i)
 row-end o₀ row pos o i l d =
     let z : i ≡ length row = omega (arith, d .within) in
-    record { end-is = ap (λ x. pos + x) z; code = d .code ∙ ap (λ x. take pos o₀ ++ take x row) z ∙ rw take-length }
+    record { end-is = ap (λ x. pos + x) z; code = d .code ∙ ap (λ x. take pos o₀ ++ take x row) z ∙ rw take-length; grown = d .grown }
 
 -- ---- how many `_` are left
 
@@ -126,6 +132,7 @@ module _ {s o : List ℕ} {c : Spot} {o₁ : List ℕ} {m : Spot} (t : To a-choi
         reads = λ f. past f h ∙ ap (λ R. onRead R (f (t .expr))) (choice-got u);
         code = r .code ∙ ap (λ l. l ++ contextProgram) (u .code ∙ ap (λ l. l ++ postfix (u .expr)) (t .code))
             ∙ regroup (take (c .pos) o) (postfix (t .expr)) (postfix (u .expr)) contextProgram;
+        grown = grown-more (t .grown) (grown-more (u .grown) (r .grown));
         fewer = omega (arith, t .fewer, u .fewer, ap length (x .rest-is));
         marks = omega (arith, count-read (left s c) (left s m) (t .expr) (choice-got t), count-read (tokens (drop n s)) (left s w) (u .expr) (choice-got u), ap (countOf 20) (x .rest-is), counted);
         falls = omega (arith, t .falls, u .falls, x .falls);
@@ -154,8 +161,8 @@ unfolding formOf
 form-rule [] e = absurd (omega arith)
 form-rule (b ∷ s) e = rw e
 
-pub rule-none : (s o : List ℕ) → kindOf (getD s 0 0) ≡ 18 → readChoice (tokens (drop 1 s)) ≡ bad → ReadsForm s o Malformed
-rule-none s o k e = record { says = form-rule s k ∙ ap (λ R. onRead R (λ p us. contextsOf (length us) p [] us)) e }
+pub rule-none : {o o′ : List ℕ} {a : ℕ} (s : List ℕ) → kindOf (getD s 0 0) ≡ 18 → readChoice (tokens (drop 1 s)) ≡ bad → ReadsForm s o a o′ Malformed
+rule-none s k e = record { says = form-rule s k ∙ ap (λ R. onRead R (λ p us. contextsOf (length us) p [] us)) e }
 
 pub rule-start : (s o o₁ o₂ : List ℕ) (p : Spot) (pos : ℕ) → kindOf (getD s 0 0) ≡ 18 → countOf 20 s ≤ 4 → Room s o → length o₂ ≡ length o
     → To a-choice s o (record { at = 1; pos = 0 }) o₁ p → Row o₁ (p .pos) patternProgram o₂ pos → Ruled s o₂ (record { at = p .at; pos = pos })
@@ -171,14 +178,15 @@ rule-start s o o₁ o₂ p pos k few room same t r = record {
 }
 
 module _ {s o : List ℕ} {c : Spot} (d : Ruled s o c) where
-  pub rule-end : (o′ : List ℕ) (end : ℕ) → left s c ≡ [] → Row o (c .pos) finishProgram o′ end → end ≤ length o′ → ReadsForm s o′ (Rule end)
-  rule-end o′ end e r h = record {
+  pub rule-end : {o₀ : List ℕ} {a : ℕ} (o′ : List ℕ) (end : ℕ) → left s c ≡ [] → Grown o₀ a o (c .pos) → Row o (c .pos) finishProgram o′ end → end ≤ length o′ → ReadsForm s o₀ a o′ (Rule end)
+  rule-end o′ end e g r h = record {
     says = record {
       pattern = d .pattern;
       contexts = d .contexts;
       form = d .form ∙ ap (contextsOf (d .fuel) (d .pattern) (d .contexts)) e ∙ last (d .fuel);
       code = r .code ∙ ap (λ l. l ++ finishProgram) (d .code) ∙ whole (postfix (d .pattern)) patternProgram (contextsCode (d .contexts)) finishProgram
           ∙ ap (λ l. postfix (d .pattern) ++ (patternProgram ++ l)) (contexts-code (d .contexts));
+      grown = grown-more g (r .grown);
       fits = h;
     };
   }
@@ -201,13 +209,13 @@ module _ {s o : List ℕ} {c : Spot} (d : Ruled s o c) where
     met-slash zero h = absurd (omega (arith, ap length (x .rest-is)))
     met-slash (suc g) h = (g, refl, ap (contextsOf (suc g) (d .pattern) (d .contexts)) (x .rest-is))
 
-    pub rule-other : (o′ : List ℕ) → (k ≡ 19 → ⊥) → ReadsForm s o′ Malformed
-    rule-other o′ h =
+    pub rule-other : {o₀ o′ : List ℕ} {a : ℕ} → (k ≡ 19 → ⊥) → ReadsForm s o₀ a o′ Malformed
+    rule-other h =
         let (g, q, e) = met-slash (d .fuel) (d .enough) in
         record { says = d .form ∙ e ∙ rw (ne-eqb (kindOf b) 19 (λ w. h (x .kind-is ∙ w))) }
 
-    pub rule-half : (o₁ o′ : List ℕ) → k ≡ 19 → ReadsContext s o (record { at = n; pos = c .pos }) o₁ Refused → ReadsForm s o′ Malformed
-    rule-half o₁ o′ h r =
+    pub rule-half : {o₀ o₁ o′ : List ℕ} {a : ℕ} → k ≡ 19 → ReadsContext s o (record { at = n; pos = c .pos }) o₁ Refused → ReadsForm s o₀ a o′ Malformed
+    rule-half h r =
         let (g, q, e) = met-slash (d .fuel) (d .enough) in
         record { says = d .form ∙ e ∙ rw (eq-eqb (kindOf b) 19 (sym (x .kind-is) ∙ h)) (r .says (afterSlash g)) }
 
@@ -234,6 +242,16 @@ module _ {s o : List ℕ} {c : Spot} (d : Ruled s o c) where
         slash : countOf 20 (b ∷ tokens (drop n s)) ≡ countOf 20 (tokens (drop n s))
         slash = rw (ne-eqb (kindOf b) 20 (λ w. omega (arith, x .kind-is)))
 
+-- a form whose code was begun before, with what was written then
+pub form-grown : {s o o₁ o′ : List ℕ} {a b : ℕ} (r : Code) → Grown o a o₁ b → ReadsForm s o₁ b o′ r → ReadsForm s o a o′ r
+form-grown (Define x len) g d =
+    let z = d .says in
+    record { says = record { body = z .body; named = z .named; form = z .form; code = z .code; grown = grown-more g (z .grown); fits = z .fits } }
+form-grown (Rule len) g d =
+    let z = d .says in
+    record { says = record { pattern = z .pattern; contexts = z .contexts; form = z .form; code = z .code; grown = grown-more g (z .grown); fits = z .fits } }
+form-grown Malformed g d = record { says = d .says }
+
 -- ---- definitions
 
 form-define : (s : List ℕ) → kindOf (getD s 0 0) ≡ 17 → formOf s ≡ defineOf (tokens (drop 1 s))
@@ -242,12 +260,12 @@ form-define [] e = absurd (omega arith)
 form-define (b ∷ s) e = rw e
 
 module _ (s : List ℕ) (is : kindOf (getD s 0 0) ≡ 17) where
-  pub define-none : (o : List ℕ) → tokens (drop 1 s) ≡ [] → ReadsForm s o Malformed
-  define-none o e = record { says = form-define s is ∙ ap defineOf e }
+  pub define-none : {o o′ : List ℕ} {a : ℕ} → tokens (drop 1 s) ≡ [] → ReadsForm s o a o′ Malformed
+  define-none e = record { says = form-define s is ∙ ap defineOf e }
 
   module _ {k x n : ℕ} (a : At s 1 k x n) where
-    pub define-other : (o : List ℕ) → (k ≡ 2 → ⊥) → ReadsForm s o Malformed
-    define-other o h = record { says = form-define s is ∙ ap defineOf (a .rest-is) ∙ rw (ne-eqb (kindOf x) 2 (λ w. h (a .kind-is ∙ w))) }
+    pub define-other : {o o′ : List ℕ} {from : ℕ} → (k ≡ 2 → ⊥) → ReadsForm s o from o′ Malformed
+    define-other h = record { says = form-define s is ∙ ap defineOf (a .rest-is) ∙ rw (ne-eqb (kindOf x) 2 (λ w. h (a .kind-is ∙ w))) }
 
     named : k ≡ 2 → isName x ≡ true
     named h = eq-eqb (kindOf x) 2 (sym (a .kind-is) ∙ h)
@@ -255,30 +273,30 @@ module _ (s : List ℕ) (is : kindOf (getD s 0 0) ≡ 17) where
     define-body : k ≡ 2 → formOf s ≡ onRead (readChoice (tokens (drop n s))) (defineAs x)
     define-body h = form-define s is ∙ ap defineOf (a .rest-is) ∙ ap (λ t. choose t (λ _. onRead (readChoice (tokens (drop n s))) (defineAs x)) (λ _. malformed)) (named h)
 
-    pub define-bad : (o : List ℕ) → k ≡ 2 → readChoice (tokens (drop n s)) ≡ bad → ReadsForm s o Malformed
-    define-bad o h e = record { says = define-body h ∙ ap (λ R. onRead R (defineAs x)) e }
+    pub define-bad : {o o′ : List ℕ} {from : ℕ} → k ≡ 2 → readChoice (tokens (drop n s)) ≡ bad → ReadsForm s o from o′ Malformed
+    define-bad h e = record { says = define-body h ∙ ap (λ R. onRead R (defineAs x)) e }
 
     module _ {o o′ : List ℕ} {m : Spot} (h : k ≡ 2) (t : To a-choice s o (record { at = n; pos = 0 }) o′ m) where
       read : formOf s ≡ defineAs x (t .expr) (left s m)
       read = define-body h ∙ ap (λ R. onRead R (defineAs x)) (choice-got t)
 
-      pub define-more : {k₁ b n₁ : ℕ} → At s (m .at) k₁ b n₁ → ReadsForm s o′ Malformed
+      pub define-more : {k₁ b n₁ : ℕ} → At s (m .at) k₁ b n₁ → ReadsForm s o 0 o′ Malformed
       define-more y = record { says = read ∙ ap (defineAs x (t .expr)) (y .rest-is) }
 
-      pub define-whole : left s m ≡ [] → m .pos ≤ length o′ → ReadsForm s o′ (Define x (m .pos))
-      define-whole e f = record { says = record { body = t .expr; named = named h; form = read ∙ ap (defineAs x (t .expr)) e; code = t .code; fits = f } }
+      pub define-whole : left s m ≡ [] → m .pos ≤ length o′ → ReadsForm s o 0 o′ (Define x (m .pos))
+      define-whole e f = record { says = record { body = t .expr; named = named h; form = read ∙ ap (defineAs x (t .expr)) e; code = t .code; grown = t .grown; fits = f } }
 
 -- ---- lines of neither form
 
-pub form-empty : (s o : List ℕ) → length s < 1 → ReadsForm s o Malformed
+pub form-empty : {o o′ : List ℕ} {a : ℕ} (s : List ℕ) → length s < 1 → ReadsForm s o a o′ Malformed
 unfolding formOf
-form-empty [] o h = record { says = refl }
-form-empty (b ∷ s) o h = absurd (omega arith)
+form-empty [] h = record { says = refl }
+form-empty (b ∷ s) h = absurd (omega arith)
 
-pub form-neither : (s o : List ℕ) (k : ℕ) → k ≡ kindOf (getD s 0 0) → (k ≡ 17 → ⊥) → (k ≡ 18 → ⊥) → ReadsForm s o Malformed
+pub form-neither : {o o′ : List ℕ} {a : ℕ} (s : List ℕ) (k : ℕ) → k ≡ kindOf (getD s 0 0) → (k ≡ 17 → ⊥) → (k ≡ 18 → ⊥) → ReadsForm s o a o′ Malformed
 unfolding formOf
-form-neither [] o k q m n = record { says = refl }
-form-neither (b ∷ s) o k q m n = record { says = rw (ne-eqb (kindOf b) 17 (λ w. m (q ∙ w)), ne-eqb (kindOf b) 18 (λ w. n (q ∙ w))) }
+form-neither [] k q m n = record { says = refl }
+form-neither (b ∷ s) k q m n = record { says = rw (ne-eqb (kindOf b) 17 (λ w. m (q ∙ w)), ne-eqb (kindOf b) 18 (λ w. n (q ∙ w))) }
 
 -- ---- what the functions answer, case by case
 

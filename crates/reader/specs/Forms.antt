@@ -1,4 +1,4 @@
--- What the functions that read a line's form promise: the form of the definitions, and its program in the lent buffer.
+-- What the functions that read a line's form promise: the form of the definitions, and its program in the lent buffer, past which nothing changed.
 use mathlib.Core.Path.{_≡_}
 use mathlib.Core.Bool.{true}
 use mathlib.Core.List.{List, [], _∷_, _++_}
@@ -10,6 +10,7 @@ use Rattle.book.specs.Kind.{isName}
 use Rattle.book.specs.Reader.{readChoice}
 use Rattle.book.specs.Text.{countOf, Form, define, rule, malformed, formOf, contextsOf, onRead, tailAt}
 use Rattle.book.specs.Program.{postfix, program, patternProgram, contextProgram}
+use Rattle.choice.specs.Buffer.{Grown}
 use Rattle.choice.specs.Reading.{left}
 use Rattle.choice.specs.declared.Spot.{Spot}
 use Rattle.choice.specs.declared.Made.{Made}
@@ -21,6 +22,7 @@ use Rattle.reader.specs.declared.forms.Code.the-variants.{Define, Rule, 
 pub record Row (o : List ℕ) (pos : ℕ) (row o′ : List ℕ) (end : ℕ) : Type 0 where
   pub end-is : end ≡ pos + length row
   pub code : take end o′ ≡ take pos o ++ row
+  pub grown : Grown o pos o′ end
 
 -- the bytes that the programs of a line's rows take at most: those of the pattern, of four contexts and one that may be begun, and the last three
 abbrev pub Room : List ℕ → List ℕ → Type 0
@@ -37,6 +39,7 @@ pub record Context (s o : List ℕ) (c : Spot) (o′ : List ℕ) (n : Spot) : Ty
   pub behind : Expr
   pub reads : (f : Expr → Expr → List ℕ → Form) → contextOf (left s c) f ≡ f before behind (left s n)
   pub code : take (n .pos) o′ ≡ take (c .pos) o ++ (postfix before ++ (postfix behind ++ contextProgram))
+  pub grown : Grown o (c .pos) o′ (n .pos)
   pub fewer : suc (length (left s n)) ≤ length (left s c)
   pub marks : suc (countOf 20 (left s n)) ≤ countOf 20 (left s c)
   pub falls : suc (length s - n .at) ≤ length s - c .at
@@ -65,26 +68,28 @@ pub record Ruled (s o : List ℕ) (c : Spot) : Type 0 where
   pub few : length contexts + countOf 20 (left s c) ≤ 4
   pub room : c .pos + 2 * (length s - c .at) + 53 ≤ length o + 10 * length contexts
 
--- ---- lines
+-- ---- lines, of whose program the code up to a was written before
 
-pub record Defines (s o : List ℕ) (x len : ℕ) : Type 0 where
+pub record Defines (s o : List ℕ) (a : ℕ) (o′ : List ℕ) (x len : ℕ) : Type 0 where
   pub body : Expr
   pub named : isName x ≡ true
   pub form : formOf s ≡ define x body
-  pub code : take len o ≡ program (define x body)
-  pub fits : len ≤ length o
+  pub code : take len o′ ≡ program (define x body)
+  pub grown : Grown o a o′ len
+  pub fits : len ≤ length o′
 
-pub record Rules (s o : List ℕ) (len : ℕ) : Type 0 where
+pub record Rules (s o : List ℕ) (a : ℕ) (o′ : List ℕ) (len : ℕ) : Type 0 where
   pub pattern : Expr
   pub contexts : List (Expr × Expr)
   pub form : formOf s ≡ rule restricts pattern contexts
-  pub code : take len o ≡ program (rule restricts pattern contexts)
-  pub fits : len ≤ length o
+  pub code : take len o′ ≡ program (rule restricts pattern contexts)
+  pub grown : Grown o a o′ len
+  pub fits : len ≤ length o′
 
-abbrev pub FormSays : List ℕ → List ℕ → Code → Type 0
-FormSays s o (Define x len) = Defines s o x len
-FormSays s o (Rule len) = Rules s o len
-FormSays s o Malformed = formOf s ≡ malformed
+abbrev pub FormSays : List ℕ → List ℕ → ℕ → List ℕ → Code → Type 0
+FormSays s o a o′ (Define x len) = Defines s o a o′ x len
+FormSays s o a o′ (Rule len) = Rules s o a o′ len
+FormSays s o a o′ Malformed = formOf s ≡ malformed
 
-pub record ReadsForm (s o : List ℕ) (r : Code) : Type 0 where
-  pub says : FormSays s o r
+pub record ReadsForm (s o : List ℕ) (a : ℕ) (o′ : List ℕ) (r : Code) : Type 0 where
+  pub says : FormSays s o a o′ r

@@ -64,7 +64,7 @@ fn context(line: &[u8], out: &mut [u8], c: Spot) -> Made
 // "then per context `/`, a choice, `_`, a choice", up to the line's end
 fn contexts(line: &[u8], out: &mut [u8], c: Spot) -> Code
     requires { ⌜ Ruled (now line) (now out) c ⌝ }
-    ensures { λ r. ⌜ ReadsForm (now (line .entry)) (now (out .exit)) r ⌝ }
+    ensures { λ r. ⌜ ReadsForm (now (line .entry)) (now (out .entry)) (c .pos) (now (out .exit)) r ⌝ }
 {
     let mut here = c;
     loop {
@@ -95,7 +95,7 @@ fn rule(line: &[u8], out: &mut [u8]) -> Code
     requires { ⌜ Room (now line) (now out) ⌝ }
     requires { ⌜ kindOf (getD (now line) 0 0) ≡ 18 ⌝ }
     requires { ⌜ countOf 20 (now line) ≤ 4 ⌝ }
-    ensures { λ r. ⌜ ReadsForm (now (line .entry)) (now (out .exit)) r ⌝ }
+    ensures { λ r. ⌜ ReadsForm (now (line .entry)) (now (out .entry)) 0 (now (out .exit)) r ⌝ }
 {
     let Made::Done(p) = choice::choice(line, out, Spot { at: 1, pos: 0 }) else {
         return Code::Malformed;
@@ -109,7 +109,7 @@ fn rule(line: &[u8], out: &mut [u8]) -> Code
 fn definition(line: &[u8], out: &mut [u8]) -> Code
     requires { ⌜ Room (now line) (now out) ⌝ }
     requires { ⌜ kindOf (getD (now line) 0 0) ≡ 17 ⌝ }
-    ensures { λ r. ⌜ ReadsForm (now (line .entry)) (now (out .exit)) r ⌝ }
+    ensures { λ r. ⌜ ReadsForm (now (line .entry)) (now (out .entry)) 0 (now (out .exit)) r ⌝ }
 {
     let Next::Token(k, name, body) = (Cursor { at: 1 }).next(line) else {
         return Code::Malformed;
@@ -138,7 +138,7 @@ fn definition(line: &[u8], out: &mut [u8]) -> Code
 pub fn form(line: &[u8], out: &mut [u8]) -> Code
     requires { ⌜ Room (now line) (now out) ⌝ }
     requires { ⌜ countOf 20 (now line) ≤ 4 ⌝ }
-    ensures { λ r. ⌜ ReadsForm (now (line .entry)) (now (out .exit)) r ⌝ }
+    ensures { λ r. ⌜ ReadsForm (now (line .entry)) (now (out .entry)) 0 (now (out .exit)) r ⌝ }
 {
     if line.len() < 1 {
         return Code::Malformed;

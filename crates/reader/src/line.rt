@@ -28,7 +28,7 @@ pub enum LineAnswer {
 // The line of these bytes, which has its end or not. A name's own line does not define it.
 pub fn check(line: &[u8], ended: bool, letters: &[u8], names: Names, out: &mut [u8]) -> Answer
     requires { ⌜ Room (now line) (now out) ⌝ }
-    ensures { λ r. ⌜ ReadsLine (lineOf (now (line .entry)) ended) (now (letters .entry)) names (now (out .exit)) r ⌝ }
+    ensures { λ r. ⌜ ReadsLine (lineOf (now (line .entry)) ended) (now (letters .entry)) names (now (out .entry)) (now (out .exit)) r ⌝ }
 {
     let n = tests::line_test(line, ended);
     if n != 0 {
@@ -58,7 +58,7 @@ pub fn check(line: &[u8], ended: bool, letters: &[u8], names: Names, out: &mut [
 pub fn read_line(text: &[u8], at: usize, letters: &[u8], names: Names, out: &mut [u8]) -> LineAnswer
     requires { ⌜ at < length (now text) ⌝ }
     requires { ⌜ 2 * length (now text) + 64 ≤ length (now out) ⌝ }
-    ensures { λ r. ⌜ ReadsNext (now (text .entry)) at (now (letters .entry)) names (now (out .exit)) r ⌝ }
+    ensures { λ r. ⌜ ReadsNext (now (text .entry)) at (now (letters .entry)) names (now (out .entry)) (now (out .exit)) r ⌝ }
 {
     let end = ends::line_end(text, at);
     let ended = end < text.len();

@@ -4,11 +4,11 @@ use mathlib.Core.Bool.{true, false}
 use mathlib.Core.Logic.{_⊎_, inl, inr, _≢_}
 use mathlib.Core.List.{List, [], _∷_}
 use Prim.Native.Nat.{ℕ, zero, suc, _+_, _*_, _-_, _≤_, _<_}
-use native.Mathlib.Nat.{le-refl, mul-le-mul}
+use native.Mathlib.Nat.{le-refl, add-comm}
 use native.Mathlib.Numerals.{add-one}
 use native.Mathlib.Omega.{arith}
-use lib.ListN.{length, getD, drop, drop-of-length-le}
-use lib.Seq.{drop-cons}
+use lib.ListN.{length, getD, take, drop, drop-of-length-le}
+use lib.Seq.{drop-cons, getD-take, getD-drop}
 use lib.Dec.{eqb}
 use borrow.Author.Tests.{eq-eqb, ne-eqb}
 use Rattle.automata.specs.Basics.{LtCases, lt-cases, nat-test, find-le}
@@ -64,9 +64,6 @@ module _ (c : List ℕ) (m n : ℕ) (r : Ready c m n) where
 
     pub move-room : (bs : List ℕ) → bs ≡ movesOf narrow c → p * m + i < length bs
     move-room bs e = omega (arith, ap length e, moves-length narrow c, cell-below n m p i h v, ap (λ x. x * letterCount narrow c) (r .states), ap (λ x. n * x) (r .letters))
-
-    pub move-small : p * m + i < 3120
-    move-small = omega (arith, cell-below n m p i h v, mul-le-mul {n₁ = n} {m₁ = m} {n₂ = 120} {m₂ = 26} (rw (r .states) at (right .states-most)) letters-few)
 
     pub move-is : (bs : List ℕ) → bs ≡ movesOf narrow c → getD bs (p * m + i) 0 ≡ moveAt narrow c p i
     move-is bs e = ap (λ l. getD l (p * m + i) 0) e ∙ ap (λ x. getD (movesOf narrow c) (p * x + i) 0) (sym (r .letters)) ∙ moves-at narrow c p i hp hi
@@ -160,3 +157,9 @@ module _ (ls plan : List ℕ) (from k : ℕ) (u : KnownUpto ls plan from k) wher
 
   pub known-end : k ≡ length plan → KnownTo ls plan from k
   known-end e = record { low = u .low; most = omega arith; known = u .known; unknown = λ h. absurd (omega arith) }
+
+-- ---- a column behind the others
+
+-- a place of what lies behind the first i
+pub column-at : (moves : List ℕ) (m p i : ℕ) → p * m + i < length moves → getD (take (length moves - i) (drop i moves)) (p * m) 0 ≡ getD moves (p * m + i) 0
+column-at moves m p i h = getD-take (length moves - i) (drop i moves) (p * m) 0 (omega arith) ∙ getD-drop i moves (p * m) 0 ∙ ap (λ (x : ℕ). getD moves x 0) (add-comm i (p * m))

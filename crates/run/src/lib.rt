@@ -3,8 +3,8 @@
 mod columns;
 
 ghost use mathlib.Core.Path.{_≡_};
-ghost use Prim.Native.Nat.{_+_, _-_, _≤_, _<_, _^_};
-ghost use lib.ListN.{length, drop};
+ghost use Prim.Native.Nat.{_+_, _*_, _-_, _≤_, _<_, _^_};
+ghost use lib.ListN.{length, getD, drop};
 ghost use Rattle.automata.specs.Format.{narrow};
 ghost use Rattle.card.specs.Layout.{lettersOf, markAt};
 ghost use Rattle.card.specs.Judge.{found};
@@ -47,6 +47,15 @@ pub enum Walk {
     Unknown(usize, usize),
 }
 
+// Where the state s leads by the column i. The column's first place comes before the product, since only the product waits for the state before.
+fn next(moves: &[u8], m: usize, s: usize, i: usize) -> usize
+    requires { ⌜ s * m + i < length (now moves) ⌝ }
+    ensures { λ r. ⌜ (r ≡ getD (now (moves .entry)) (s * m + i) 0) × (r < 256) ⌝ }
+{
+    let column = &moves[i..];
+    column[s * m] as usize
+}
+
 // Letter by letter from a state, until one is dead.
 fn walk_on(card: &[u8], m: usize, n: usize, table: &[u8; 256], plan: &[u8], state: usize) -> Walk
     requires { ⌜ Ready (now card) m n × ColumnTable (lettersOf narrow (now card)) (now table) × (state < n) ⌝ }
@@ -62,7 +71,7 @@ fn walk_on(card: &[u8], m: usize, n: usize, table: &[u8; 256], plan: &[u8], stat
         if m <= i {
             return Walk::Unknown(s, k);
         }
-        s = moves[s * m + i] as usize;
+        s = next(moves, m, s, i);
         k += 1;
         if marks[s] == 2 {
             return Walk::Dead(s, k);

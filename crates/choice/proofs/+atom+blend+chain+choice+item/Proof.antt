@@ -158,14 +158,14 @@ blend-returns-4 : (t : ℕ) → blend-lts.Need-returns-4 (blend-claims t) (blend
 blend-returns-4 t c =
     let x = c .before .before .before .before .before .before .before .before .before .token .ensures .token (λ e. omega arith) in
     let y = blends-turn x (c .before .before .before .before .before .before .before .before .if1 .left) (c .before .before .before .before .before .before .before .if2 .left) in
-    row-not blend-row (y .op) (c .before .before .before .before .before .before .before .before .before .before .before .before .before .before .before .before .chain .ensures) (c .before .before .before .before .before .before .before .before .before .before .before .before .first .given .1) (c .before .before .before .before .before .before .before .before .before .before .loop .inv) (c .before .before .before .before .chain2 .ensures) (c .enum-told2 .given .1) (y .turn) (omega (arith, at-fewer x))
+    row-not blend-row (y .op) (c .before .before .before .before .before .before .before .before .before .before .before .before .before .before .before .before .chain .ensures) (c .before .before .before .before .before .before .before .before .before .before .before .before .first .given .1) (c .before .before .before .before .before .before .before .before .before .before .loop .inv) (c .before .before .before .before .chain2 .ensures) (c .enum-told2 .given .1) (y .turn) refl (omega (arith, at-fewer x))
 
 blend-put-requires : (t : ℕ) → blend-lts.Need-put-requires (blend-claims t) (blend-at t) blend.Post blend-Inv-loop blend-μ-loop
 blend-put-requires t c κs =
     let x = c .before .before .before .before .before .before .before .before .before .before .before .token .ensures .token (λ e. omega arith) in
     let z = read-to (c .before .before .before .before .before .before .before .before .before .before .before .before .before .before .before .before .before .before .chain .ensures) (c .before .before .before .before .before .before .before .before .before .before .before .before .before .before .first .given .1) in
     let w = read-to (c .before .before .before .before .before .before .chain2 .ensures) (c .before .before .n .given .1) in
-    omega (arith, x .falls, z .falls, z .room, w .falls, w .room, c .before .before .before .before .before .before .before .before .before .before .before .before .loop .inv .falls, c .before .before .before .before .before .before .before .before .before .before .before .before .loop .inv .room, c .before .before .before .before .before .before .before .before .before .before .before .before .loop .inv .same-length, c .before .before .before .before .before .before .before .before .before .before .before .before .before .before .before .before .before .before .chain .kept .1 .0, c .before .before .before .before .before .before .chain2 .kept .1 .0)
+    omega (arith, x .falls, z .falls, z .room, w .falls, w .room, c .before .before .before .before .before .before .before .before .before .before .before .before .loop .inv .falls, c .before .before .before .before .before .before .before .before .before .before .before .before .loop .inv .room, c .before .before .before .before .before .before .before .before .before .before .before .before .loop .inv .same-length, c .before .before .before .before .before .before .before .before .before .before .before .before .before .before .before .before .before .before .chain .kept .1 .0, c .before .before .before .before .before .before .chain2 .kept .1 .0, c .before .before .before .before .before .before .before .before .before .before .before .before .before .before .before .before .before .before .before .before .before .before .pre .1)
 
 blend-loop-less : (t : ℕ) → blend-lts.Need-loop-less (blend-claims t) (blend-at t) blend.Post blend-Inv-loop blend-μ-loop
 blend-loop-less t c =
@@ -206,7 +206,7 @@ chain-item-requires-2 t c κs =
 chain-returns-4 : (t : ℕ) → chain-lts.Need-returns-4 (chain-claims t) (chain-at t) chain.Post chain-Inv-loop chain-μ-loop
 chain-returns-4 t c =
     let x = c .before .before .before .before .before .before .before .before .token .ensures .token (λ e. omega arith) in
-    row-not chain-row join (c .before .before .before .before .before .before .before .before .before .before .before .before .before .before .before .item .ensures) (c .before .before .before .before .before .before .before .before .before .before .before .first .given .1) (c .before .before .before .before .before .before .before .before .before .loop .inv) (c .before .before .before .before .item2 .ensures) (c .enum-told2 .given .1) (chains-turn x (c .before .before .before .before .before .before .before .if1 .left) (c .before .before .before .before .before .before .if2 .left)) (omega arith)
+    row-not chain-row join (c .before .before .before .before .before .before .before .before .before .before .before .before .before .before .before .item .ensures) (c .before .before .before .before .before .before .before .before .before .before .before .first .given .1) (c .before .before .before .before .before .before .before .before .before .loop .inv) (c .before .before .before .before .item2 .ensures) (c .enum-told2 .given .1) (chains-turn x (c .before .before .before .before .before .before .before .if1 .left) (c .before .before .before .before .before .before .if2 .left)) refl (omega arith)
 
 chain-put-requires : (t : ℕ) → chain-lts.Need-put-requires (chain-claims t) (chain-at t) chain.Post chain-Inv-loop chain-μ-loop
 chain-put-requires t c κs =
@@ -250,7 +250,7 @@ choice-blend-requires-2 t c κs =
 choice-returns-3 : (t : ℕ) → choice-lts.Need-returns-3 (choice-claims t) (choice-at t) choice.Post choice-Inv-loop choice-μ-loop
 choice-returns-3 t c =
     let x = c .before .before .before .before .before .before .before .before .token .ensures .token (λ e. omega arith) in
-    row-not choice-row (pair either) (c .before .before .before .before .before .before .before .before .before .before .before .before .before .before .before .blend .ensures) (c .before .before .before .before .before .before .before .before .before .before .before .first .given .1) (c .before .before .before .before .before .before .before .before .before .loop .inv) (c .before .before .before .before .blend2 .ensures) (c .enum-told2 .given .1) (choices-turn x (c .before .before .before .before .before .before .before .if1 .left)) (omega (arith, at-fewer x))
+    row-not choice-row (pair either) (c .before .before .before .before .before .before .before .before .before .before .before .before .before .before .before .blend .ensures) (c .before .before .before .before .before .before .before .before .before .before .before .first .given .1) (c .before .before .before .before .before .before .before .before .before .loop .inv) (c .before .before .before .before .blend2 .ensures) (c .enum-told2 .given .1) (choices-turn x (c .before .before .before .before .before .before .before .if1 .left)) refl (omega (arith, at-fewer x))
 
 choice-put-requires : (t : ℕ) → choice-lts.Need-put-requires (choice-claims t) (choice-at t) choice.Post choice-Inv-loop choice-μ-loop
 choice-put-requires t c κs =

@@ -6,7 +6,7 @@ use lib.ListN.{length, getD}
 use borrow.Author.Needs.{needs}
 use Rattle.automata.specs.Format.{narrow}
 use Rattle.card.specs.Layout.{moveAt}
-use Rattle.run.proofs.WalkLaws.{ready-counted, letters-many, letters-few, column-most, move-room, move-small, move-is, move-inside, mark-room, mark-is, WalkUpto, walk-start, walk-next, walk-dead, walk-unknown, walk-done}
+use Rattle.run.proofs.WalkLaws.{ready-counted, letters-many, letters-few, column-most, move-room, move-is, move-inside, mark-room, mark-is, WalkUpto, walk-start, walk-next, walk-dead, walk-unknown, walk-done}
 use Rattle.run.proofs.walk_on.Statement.{statement}
 use Rattle.run.proofs.walk_on.Tie as tie
 
@@ -41,30 +41,21 @@ returns c =
       end = (c .before .before .before .before .loop .inv .1, omega arith);
     }
 
-mul-s : tie.Need-mul-s Inv-loop μ-loop
-mul-s c = omega (arith, move-small _ _ _ (c .before .before .before .before .before .before .before .before .before .pre .0) (c .before .before .before .before .loop .s) (getD (c .before .before .before .before .before .before .before .before .before .args .table .now) (getD (c .before .before .before .before .before .before .before .before .before .args .plan .now) (c .before .before .before .before .loop .k) 0) 0) (c .before .before .before .before .loop .inv .1) (c .if1 .left))
-
-add-s : tie.Need-add-s Inv-loop μ-loop
-add-s c = omega (arith, move-small _ _ _ (c .before .before .before .before .before .before .before .before .before .pre .0) (c .before .before .before .before .loop .s) (getD (c .before .before .before .before .before .before .before .before .before .args .table .now) (getD (c .before .before .before .before .before .before .before .before .before .args .plan .now) (c .before .before .before .before .loop .k) 0) 0) (c .before .before .before .before .loop .inv .1) (c .if1 .left))
-
-shared-slice-read-s : tie.Need-shared-slice-read-s Inv-loop μ-loop
-shared-slice-read-s c = move-room _ _ _ (c .before .before .before .before .before .before .before .before .before .before .pre .0) (c .before .before .before .before .before .loop .s) (getD (c .before .before .before .before .before .before .before .before .before .before .args .table .now) (getD (c .before .before .before .before .before .before .before .before .before .before .args .plan .now) (c .before .before .before .before .before .loop .k) 0) 0) (c .before .before .before .before .before .loop .inv .1) (c .before .if1 .left) _ (c .before .before .before .before .before .before .moves .ensures)
-
-cast-s : tie.Need-cast-s Inv-loop μ-loop
-cast-s c = omega (arith, c .shared-slice-known4 .given (c .before .before .before .before .before .loop .s * c .before .before .before .before .before .before .before .before .before .before .args .m + (getD (c .before .before .before .before .before .before .before .before .before .before .args .table .now) (getD (c .before .before .before .before .before .before .before .before .before .before .args .plan .now) (c .before .before .before .before .before .loop .k) 0) 0)))
+next-requires : tie.Need-next-requires Inv-loop μ-loop
+next-requires c κs = move-room _ _ _ (c .before .before .before .before .before .before .before .before .before .pre .0) (c .before .before .before .before .loop .s) (getD (c .before .before .before .before .before .before .before .before .before .args .table .now) (getD (c .before .before .before .before .before .before .before .before .before .args .plan .now) (c .before .before .before .before .loop .k) 0) 0) (c .before .before .before .before .loop .inv .1) (c .if1 .left) _ (c .before .before .before .before .before .moves .ensures)
 
 shared-slice-read-if2 : tie.Need-shared-slice-read-if2 Inv-loop μ-loop
-shared-slice-read-if2 c = mark-room _ _ _ (c .before .before .before .before .before .before .before .before .before .before .before .pre .0) _ _ (c .before .before .before .before .before .before .before .before .marks .ensures) (rw (move-is _ _ _ (c .before .before .before .before .before .before .before .before .before .before .before .pre .0) (c .before .before .before .before .before .before .loop .s) (getD (c .before .before .before .before .before .before .before .before .before .before .before .args .table .now) (getD (c .before .before .before .before .before .before .before .before .before .before .before .args .plan .now) (c .before .before .before .before .before .before .loop .k) 0) 0) (c .before .before .before .before .before .before .loop .inv .1) (c .before .before .if1 .left) _ (c .before .before .before .before .before .before .before .moves .ensures)) (move-inside _ _ _ (c .before .before .before .before .before .before .before .before .before .before .before .pre .0) (c .before .before .before .before .before .before .loop .s) (getD (c .before .before .before .before .before .before .before .before .before .before .before .args .table .now) (getD (c .before .before .before .before .before .before .before .before .before .before .before .args .plan .now) (c .before .before .before .before .before .before .loop .k) 0) 0) (c .before .before .before .before .before .before .loop .inv .1) (c .before .before .if1 .left)))
+shared-slice-read-if2 c = mark-room _ _ _ (c .before .before .before .before .before .before .before .before .before .before .before .pre .0) _ _ (c .before .before .before .before .before .before .before .before .marks .ensures) (rw (c .before .next .ensures .0 ∙ move-is _ _ _ (c .before .before .before .before .before .before .before .before .before .before .before .pre .0) (c .before .before .before .before .before .before .loop .s) (getD (c .before .before .before .before .before .before .before .before .before .before .before .args .table .now) (getD (c .before .before .before .before .before .before .before .before .before .before .before .args .plan .now) (c .before .before .before .before .before .before .loop .k) 0) 0) (c .before .before .before .before .before .before .loop .inv .1) (c .before .before .if1 .left) _ (c .before .before .before .before .before .before .before .moves .ensures)) (move-inside _ _ _ (c .before .before .before .before .before .before .before .before .before .before .before .pre .0) (c .before .before .before .before .before .before .loop .s) (getD (c .before .before .before .before .before .before .before .before .before .before .before .args .table .now) (getD (c .before .before .before .before .before .before .before .before .before .before .before .args .plan .now) (c .before .before .before .before .before .before .loop .k) 0) 0) (c .before .before .before .before .before .before .loop .inv .1) (c .before .before .if1 .left)))
 
 returns-2 : tie.Need-returns-2 Inv-loop μ-loop
 returns-2 c =
     record {
-      is = walk-dead _ _ _ _ _ (c .before .before .before .before .before .before .loop-test .taken) (c .before .before .before .before .before .before .before .loop .inv .2) _ (move-is _ _ _ (c .before .before .before .before .before .before .before .before .before .before .before .before .pre .0) (c .before .before .before .before .before .before .before .loop .s) (getD (c .before .before .before .before .before .before .before .before .before .before .before .before .args .table .now) (getD (c .before .before .before .before .before .before .before .before .before .before .before .before .args .plan .now) (c .before .before .before .before .before .before .before .loop .k) 0) 0) (c .before .before .before .before .before .before .before .loop .inv .1) (c .before .before .before .if1 .left) _ (c .before .before .before .before .before .before .before .before .moves .ensures) ∙ ap (moveAt narrow (c .before .before .before .before .before .before .before .before .before .before .before .before .args .card .now) (c .before .before .before .before .before .before .before .loop .s)) (c .before .before .before .before .before .before .before .before .before .before .before .before .pre .1 .entry (getD (c .before .before .before .before .before .before .before .before .before .before .before .before .args .plan .now) (c .before .before .before .before .before .before .before .loop .k) 0) (omega (arith, c .before .before .before .before .before .shared-slice-known3 .given (c .before .before .before .before .before .before .before .loop .k))))) (omega (arith, c .before .before .before .before .before .before .before .before .before .before .before .before .pre .1 .entry (getD (c .before .before .before .before .before .before .before .before .before .before .before .before .args .plan .now) (c .before .before .before .before .before .before .before .loop .k) 0) (omega (arith, c .before .before .before .before .before .shared-slice-known3 .given (c .before .before .before .before .before .before .before .loop .k))), letters-many _ _ _ (c .before .before .before .before .before .before .before .before .before .before .before .before .pre .0), c .before .before .before .if1 .left)) (sym (mark-is _ _ _ (c .before .before .before .before .before .before .before .before .before .before .before .before .pre .0) _ _ (c .before .before .before .before .before .before .before .before .before .marks .ensures) (rw (move-is _ _ _ (c .before .before .before .before .before .before .before .before .before .before .before .before .pre .0) (c .before .before .before .before .before .before .before .loop .s) (getD (c .before .before .before .before .before .before .before .before .before .before .before .before .args .table .now) (getD (c .before .before .before .before .before .before .before .before .before .before .before .before .args .plan .now) (c .before .before .before .before .before .before .before .loop .k) 0) 0) (c .before .before .before .before .before .before .before .loop .inv .1) (c .before .before .before .if1 .left) _ (c .before .before .before .before .before .before .before .before .moves .ensures)) (move-inside _ _ _ (c .before .before .before .before .before .before .before .before .before .before .before .before .pre .0) (c .before .before .before .before .before .before .before .loop .s) (getD (c .before .before .before .before .before .before .before .before .before .before .before .before .args .table .now) (getD (c .before .before .before .before .before .before .before .before .before .before .before .before .args .plan .now) (c .before .before .before .before .before .before .before .loop .k) 0) 0) (c .before .before .before .before .before .before .before .loop .inv .1) (c .before .before .before .if1 .left)))) ∙ c .if2 .taken);
-      end = ((rw (move-is _ _ _ (c .before .before .before .before .before .before .before .before .before .before .before .before .pre .0) (c .before .before .before .before .before .before .before .loop .s) (getD (c .before .before .before .before .before .before .before .before .before .before .before .before .args .table .now) (getD (c .before .before .before .before .before .before .before .before .before .before .before .before .args .plan .now) (c .before .before .before .before .before .before .before .loop .k) 0) 0) (c .before .before .before .before .before .before .before .loop .inv .1) (c .before .before .before .if1 .left) _ (c .before .before .before .before .before .before .before .before .moves .ensures)) (move-inside _ _ _ (c .before .before .before .before .before .before .before .before .before .before .before .before .pre .0) (c .before .before .before .before .before .before .before .loop .s) (getD (c .before .before .before .before .before .before .before .before .before .before .before .before .args .table .now) (getD (c .before .before .before .before .before .before .before .before .before .before .before .before .args .plan .now) (c .before .before .before .before .before .before .before .loop .k) 0) 0) (c .before .before .before .before .before .before .before .loop .inv .1) (c .before .before .before .if1 .left))), sym (mark-is _ _ _ (c .before .before .before .before .before .before .before .before .before .before .before .before .pre .0) _ _ (c .before .before .before .before .before .before .before .before .before .marks .ensures) (rw (move-is _ _ _ (c .before .before .before .before .before .before .before .before .before .before .before .before .pre .0) (c .before .before .before .before .before .before .before .loop .s) (getD (c .before .before .before .before .before .before .before .before .before .before .before .before .args .table .now) (getD (c .before .before .before .before .before .before .before .before .before .before .before .before .args .plan .now) (c .before .before .before .before .before .before .before .loop .k) 0) 0) (c .before .before .before .before .before .before .before .loop .inv .1) (c .before .before .before .if1 .left) _ (c .before .before .before .before .before .before .before .before .moves .ensures)) (move-inside _ _ _ (c .before .before .before .before .before .before .before .before .before .before .before .before .pre .0) (c .before .before .before .before .before .before .before .loop .s) (getD (c .before .before .before .before .before .before .before .before .before .before .before .before .args .table .now) (getD (c .before .before .before .before .before .before .before .before .before .before .before .before .args .plan .now) (c .before .before .before .before .before .before .before .loop .k) 0) 0) (c .before .before .before .before .before .before .before .loop .inv .1) (c .before .before .before .if1 .left)))) ∙ c .if2 .taken, omega arith);
+      is = walk-dead _ _ _ _ _ (c .before .before .before .before .before .before .loop-test .taken) (c .before .before .before .before .before .before .before .loop .inv .2) _ (c .before .before .next .ensures .0 ∙ move-is _ _ _ (c .before .before .before .before .before .before .before .before .before .before .before .before .pre .0) (c .before .before .before .before .before .before .before .loop .s) (getD (c .before .before .before .before .before .before .before .before .before .before .before .before .args .table .now) (getD (c .before .before .before .before .before .before .before .before .before .before .before .before .args .plan .now) (c .before .before .before .before .before .before .before .loop .k) 0) 0) (c .before .before .before .before .before .before .before .loop .inv .1) (c .before .before .before .if1 .left) _ (c .before .before .before .before .before .before .before .before .moves .ensures) ∙ ap (moveAt narrow (c .before .before .before .before .before .before .before .before .before .before .before .before .args .card .now) (c .before .before .before .before .before .before .before .loop .s)) (c .before .before .before .before .before .before .before .before .before .before .before .before .pre .1 .entry (getD (c .before .before .before .before .before .before .before .before .before .before .before .before .args .plan .now) (c .before .before .before .before .before .before .before .loop .k) 0) (omega (arith, c .before .before .before .before .before .shared-slice-known3 .given (c .before .before .before .before .before .before .before .loop .k))))) (omega (arith, c .before .before .before .before .before .before .before .before .before .before .before .before .pre .1 .entry (getD (c .before .before .before .before .before .before .before .before .before .before .before .before .args .plan .now) (c .before .before .before .before .before .before .before .loop .k) 0) (omega (arith, c .before .before .before .before .before .shared-slice-known3 .given (c .before .before .before .before .before .before .before .loop .k))), letters-many _ _ _ (c .before .before .before .before .before .before .before .before .before .before .before .before .pre .0), c .before .before .before .if1 .left)) (sym (mark-is _ _ _ (c .before .before .before .before .before .before .before .before .before .before .before .before .pre .0) _ _ (c .before .before .before .before .before .before .before .before .before .marks .ensures) (rw (c .before .before .next .ensures .0 ∙ move-is _ _ _ (c .before .before .before .before .before .before .before .before .before .before .before .before .pre .0) (c .before .before .before .before .before .before .before .loop .s) (getD (c .before .before .before .before .before .before .before .before .before .before .before .before .args .table .now) (getD (c .before .before .before .before .before .before .before .before .before .before .before .before .args .plan .now) (c .before .before .before .before .before .before .before .loop .k) 0) 0) (c .before .before .before .before .before .before .before .loop .inv .1) (c .before .before .before .if1 .left) _ (c .before .before .before .before .before .before .before .before .moves .ensures)) (move-inside _ _ _ (c .before .before .before .before .before .before .before .before .before .before .before .before .pre .0) (c .before .before .before .before .before .before .before .loop .s) (getD (c .before .before .before .before .before .before .before .before .before .before .before .before .args .table .now) (getD (c .before .before .before .before .before .before .before .before .before .before .before .before .args .plan .now) (c .before .before .before .before .before .before .before .loop .k) 0) 0) (c .before .before .before .before .before .before .before .loop .inv .1) (c .before .before .before .if1 .left)))) ∙ c .if2 .taken);
+      end = ((rw (c .before .before .next .ensures .0 ∙ move-is _ _ _ (c .before .before .before .before .before .before .before .before .before .before .before .before .pre .0) (c .before .before .before .before .before .before .before .loop .s) (getD (c .before .before .before .before .before .before .before .before .before .before .before .before .args .table .now) (getD (c .before .before .before .before .before .before .before .before .before .before .before .before .args .plan .now) (c .before .before .before .before .before .before .before .loop .k) 0) 0) (c .before .before .before .before .before .before .before .loop .inv .1) (c .before .before .before .if1 .left) _ (c .before .before .before .before .before .before .before .before .moves .ensures)) (move-inside _ _ _ (c .before .before .before .before .before .before .before .before .before .before .before .before .pre .0) (c .before .before .before .before .before .before .before .loop .s) (getD (c .before .before .before .before .before .before .before .before .before .before .before .before .args .table .now) (getD (c .before .before .before .before .before .before .before .before .before .before .before .before .args .plan .now) (c .before .before .before .before .before .before .before .loop .k) 0) 0) (c .before .before .before .before .before .before .before .loop .inv .1) (c .before .before .before .if1 .left))), sym (mark-is _ _ _ (c .before .before .before .before .before .before .before .before .before .before .before .before .pre .0) _ _ (c .before .before .before .before .before .before .before .before .before .marks .ensures) (rw (c .before .before .next .ensures .0 ∙ move-is _ _ _ (c .before .before .before .before .before .before .before .before .before .before .before .before .pre .0) (c .before .before .before .before .before .before .before .loop .s) (getD (c .before .before .before .before .before .before .before .before .before .before .before .before .args .table .now) (getD (c .before .before .before .before .before .before .before .before .before .before .before .before .args .plan .now) (c .before .before .before .before .before .before .before .loop .k) 0) 0) (c .before .before .before .before .before .before .before .loop .inv .1) (c .before .before .before .if1 .left) _ (c .before .before .before .before .before .before .before .before .moves .ensures)) (move-inside _ _ _ (c .before .before .before .before .before .before .before .before .before .before .before .before .pre .0) (c .before .before .before .before .before .before .before .loop .s) (getD (c .before .before .before .before .before .before .before .before .before .before .before .before .args .table .now) (getD (c .before .before .before .before .before .before .before .before .before .before .before .before .args .plan .now) (c .before .before .before .before .before .before .before .loop .k) 0) 0) (c .before .before .before .before .before .before .before .loop .inv .1) (c .before .before .before .if1 .left)))) ∙ c .if2 .taken, omega arith);
     }
 
 loop-again : tie.Need-loop-again Inv-loop μ-loop
-loop-again c = (omega arith, (rw (move-is _ _ _ (c .before .before .before .before .before .before .before .before .before .before .before .before .pre .0) (c .before .before .before .before .before .before .before .loop .s) (getD (c .before .before .before .before .before .before .before .before .before .before .before .before .args .table .now) (getD (c .before .before .before .before .before .before .before .before .before .before .before .before .args .plan .now) (c .before .before .before .before .before .before .before .loop .k) 0) 0) (c .before .before .before .before .before .before .before .loop .inv .1) (c .before .before .before .if1 .left) _ (c .before .before .before .before .before .before .before .before .moves .ensures)) (move-inside _ _ _ (c .before .before .before .before .before .before .before .before .before .before .before .before .pre .0) (c .before .before .before .before .before .before .before .loop .s) (getD (c .before .before .before .before .before .before .before .before .before .before .before .before .args .table .now) (getD (c .before .before .before .before .before .before .before .before .before .before .before .before .args .plan .now) (c .before .before .before .before .before .before .before .loop .k) 0) 0) (c .before .before .before .before .before .before .before .loop .inv .1) (c .before .before .before .if1 .left))), walk-next _ _ _ _ _ (c .before .before .before .before .before .before .loop-test .taken) (c .before .before .before .before .before .before .before .loop .inv .2) _ (move-is _ _ _ (c .before .before .before .before .before .before .before .before .before .before .before .before .pre .0) (c .before .before .before .before .before .before .before .loop .s) (getD (c .before .before .before .before .before .before .before .before .before .before .before .before .args .table .now) (getD (c .before .before .before .before .before .before .before .before .before .before .before .before .args .plan .now) (c .before .before .before .before .before .before .before .loop .k) 0) 0) (c .before .before .before .before .before .before .before .loop .inv .1) (c .before .before .before .if1 .left) _ (c .before .before .before .before .before .before .before .before .moves .ensures) ∙ ap (moveAt narrow (c .before .before .before .before .before .before .before .before .before .before .before .before .args .card .now) (c .before .before .before .before .before .before .before .loop .s)) (c .before .before .before .before .before .before .before .before .before .before .before .before .pre .1 .entry (getD (c .before .before .before .before .before .before .before .before .before .before .before .before .args .plan .now) (c .before .before .before .before .before .before .before .loop .k) 0) (omega (arith, c .before .before .before .before .before .shared-slice-known3 .given (c .before .before .before .before .before .before .before .loop .k))))) (omega (arith, c .before .before .before .before .before .before .before .before .before .before .before .before .pre .1 .entry (getD (c .before .before .before .before .before .before .before .before .before .before .before .before .args .plan .now) (c .before .before .before .before .before .before .before .loop .k) 0) (omega (arith, c .before .before .before .before .before .shared-slice-known3 .given (c .before .before .before .before .before .before .before .loop .k))), letters-many _ _ _ (c .before .before .before .before .before .before .before .before .before .before .before .before .pre .0), c .before .before .before .if1 .left)) (λ e. c .if2 .left (mark-is _ _ _ (c .before .before .before .before .before .before .before .before .before .before .before .before .pre .0) _ _ (c .before .before .before .before .before .before .before .before .before .marks .ensures) (rw (move-is _ _ _ (c .before .before .before .before .before .before .before .before .before .before .before .before .pre .0) (c .before .before .before .before .before .before .before .loop .s) (getD (c .before .before .before .before .before .before .before .before .before .before .before .before .args .table .now) (getD (c .before .before .before .before .before .before .before .before .before .before .before .before .args .plan .now) (c .before .before .before .before .before .before .before .loop .k) 0) 0) (c .before .before .before .before .before .before .before .loop .inv .1) (c .before .before .before .if1 .left) _ (c .before .before .before .before .before .before .before .before .moves .ensures)) (move-inside _ _ _ (c .before .before .before .before .before .before .before .before .before .before .before .before .pre .0) (c .before .before .before .before .before .before .before .loop .s) (getD (c .before .before .before .before .before .before .before .before .before .before .before .before .args .table .now) (getD (c .before .before .before .before .before .before .before .before .before .before .before .before .args .plan .now) (c .before .before .before .before .before .before .before .loop .k) 0) 0) (c .before .before .before .before .before .before .before .loop .inv .1) (c .before .before .before .if1 .left))) ∙ e)))
+loop-again c = (omega arith, (rw (c .before .before .next .ensures .0 ∙ move-is _ _ _ (c .before .before .before .before .before .before .before .before .before .before .before .before .pre .0) (c .before .before .before .before .before .before .before .loop .s) (getD (c .before .before .before .before .before .before .before .before .before .before .before .before .args .table .now) (getD (c .before .before .before .before .before .before .before .before .before .before .before .before .args .plan .now) (c .before .before .before .before .before .before .before .loop .k) 0) 0) (c .before .before .before .before .before .before .before .loop .inv .1) (c .before .before .before .if1 .left) _ (c .before .before .before .before .before .before .before .before .moves .ensures)) (move-inside _ _ _ (c .before .before .before .before .before .before .before .before .before .before .before .before .pre .0) (c .before .before .before .before .before .before .before .loop .s) (getD (c .before .before .before .before .before .before .before .before .before .before .before .before .args .table .now) (getD (c .before .before .before .before .before .before .before .before .before .before .before .before .args .plan .now) (c .before .before .before .before .before .before .before .loop .k) 0) 0) (c .before .before .before .before .before .before .before .loop .inv .1) (c .before .before .before .if1 .left))), walk-next _ _ _ _ _ (c .before .before .before .before .before .before .loop-test .taken) (c .before .before .before .before .before .before .before .loop .inv .2) _ (c .before .before .next .ensures .0 ∙ move-is _ _ _ (c .before .before .before .before .before .before .before .before .before .before .before .before .pre .0) (c .before .before .before .before .before .before .before .loop .s) (getD (c .before .before .before .before .before .before .before .before .before .before .before .before .args .table .now) (getD (c .before .before .before .before .before .before .before .before .before .before .before .before .args .plan .now) (c .before .before .before .before .before .before .before .loop .k) 0) 0) (c .before .before .before .before .before .before .before .loop .inv .1) (c .before .before .before .if1 .left) _ (c .before .before .before .before .before .before .before .before .moves .ensures) ∙ ap (moveAt narrow (c .before .before .before .before .before .before .before .before .before .before .before .before .args .card .now) (c .before .before .before .before .before .before .before .loop .s)) (c .before .before .before .before .before .before .before .before .before .before .before .before .pre .1 .entry (getD (c .before .before .before .before .before .before .before .before .before .before .before .before .args .plan .now) (c .before .before .before .before .before .before .before .loop .k) 0) (omega (arith, c .before .before .before .before .before .shared-slice-known3 .given (c .before .before .before .before .before .before .before .loop .k))))) (omega (arith, c .before .before .before .before .before .before .before .before .before .before .before .before .pre .1 .entry (getD (c .before .before .before .before .before .before .before .before .before .before .before .before .args .plan .now) (c .before .before .before .before .before .before .before .loop .k) 0) (omega (arith, c .before .before .before .before .before .shared-slice-known3 .given (c .before .before .before .before .before .before .before .loop .k))), letters-many _ _ _ (c .before .before .before .before .before .before .before .before .before .before .before .before .pre .0), c .before .before .before .if1 .left)) (λ e. c .if2 .left (mark-is _ _ _ (c .before .before .before .before .before .before .before .before .before .before .before .before .pre .0) _ _ (c .before .before .before .before .before .before .before .before .before .marks .ensures) (rw (c .before .before .next .ensures .0 ∙ move-is _ _ _ (c .before .before .before .before .before .before .before .before .before .before .before .before .pre .0) (c .before .before .before .before .before .before .before .loop .s) (getD (c .before .before .before .before .before .before .before .before .before .before .before .before .args .table .now) (getD (c .before .before .before .before .before .before .before .before .before .before .before .before .args .plan .now) (c .before .before .before .before .before .before .before .loop .k) 0) 0) (c .before .before .before .before .before .before .before .loop .inv .1) (c .before .before .before .if1 .left) _ (c .before .before .before .before .before .before .before .before .moves .ensures)) (move-inside _ _ _ (c .before .before .before .before .before .before .before .before .before .before .before .before .pre .0) (c .before .before .before .before .before .before .before .loop .s) (getD (c .before .before .before .before .before .before .before .before .before .before .before .before .args .table .now) (getD (c .before .before .before .before .before .before .before .before .before .before .before .before .args .plan .now) (c .before .before .before .before .before .before .before .loop .k) 0) 0) (c .before .before .before .before .before .before .before .loop .inv .1) (c .before .before .before .if1 .left))) ∙ e)))
 
 returns-3 : tie.Need-returns-3 Inv-loop μ-loop
 returns-3 c = record { is = walk-done _ _ _ _ _ (c .before .loop .inv .2) (omega arith); end = c .before .loop .inv .1 }
@@ -83,10 +74,7 @@ walk-on-spec =
     element-copy-out-i
     cast-i
     returns
-    mul-s
-    add-s
-    shared-slice-read-s
-    cast-s
+    next-requires
     (λ c. search needs)
     shared-slice-read-if2
     returns-2

@@ -19,18 +19,10 @@ abbrev μ-loop : tie.MeasureT-loop
 sub-m : tie.Need-sub-m Inv-loop μ-loop
 sub-m c = omega (arith, c .before .before .pre .0 .columns)
 
-step-requires : tie.Need-step-requires Inv-loop μ-loop
-step-requires c κs =
-    let args = c .before .before .args in
-    let pre = c .before .before .pre in
-    cell-in (args .base) (args .n) (args .k) (args .t .now) (pre .0 .table) (args .p) (args .k - 1) (pre .1) (omega (arith, pre .0 .columns))
-
 loop-holds : tie.Need-loop-holds Inv-loop μ-loop
 loop-holds c =
-    let pre = c .before .before .before .pre in
-    let a = c .before .before .before .args in
-    let h : c .step .result < a .n = rw (c .step .ensures) (pre .0 .table .inside (a .p) (a .k - 1) (pre .1) (omega (arith, pre .0 .columns))) in
-    chase-start (cell (a .base) (a .k) (a .k - 1) (a .t .now)) (a .n) (a .p) (a .row .now) (c .step .result) (c .step .ensures) (pre .0 .long) h
+    let a = c .before .before .args in
+    chase-start (cell (a .base) (a .k) (a .k - 1) (a .t .now)) (a .n) (a .p) (a .row .now) (c .before .before .pre .0 .long) (c .before .before .pre .1)
 
 slice-read-if1 : tie.Need-slice-read-if1 Inv-loop μ-loop
 slice-read-if1 c =
@@ -42,10 +34,10 @@ slice-write-row c =
     let loop = c .before .before .loop in
     omega (arith, loop .inv .long, loop .inv .within)
 
-step-requires-2 : tie.Need-step-requires-2 Inv-loop μ-loop
-step-requires-2 c κs =
-    let args = c .before .before .before .before .before .before .args in
-    let pre = c .before .before .before .before .before .before .pre in
+step-requires : tie.Need-step-requires Inv-loop μ-loop
+step-requires c κs =
+    let args = c .before .before .before .before .before .args in
+    let pre = c .before .before .before .before .before .pre in
     let loop = c .before .before .loop in
     cell-in (args .base) (args .n) (args .k) (args .t .now) (pre .0 .table) (loop .q) (args .k - 1) (loop .inv .within) (omega (arith, pre .0 .columns))
 
@@ -56,14 +48,14 @@ loop-less c =
 
 loop-again : tie.Need-loop-again Inv-loop μ-loop
 loop-again c =
-    let pre = c .before .before .before .before .before .before .before .pre in
+    let pre = c .before .before .before .before .before .before .pre in
     let loop = c .before .before .before .loop in
-    let a = c .before .before .before .before .before .before .before .args in
-    let h : c .step2 .result < a .n = rw (c .step2 .ensures) (pre .0 .table .inside (loop .q) (a .k - 1) (loop .inv .within) (omega (arith, pre .0 .columns))) in
-    chase-more (loop .inv) (c .step2 .result) (c .step2 .ensures) h
+    let a = c .before .before .before .before .before .before .args in
+    let h : c .step .result < a .n = rw (c .step .ensures) (pre .0 .table .inside (loop .q) (a .k - 1) (loop .inv .within) (omega (arith, pre .0 .columns))) in
+    chase-more (loop .inv) (c .step .result) (c .step .ensures) h
 
 same-length : tie.Need-same-length Inv-loop μ-loop
-same-length c = c .before .before .loop .inv .long ∙ sym (c .before .before .before .before .before .before .pre .0 .long)
+same-length c = c .before .before .loop .inv .long ∙ sym (c .before .before .before .before .before .pre .0 .long)
 
 returns : tie.Need-returns Inv-loop μ-loop
 returns c =
@@ -77,11 +69,10 @@ chase-spec =
     Inv-loop
     μ-loop
     sub-m
-    step-requires
     loop-holds
     slice-read-if1
     slice-write-row
-    step-requires-2
+    step-requires
     loop-less
     loop-again
     same-length

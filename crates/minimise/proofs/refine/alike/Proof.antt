@@ -5,7 +5,7 @@ use native.Mathlib.Omega.{arith}
 use lib.ListN.{take}
 use Rattle.automata.specs.Table.{tableMachine}
 use Rattle.minimise.specs.Refine.{classOf}
-use Rattle.minimise.proofs.RoundLaws.{SameBelow, alike-differ, alike-start, alike-parts, alike-more, alike-end}
+use Rattle.minimise.proofs.RoundLaws.{SameBelow, alike-start, alike-parts, alike-more, alike-end}
 use Rattle.minimise.proofs.refine.alike.Statement.{statement}
 use Rattle.minimise.proofs.refine.alike.Tie as tie
 
@@ -15,41 +15,32 @@ Inv-loop table base n k work p q c₀ c = (c ≤ k) × SameBelow k (tableMachine
 abbrev μ-loop : tie.MeasureT-loop
 μ-loop table base n k work p q c₀ c = k - c
 
-flag-requires : tie.Need-flag-requires Inv-loop μ-loop
-flag-requires c κs = omega (arith, c .before .before .pre .0 .long, c .before .before .pre .0 .flags)
-
-flag-requires-2 : tie.Need-flag-requires-2 Inv-loop μ-loop
-flag-requires-2 c κs = omega (arith, c .before .before .before .pre .0 .long, c .before .before .before .pre .0 .flags)
-
-returns : tie.Need-returns Inv-loop μ-loop
-returns c = alike-differ _ _ _ _ _ _ _ (c .before .before .before .before .before .pre .0) (c .before .before .before .before .before .pre .1 .1 .0) (c .before .before .before .before .before .pre .1 .1 .1) _ _ (c .before .before .flag .ensures) (c .before .flag2 .ensures) (c .if1 .taken)
-
 loop-holds : tie.Need-loop-holds Inv-loop μ-loop
-loop-holds c = (omega arith, alike-start _ _ _ _ _ _ _ (c .before .before .before .before .before .pre .0) (c .before .before .before .before .before .pre .1 .1 .0) (c .before .before .before .before .before .pre .1 .1 .1) _ _ (c .before .before .flag .ensures) (c .before .flag2 .ensures) (c .if1 .left))
+loop-holds c = (omega arith, alike-start _ _ _ _ _ _ _ (c .before .before .pre .0) (c .before .before .pre .1 .1 .0) (c .before .before .pre .1 .1 .1 .0) (c .before .before .pre .1 .1 .1 .1))
 
 target-requires : tie.Need-target-requires Inv-loop μ-loop
-target-requires c κs = (c .before .before .before .before .before .before .before .pre .0, (c .before .before .before .before .before .before .before .pre .1 .1 .0, c .loop-test .taken))
+target-requires c κs = (c .before .before .before .before .pre .0, (c .before .before .before .before .pre .1 .1 .0, c .loop-test .taken))
 
 target-requires-2 : tie.Need-target-requires-2 Inv-loop μ-loop
-target-requires-2 c κs = (c .before .before .before .before .before .before .before .before .pre .0, (c .before .before .before .before .before .before .before .before .pre .1 .1 .1, c .before .loop-test .taken))
+target-requires-2 c κs = (c .before .before .before .before .before .pre .0, (c .before .before .before .before .before .pre .1 .1 .1 .0, c .before .loop-test .taken))
 
 at-requires : tie.Need-at-requires Inv-loop μ-loop
-at-requires c κs = omega (arith, c .before .target .ensures .inside, c .before .before .before .before .before .before .before .before .before .pre .1 .0)
+at-requires c κs = omega (arith, c .before .target .ensures .inside, c .before .before .before .before .before .before .pre .1 .0)
 
 at-requires-2 : tie.Need-at-requires-2 Inv-loop μ-loop
-at-requires-2 c κs = omega (arith, c .before .target2 .ensures .inside, c .before .before .before .before .before .before .before .before .before .before .pre .1 .0)
+at-requires-2 c κs = omega (arith, c .before .target2 .ensures .inside, c .before .before .before .before .before .before .before .pre .1 .0)
 
-returns-2 : tie.Need-returns-2 Inv-loop μ-loop
-returns-2 c = alike-parts _ _ _ _ _ _ _ (c .before .before .before .before .before .before .before .before .before .before .before .before .pre .0) (c .before .before .before .before .before .before .before .before .before .before .before .before .pre .1 .1 .0) (c .before .before .before .before .before .before .before .before .before .before .before .before .pre .1 .1 .1) _ _ _ _ _ (c .before .before .before .before .before .loop-test .taken) (c .before .before .before .before .target .ensures) (c .before .before .before .target2 .ensures) (c .before .before .at .ensures) (c .before .at2 .ensures) (c .if2 .taken)
+returns : tie.Need-returns Inv-loop μ-loop
+returns c = alike-parts _ _ _ _ _ _ _ (c .before .before .before .before .before .before .before .before .before .pre .0) (c .before .before .before .before .before .before .before .before .before .pre .1 .1 .0) (c .before .before .before .before .before .before .before .before .before .pre .1 .1 .1 .0) _ _ _ _ _ (c .before .before .before .before .before .loop-test .taken) (c .before .before .before .before .target .ensures) (c .before .before .before .target2 .ensures) (c .before .before .at .ensures) (c .before .at2 .ensures) (c .if1 .taken)
 
 loop-again : tie.Need-loop-again Inv-loop μ-loop
 loop-again c = (
   omega arith,
-  alike-more _ _ _ _ _ _ _ (c .before .before .before .before .before .before .before .before .before .before .before .before .pre .0) (c .before .before .before .before .before .before .before .before .before .before .before .before .pre .1 .1 .0) (c .before .before .before .before .before .before .before .before .before .before .before .before .pre .1 .1 .1) _ _ _ _ _ (c .before .before .before .before .target .ensures) (c .before .before .before .target2 .ensures) (c .before .before .at .ensures) (c .before .at2 .ensures) (c .if2 .left) (c .before .before .before .before .before .before .loop .inv .1),
+  alike-more _ _ _ _ _ _ _ (c .before .before .before .before .before .before .before .before .before .pre .0) (c .before .before .before .before .before .before .before .before .before .pre .1 .1 .0) (c .before .before .before .before .before .before .before .before .before .pre .1 .1 .1 .0) _ _ _ _ _ (c .before .before .before .before .target .ensures) (c .before .before .before .target2 .ensures) (c .before .before .at .ensures) (c .before .at2 .ensures) (c .if1 .left) (c .before .before .before .before .before .before .loop .inv .1),
 )
 
-returns-3 : tie.Need-returns-3 Inv-loop μ-loop
-returns-3 c = alike-end _ _ _ _ _ _ _ (c .before .before .before .before .before .before .before .pre .0) (c .before .before .before .before .before .before .before .pre .1 .1 .0) (c .before .before .before .before .before .before .before .pre .1 .1 .1) _ (c .loop-test .left) (c .before .loop .inv .1)
+returns-2 : tie.Need-returns-2 Inv-loop μ-loop
+returns-2 c = alike-end _ _ _ _ _ _ _ (c .before .before .before .before .pre .0) (c .before .before .before .before .pre .1 .1 .0) (c .before .before .before .before .pre .1 .1 .1 .0) _ (c .loop-test .left) (c .before .loop .inv .1)
 
 pub alike-spec : {M : Type 1} → statement M
 alike-spec =
@@ -57,16 +48,13 @@ alike-spec =
     (tie.spec
     Inv-loop
     μ-loop
-    flag-requires
-    flag-requires-2
-    returns
     loop-holds
     target-requires
     target-requires-2
     at-requires
     at-requires-2
-    returns-2
+    returns
     (λ c. search needs)
     (λ c. search needs)
     loop-again
-    returns-3)
+    returns-2)

@@ -29,7 +29,7 @@ loop-holds : tie.Need-loop-holds Inv-loop μ-loop
 loop-holds c = leader-start (c .before .before .before .before .pre .0) _ _ (c .before .before .before .before .pre .1) (c .before .at .ensures) (c .at2 .ensures)
 
 alike-requires : tie.Need-alike-requires Inv-loop μ-loop
-alike-requires c κs = (c .before .before .before .before .before .pre .0 .closed, (omega (arith, c .before .before .before .before .before .pre .0 .room), (omega (arith, c .loop .inv .below, c .before .before .before .before .before .pre .0 .inside), c .before .before .before .before .before .pre .0 .inside)))
+alike-requires c κs = (c .before .before .before .before .before .pre .0 .closed, (omega (arith, c .before .before .before .before .before .pre .0 .room), (omega (arith, c .loop .inv .below, c .before .before .before .before .before .pre .0 .inside), (c .before .before .before .before .before .pre .0 .inside, c .before .before .before .before .before .pre .0 .told _ _ (omega (arith, c .loop .inv .below, c .before .before .before .before .before .pre .0 .inside)) (c .before .before .before .before .before .pre .0 .inside) (c .loop .inv .class)))))
 
 returns : tie.Need-returns Inv-loop μ-loop
 returns c = leader-found (c .before .before .before .before .before .before .before .pre .0) _ _ (c .before .before .loop .inv) (c .before .alike .ensures) (c .if1 .taken)

@@ -5,19 +5,21 @@ use native.Mathlib.Omega.{arith}
 use borrow.Author.Needs.{needs}
 use lib.ListN.{length}
 use Rattle.choice.proofs.TokenLaws.{seen-token, seen-end}
+use Rattle.choice.specs.Buffer.{Grown}
+use Rattle.choice.specs.BufferLaws.{grown-none, grown-more}
 use Rattle.reader.specs.Forms.{Ruled}
 use Rattle.reader.proofs.FormLaws.{rule-end, rule-other, rule-half, rule-next, context-to, context-not}
 use Rattle.reader.proofs.forms.contexts.Statement.{statement}
 use Rattle.reader.proofs.forms.contexts.Tie as tie
 
 abbrev Inv-loop : tie.InvT-loop
-Inv-loop line out₀ here₀ out here = Ruled line out here × (length out ≡ length out₀)
+Inv-loop line out₀ here₀ out here = Ruled line out here × (length out ≡ length out₀) × Grown out₀ (here₀ .pos) out (here .pos)
 
 abbrev μ-loop : tie.MeasureT-loop
 μ-loop line out₀ here₀ out here = length line - here .at
 
 loop-holds : tie.Need-loop-holds Inv-loop μ-loop
-loop-holds c = (c .before .before .pre, refl)
+loop-holds c = (c .before .before .pre, refl, grown-none _ _)
 
 next-requires : tie.Need-next-requires Inv-loop μ-loop
 next-requires c κs = search needs
@@ -42,7 +44,7 @@ same-length c = search needs
 returns : tie.Need-returns Inv-loop μ-loop
 returns c =
     let d = c .before .before .before .before .before .before .before .before .loop .inv .0 in
-    rule-end d _ _ (seen-end (c .before .before .before .before .before .before .before .next .ensures) (c .before .before .before .before .before .enum-told .given .1)) (c .before .before .put-row .ensures) (omega (arith, d .room, d .few, c .before .before .put-row .ensures .end-is, c .before .before .put-row .kept .0))
+    rule-end d _ _ (seen-end (c .before .before .before .before .before .before .before .next .ensures) (c .before .before .before .before .before .enum-told .given .1)) (c .before .before .before .before .before .before .before .before .loop .inv .2) (c .before .before .put-row .ensures) (omega (arith, d .room, d .few, c .before .before .put-row .ensures .end-is, c .before .before .put-row .kept .0))
 
 same-length-2 : tie.Need-same-length-2 Inv-loop μ-loop
 same-length-2 c = search needs
@@ -51,7 +53,7 @@ returns-2 : tie.Need-returns-2 Inv-loop μ-loop
 returns-2 c =
     let d = c .before .before .before .before .before .loop .inv .0 in
     let x = seen-token (c .before .before .before .before .next .ensures) (c .before .before .k .given .1) in
-    rule-other d x _ (c .if1 .taken)
+    rule-other d x (c .if1 .taken)
 
 context-requires : tie.Need-context-requires Inv-loop μ-loop
 context-requires c κs =
@@ -72,7 +74,7 @@ returns-3 : tie.Need-returns-3 Inv-loop μ-loop
 returns-3 c =
     let d = c .before .before .before .before .before .before .before .before .before .before .before .loop .inv .0 in
     let x = seen-token (c .before .before .before .before .before .before .before .before .before .before .next .ensures) (c .before .before .before .before .before .before .before .before .k .given .1) in
-    rule-half d x _ _ (c .before .before .before .before .before .before .if1 .left) (context-not (c .before .before .before .before .context .ensures) (c .enum-told2 .given .1))
+    rule-half d x (c .before .before .before .before .before .before .if1 .left) (context-not (c .before .before .before .before .context .ensures) (c .enum-told2 .given .1))
 
 loop-less : tie.Need-loop-less Inv-loop μ-loop
 loop-less c =
@@ -83,7 +85,8 @@ loop-again : tie.Need-loop-again Inv-loop μ-loop
 loop-again c =
     let d = c .before .before .before .before .before .before .before .before .before .before .before .before .loop .inv .0 in
     let x = seen-token (c .before .before .before .before .before .before .before .before .before .before .before .next .ensures) (c .before .before .before .before .before .before .before .before .before .k .given .1) in
-    (rule-next d x _ _ (c .before .before .before .before .before .before .before .if1 .left) (context-to (c .before .before .before .before .before .context .ensures) (c .before .n .given .1)) (c .before .before .before .before .before .context .kept .1 .0), c .before .before .before .before .before .context .kept .1 .0 ∙ c .before .before .before .before .before .before .before .before .before .before .before .before .loop .inv .1)
+    let t = context-to (c .before .before .before .before .before .context .ensures) (c .before .n .given .1) in
+    (rule-next d x _ _ (c .before .before .before .before .before .before .before .if1 .left) t (c .before .before .before .before .before .context .kept .1 .0), c .before .before .before .before .before .context .kept .1 .0 ∙ c .before .before .before .before .before .before .before .before .before .before .before .before .loop .inv .1, grown-more (c .before .before .before .before .before .before .before .before .before .before .before .before .loop .inv .2) (t .grown))
 
 pub contexts-spec : {M : Type 1} → statement M
 contexts-spec =

@@ -17,12 +17,12 @@ enum-told : tie.Need-enum-told
 enum-told c = search needs
 
 returns : tie.Need-returns
-returns c = define-none _ (c .before .before .before .before .before .pre .1) _ (seen-end (c .before .before .next .ensures) (c .enum-told .given .1))
+returns c = define-none _ (c .before .before .before .before .before .pre .1) (seen-end (c .before .before .next .ensures) (c .enum-told .given .1))
 
 returns-2 : tie.Need-returns-2
 returns-2 c =
     let x = seen-token (c .before .before .before .before .next .ensures) (c .before .before .k .given .1) in
-    define-other _ (c .before .before .before .before .before .before .before .pre .1) x _ (c .if1 .taken)
+    define-other _ (c .before .before .before .before .before .before .before .pre .1) x (c .if1 .taken)
 
 choice-requires : tie.Need-choice-requires
 choice-requires c κs = search needs
@@ -39,7 +39,7 @@ same-length c = search needs
 returns-3 : tie.Need-returns-3
 returns-3 c =
     let x = seen-token (c .before .before .before .before .before .before .before .before .before .before .next .ensures) (c .before .before .before .before .before .before .before .before .k .given .1) in
-    define-bad _ (c .before .before .before .before .before .before .before .before .before .before .before .before .before .pre .1) x _ (c .before .before .before .before .before .before .if1 .left) (choice-bad (c .before .before .before .before .choice .ensures) (c .enum-told2 .given .1))
+    define-bad _ (c .before .before .before .before .before .before .before .before .before .before .before .before .before .pre .1) x (c .before .before .before .before .before .before .if1 .left) (choice-bad (c .before .before .before .before .choice .ensures) (c .enum-told2 .given .1))
 
 next-requires-2 : tie.Need-next-requires-2
 next-requires-2 c κs = search needs

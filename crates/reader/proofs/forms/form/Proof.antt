@@ -5,7 +5,7 @@ use Rattle.reader.proofs.forms.form.Statement.{statement}
 use Rattle.reader.proofs.forms.form.Tie as tie
 
 returns : tie.Need-returns
-returns c = form-empty _ _ (c .if1 .taken)
+returns c = form-empty _ (c .if1 .taken)
 
 shared-slice-read-kind : tie.Need-shared-slice-read-kind
 shared-slice-read-kind c = search needs
@@ -32,7 +32,7 @@ returns-3 : tie.Need-returns-3
 returns-3 c = search needs
 
 returns-4 : tie.Need-returns-4
-returns-4 c = form-neither _ _ _ (c .before .before .kind .ensures) (c .before .if2 .left) (c .if3 .left)
+returns-4 c = form-neither _ _ (c .before .before .kind .ensures) (c .before .if2 .left) (c .if3 .left)
 
 pub form-spec : {M : Type 1} → statement M
 form-spec =

@@ -2,8 +2,9 @@
 use mathlib.Core.Path.{_∙_}
 use native.Mathlib.Omega.{arith}
 use borrow.Author.Needs.{needs}
+use Rattle.choice.specs.BufferLaws.{grown-more}
 use Rattle.choice.specs.ReadingLaws.{read-to, choice-bad}
-use Rattle.reader.proofs.FormLaws.{rule-none, rule-start}
+use Rattle.reader.proofs.FormLaws.{rule-none, rule-start, form-grown}
 use Rattle.reader.proofs.forms.rule.Statement.{statement}
 use Rattle.reader.proofs.forms.rule.Tie as tie
 
@@ -20,7 +21,7 @@ same-length : tie.Need-same-length
 same-length c = search needs
 
 returns : tie.Need-returns
-returns c = rule-none _ _ (c .before .before .before .before .before .before .before .before .pre .1 .0) (choice-bad (c .before .before .before .before .choice .ensures) (c .enum-told .given .1))
+returns c = rule-none _ (c .before .before .before .before .before .before .before .before .pre .1 .0) (choice-bad (c .before .before .before .before .choice .ensures) (c .enum-told .given .1))
 
 slice-aggregate-put-row : tie.Need-slice-aggregate-put-row
 slice-aggregate-put-row c = search needs
@@ -39,7 +40,9 @@ same-length-2 : tie.Need-same-length-2
 same-length-2 c = search needs
 
 returns-2 : tie.Need-returns-2
-returns-2 c = search needs
+returns-2 c =
+    let t = read-to (c .before .before .before .before .before .before .before .before .before .before .before .before .before .before .choice .ensures) (c .before .before .before .before .before .before .before .before .before .before .p .given .1) in
+    form-grown _ (grown-more (t .grown) (c .before .before .before .before .before .before .put-row .ensures .grown)) (c .before .before .contexts .ensures)
 
 pub rule-spec : {M : Type 1} → statement M
 rule-spec =

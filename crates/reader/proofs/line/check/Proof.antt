@@ -10,7 +10,7 @@ line-test-requires : tie.Need-line-test-requires
 line-test-requires c κs = search needs
 
 returns : tie.Need-returns
-returns c = stopped-tests _ _ _ (c .before .line-test .ensures) _ _ _ (c .if1 .taken)
+returns c = stopped-tests _ _ _ (c .before .line-test .ensures) _ _ _ _ (c .if1 .taken)
 
 form-requires : tie.Need-form-requires
 form-requires c κs = (c .before .before .before .before .before .before .pre, passed-few _ _ _ (c .before .before .line-test .ensures) (c .before .if1 .left))
@@ -34,7 +34,7 @@ same-length : tie.Need-same-length
 same-length c = search needs
 
 returns-2 : tie.Need-returns-2
-returns-2 c = stopped-symbol _ _ _ (c .before .before .before .before .before .before .before .before .before .before .before .before .line-test .ensures) _ _ _ (c .before .before .before .before .before .before .before .before .before .before .before .if1 .left) (form-name (c .before .before .before .before .before .before .before .before .before .form .ensures) (c .before .before .before .before .before .name .given .1)) (c .before .all-known .ensures) (not-true _ (c .if2 .taken))
+returns-2 c = stopped-symbol _ _ _ (c .before .before .before .before .before .before .before .before .before .before .before .before .line-test .ensures) _ _ _ _ (c .before .before .before .before .before .before .before .before .before .before .before .if1 .left) (form-name (c .before .before .before .before .before .before .before .before .before .form .ensures) (c .before .before .before .before .before .name .given .1)) (c .before .all-known .ensures) (not-true _ (c .if2 .taken))
 
 has-requires : tie.Need-has-requires
 has-requires c κs = (form-name (c .before .before .before .before .before .before .before .before .before .form .ensures) (c .before .before .before .before .before .name .given .1)) .named
@@ -43,7 +43,7 @@ same-length-2 : tie.Need-same-length-2
 same-length-2 c = search needs
 
 returns-3 : tie.Need-returns-3
-returns-3 c = stopped-name _ _ _ (c .before .before .before .before .before .before .before .before .before .before .before .before .before .before .line-test .ensures) _ _ _ (c .before .before .before .before .before .before .before .before .before .before .before .before .before .if1 .left) (form-name (c .before .before .before .before .before .before .before .before .before .before .before .form .ensures) (c .before .before .before .before .before .before .before .name .given .1)) (c .before .before .before .all-known .ensures) (not-false _ (c .before .before .if2 .left)) _ (c .before .has .ensures) (c .if3 .taken)
+returns-3 c = stopped-name _ _ _ (c .before .before .before .before .before .before .before .before .before .before .before .before .before .before .line-test .ensures) _ _ _ _ (c .before .before .before .before .before .before .before .before .before .before .before .before .before .if1 .left) (form-name (c .before .before .before .before .before .before .before .before .before .before .before .form .ensures) (c .before .before .before .before .before .before .before .name .given .1)) (c .before .before .before .all-known .ensures) (not-false _ (c .before .before .if2 .left)) _ (c .before .has .ensures) (c .if3 .taken)
 
 enum-known-len : tie.Need-enum-known-len
 enum-known-len c = search needs
@@ -64,7 +64,7 @@ same-length-3 : tie.Need-same-length-3
 same-length-3 c = search needs
 
 returns-4 : tie.Need-returns-4
-returns-4 c = stopped-rule _ _ _ (c .before .before .before .before .before .before .before .before .before .before .before .before .line-test .ensures) _ _ _ (c .before .before .before .before .before .before .before .before .before .before .before .if1 .left) (form-rules (c .before .before .before .before .before .before .before .before .before .form .ensures) (c .before .before .before .before .before .len .given .1)) (c .before .all-known2 .ensures) (not-true _ (c .if4 .taken))
+returns-4 c = stopped-rule _ _ _ (c .before .before .before .before .before .before .before .before .before .before .before .before .line-test .ensures) _ _ _ _ (c .before .before .before .before .before .before .before .before .before .before .before .if1 .left) (form-rules (c .before .before .before .before .before .before .before .before .before .form .ensures) (c .before .before .before .before .before .len .given .1)) (c .before .all-known2 .ensures) (not-true _ (c .if4 .taken))
 
 enum-told : tie.Need-enum-told
 enum-told c = search needs
@@ -73,19 +73,19 @@ same-length-4 : tie.Need-same-length-4
 same-length-4 c = search needs
 
 returns-5 : tie.Need-returns-5
-returns-5 c = read-name _ _ _ (c .before .before .before .before .before .before .before .before .before .before .before .before .before .before .line-test .ensures) _ _ _ (c .before .before .before .before .before .before .before .before .before .before .before .before .before .if1 .left) (form-name (c .before .before .before .before .before .before .before .before .before .before .before .form .ensures) (c .before .before .before .before .before .before .before .name .given .1)) (c .before .before .before .all-known .ensures) (not-false _ (c .before .before .if2 .left)) _ (c .before .has .ensures) (c .if3 .left)
+returns-5 c = read-name _ _ _ (c .before .before .before .before .before .before .before .before .before .before .before .before .before .before .line-test .ensures) _ _ _ _ (c .before .before .before .before .before .before .before .before .before .before .before .before .before .if1 .left) (form-name (c .before .before .before .before .before .before .before .before .before .before .before .form .ensures) (c .before .before .before .before .before .before .before .name .given .1)) (c .before .before .before .all-known .ensures) (not-false _ (c .before .before .if2 .left)) _ (c .before .has .ensures) (c .if3 .left)
 
 same-length-5 : tie.Need-same-length-5
 same-length-5 c = search needs
 
 returns-6 : tie.Need-returns-6
-returns-6 c = read-rule _ _ _ (c .before .before .before .before .before .before .before .before .before .before .before .before .line-test .ensures) _ _ _ (c .before .before .before .before .before .before .before .before .before .before .before .if1 .left) (form-rules (c .before .before .before .before .before .before .before .before .before .form .ensures) (c .before .before .before .before .before .len .given .1)) (c .before .all-known2 .ensures) (not-false _ (c .if4 .left))
+returns-6 c = read-rule _ _ _ (c .before .before .before .before .before .before .before .before .before .before .before .before .line-test .ensures) _ _ _ _ (c .before .before .before .before .before .before .before .before .before .before .before .if1 .left) (form-rules (c .before .before .before .before .before .before .before .before .before .form .ensures) (c .before .before .before .before .before .len .given .1)) (c .before .all-known2 .ensures) (not-false _ (c .if4 .left))
 
 same-length-6 : tie.Need-same-length-6
 same-length-6 c = search needs
 
 returns-7 : tie.Need-returns-7
-returns-7 c = stopped-form _ _ _ (c .before .before .before .before .before .before .before .line-test .ensures) _ _ _ (c .before .before .before .before .before .before .if1 .left) (form-not (c .before .before .before .before .form .ensures) (c .enum-told .given .1))
+returns-7 c = stopped-form _ _ _ (c .before .before .before .before .before .before .before .line-test .ensures) _ _ _ _ (c .before .before .before .before .before .before .if1 .left) (form-not (c .before .before .before .before .form .ensures) (c .enum-told .given .1))
 
 pub check-spec : {M : Type 1} → statement M
 check-spec =

@@ -1,0 +1,3 @@
+-- What the program's functions ask and promise, and the laws that their proofs cite.
+pub mod Ready
+pub mod ReadyLaws
