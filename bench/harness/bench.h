@@ -75,7 +75,7 @@ Times time_judge(Judging *j, double seconds, int most);
 
 int same_cards(const Texts *texts); // how many books differ; prints each
 void compile_times(const Texts *texts, double seconds);
-int board_both(const char *folder, double seconds); // how many answers differ; seconds 0 only compares
+int board_both(const char *folder, double seconds, int *compared); // how many answers differ, of so many; seconds 0 only compares
 
 // One stage: its sets, and nanoseconds by each.
 typedef struct {

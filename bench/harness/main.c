@@ -11,8 +11,7 @@ static int check(const char *folder) {
         differ += same_cards(&sets[s]);
         all += sets[s].count;
     }
-    int wrong = board_both(folder, 0);
-    differ += wrong;
+    differ += board_both(folder, 0, &all);
     printf("%d passed, %d failed\n", all - differ, differ);
     return differ != 0;
 }
@@ -52,10 +51,11 @@ static int live(const char *folder, const char *name) {
 int main(int argc, char **argv) {
     if (argc < 3) return 2;
     double seconds = argc > 3 ? atof(argv[3]) : 1;
+    int compared = 0;
     spoil_buffers();
     if (!strcmp(argv[1], "check")) return check(argv[2]);
     if (!strcmp(argv[1], "compile")) return compile_all(argv[2], seconds);
-    if (!strcmp(argv[1], "board")) return board_both(argv[2], seconds) != 0;
+    if (!strcmp(argv[1], "board")) return board_both(argv[2], seconds, &compared) != 0;
     if (!strcmp(argv[1], "stages")) return stage_times(seconds), 0;
     if (!strcmp(argv[1], "growth") && argc > 4) return growth(argv[2], seconds, argv[4]);
     if (!strcmp(argv[1], "memory")) return memory(argv[2]), 0;
