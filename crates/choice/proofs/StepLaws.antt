@@ -9,10 +9,10 @@ use Rattle.language.specs.Expression.{Expr, complement}
 use Rattle.book.specs.Reader.{got, bad, andThen, repeats}
 use Rattle.book.specs.Text.{tokens}
 use Rattle.book.specs.Program.{postfix}
-use Rattle.choice.specs.Token.{At}
+use Rattle.choice.specs.Token.{At, Past}
 use Rattle.choice.specs.Buffer.{Grown}
 use Rattle.choice.specs.BufferLaws.{grown-none, grown-more}
-use Rattle.choice.specs.Reading.{left}
+use Rattle.choice.specs.Reading.{Is, an-item, left}
 use Rattle.choice.specs.Steps.{Put, Suffixed, complements, complemented, negated, Passed, Negated}
 use Rattle.choice.specs.declared.Spot.{Spot}
 use Rattle.choice.proofs.TokenLaws.{at-fewer}
@@ -54,6 +54,16 @@ suffixing-start s o c = record {
   same-length = refl;
 }
 
+pub suffixing-spaces : {s o o′ : List ℕ} {c n : Spot} {i : ℕ} → Suffixing s o c o′ n → Past s (n .at) i → Suffixing s o c o′ (record { at = i; pos = n .pos })
+suffixing-spaces g p = record {
+  goes = λ before e q. let z = g .goes before e q in record { expr = z .expr; goes = z .goes ∙ ap (λ (us : List ℕ). repeats us (z .expr)) (sym (p .same)); code-is = z .code-is };
+  grown = g .grown;
+  fewer = omega (arith, g .fewer, ap length (p .same));
+  falls = omega (arith, g .falls, p .up);
+  room = omega (arith, g .room, p .up);
+  same-length = g .same-length;
+}
+
 pub suffixing-turn : {s o o₁ o′ : List ℕ} {c n v n′ : Spot} {k b : ℕ} → Suffixing s o c o₁ n → At s (n .at) k b (v .at) → 7 ≤ k → k ≤ 9 → Put o₁ v b o′ n′ → v .pos ≡ n .pos → length o′ ≡ length o₁ → Suffixing s o c o′ n′
 suffixing-turn {s} {o} {o₁} {o′} {c} {n} {v} {n′} {k} {b} g x h h′ w hv ln =
     record {
@@ -87,6 +97,13 @@ suffixing-done g st = record {
 
 pub passed-start : (s : List ℕ) (at : ℕ) → Passed s at at 0
 passed-start s at = record { goes = λ X i. i; fewer = omega arith; falls = omega arith }
+
+pub passed-spaces : {s : List ℕ} {at n j i : ℕ} → Passed s at n j → Past s n i → Passed s at i j
+passed-spaces g p = record {
+  goes = λ X d. g .goes X (subst (λ (ts : List ℕ). Is an-item ts X) (p .same) d);
+  fewer = omega (arith, g .fewer, ap length (p .same));
+  falls = omega (arith, g .falls, p .up);
+}
 
 pub passed-turn : {s : List ℕ} {at n j k b n′ : ℕ} → Passed s at n j → At s n k b n′ → k ≡ 6 → Passed s at n′ (j + 1)
 passed-turn {s} {at} {n} {j} {k} {b} {n′} g x q =

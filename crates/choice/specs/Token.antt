@@ -1,8 +1,8 @@
 -- What the lexer's cursor gives, over the tokens of the bytes that are left.
 use mathlib.Core.Path.{_≡_}
 use mathlib.Core.List.{List, [], _∷_}
-use Prim.Native.Nat.{ℕ, _-_, _<_}
-use lib.ListN.{length, drop}
+use Prim.Native.Nat.{ℕ, _-_, _<_, _≤_}
+use lib.ListN.{length, drop, getD}
 use Rattle.book.specs.Kind.{kindOf}
 use Rattle.book.specs.Text.{tokens}
 use Rattle.choice.specs.declared.lexer.Lexeme.{Lexeme}
@@ -14,6 +14,12 @@ pub record At (s : List ℕ) (at k b n : ℕ) : Type 0 where
   pub rest-is : tokens (drop at s) ≡ b ∷ tokens (drop n s)
   pub kind-is : k ≡ kindOf b
   pub falls : length s - n < length s - at
+
+-- Only spaces stand from `at` up to n, and none at n. A place past the bytes stays as it is.
+pub record Past (s : List ℕ) (at n : ℕ) : Type 0 where
+  pub same : tokens (drop n s) ≡ tokens (drop at s)
+  pub up : at ≤ n
+  pub token : n < length s → kindOf (getD s n 0) ≡ 14 → ⊥
 
 abbrev pub Sees : List ℕ → ℕ → Next → Type 0
 Sees s at (Token k b n) = At s at k b (n .at)

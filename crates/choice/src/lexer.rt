@@ -1,6 +1,6 @@
 // A cursor by value over a line's bytes: it skips spaces, gives one token and hands itself back past it.
 use crate::kinds::kind;
-ghost use Rattle.choice.specs.Token.{Seen, Lexed};
+ghost use Rattle.choice.specs.Token.{Past, Seen, Lexed};
 
 pub struct Cursor {
     pub at: usize,
@@ -19,18 +19,28 @@ pub struct Lexeme {
     pub next: Cursor,
 }
 
+// Past the spaces from `at` on: where the next token stands, or the end of the bytes.
+pub fn past_spaces(s: &[u8], at: usize) -> usize
+    ensures { λ r. ⌜ Past (now (s .entry)) at r ⌝ }
+{
+    let mut i = at;
+    while i < s.len() {
+        if kind(s[i]) != 14 {
+            return i;
+        }
+        i += 1;
+    }
+    i
+}
+
 impl Cursor {
     pub fn next(self, s: &[u8]) -> Next
         ensures { λ r. ⌜ Seen (now (s .entry)) (self .at) r ⌝ }
     {
-        let mut at = self.at;
-        while at < s.len() {
+        let at = past_spaces(s, self.at);
+        if at < s.len() {
             let b = s[at];
-            let k = kind(b);
-            at += 1;
-            if k != 14 {
-                return Next::Token(k, b, Cursor { at });
-            }
+            return Next::Token(kind(b), b, Cursor { at: at + 1 });
         }
         Next::End
     }

@@ -5,6 +5,7 @@ pub mod kinds;
 pub mod lexer;
 
 use lexer::Cursor;
+use lexer::past_spaces;
 ghost use Prim.Native.Nat.{_+_, _<_, _≤_};
 ghost use lib.ListN.{length};
 ghost use Rattle.choice.specs.Reading.{Room, Reads, a-choice, a-blend, a-chain, an-item, an-atom};
@@ -152,17 +153,20 @@ fn item(s: &[u8], out: &mut [u8], c: Spot) -> Made
     Made::Done(negate(out, m, first.count))
 }
 
-// Past any number of '!', counting them.
+// Past any number of '!', counting them, and past the spaces behind them.
 fn nots(s: &[u8], at: usize) -> Negations
     ensures { λ r. ⌜ Nots (now (s .entry)) at (r .at) (r .count) ⌝ }
 {
     let mut here = Negations { at, count: 0 };
     loop {
-        let at = here.at;
+        let at = past_spaces(s, here.at);
         let t = Cursor { at }.token(s);
         let k = t.kind;
         if k != 6 {
-            return here;
+            return Negations {
+                at,
+                count: here.count,
+            };
         }
         let next = t.next;
         here = Negations {
@@ -172,21 +176,21 @@ fn nots(s: &[u8], at: usize) -> Negations
     }
 }
 
-// Past any number of '*', '+' and '?', each of which is its own code.
+// Past any number of '*', '+' and '?', each of which is its own code, and past the spaces behind them: the calls above look at the next token at once.
 fn suffixed(s: &[u8], out: &mut [u8], c: Spot) -> Spot
     requires { ⌜ Room (now s) (now out) c ⌝ }
     ensures { λ r. ⌜ Suffixed (now (s .entry)) (now (out .entry)) c (now (out .exit)) r ⌝ }
 {
     let mut here = c;
     loop {
-        let at = here.at;
+        let at = past_spaces(s, here.at);
         let t = Cursor { at }.token(s);
         let k = t.kind;
         if k < 7 {
-            return here;
+            return Spot { at, pos: here.pos };
         }
         if 9 < k {
-            return here;
+            return Spot { at, pos: here.pos };
         }
         let sign = t.byte;
         let next = t.next;

@@ -56,7 +56,7 @@ some-name code len = record { none = λ e. absurd (false≢true e) }
 
 -- ---- a line that was read
 
-module _ {s : List ℕ} {at : ℕ} {letters : List ℕ} {f : Names} {o : List ℕ} {r : LineAnswer} (d : ReadsNext s at letters f o r) where
+module _ {s : List ℕ} {at : ℕ} {letters : List ℕ} {f : Names} {o₀ o : List ℕ} {r : LineAnswer} (d : ReadsNext s at letters f o₀ o r) where
   pub read-name : (x : ℕ) {len next : ℕ} → r ≡ Define x len next → Coding at o (Program len next)
   read-name x e =
       let (W, n) = name-read d e in

@@ -8,9 +8,9 @@ use native.Mathlib.Numerals.{add-one}
 use native.Mathlib.Omega.{arith}
 use lib.ListN.{length, getD, set, replicate, length-set, getD-replicate}
 use lib.Seq.{getD-set-same, getD-set-other}
-use borrow.Author.Tests.{lt-ltb, le-ltb}
+use borrow.Author.Tests.{lt-ltb, le-ltb, eq-eqb, ne-eqb}
 use Rattle.automata.specs.Basics.{LtCases, lt-cases, SameCases, same-cases, nat-test}
-use Rattle.explore.specs.Rows.{rowAt}
+use Rattle.explore.specs.Rows.{rowAt, numberAt}
 use Rattle.explore.specs.Steps.{weight, Weighted, hashSum, hashed, rowHash}
 use Rattle.explore.specs.Answer.{Last, Chained, Appended}
 
@@ -45,9 +45,9 @@ pub sum-next : (r : List ℕ) (i : ℕ) → hashSum r (i + 1) ≡ hashSum r i + 
 unfolding hashSum
 sum-next r i = rw (add-one i)
 
-pub hash-is : (r : List ℕ) (e sum : ℕ) → e ≡ hashed (length r) → sum ≡ hashSum r e → sum / 64 % 1024 ≡ rowHash r
+pub hash-is : (r : List ℕ) (e sum : ℕ) → (length r ≡ 4 → ⊥) → e ≡ hashed (length r) → sum ≡ hashSum r e → sum / 64 % 1024 ≡ rowHash r
 unfolding rowHash
-hash-is r e sum x y = cc
+hash-is r e sum d x y = rw (ne-eqb (length r) 4 d) (ap (λ (z : ℕ). z / 64 % 1024) (y ∙ ap (hashSum r) x))
 
 pub hashed-long : (n : ℕ) → 128 < n → 128 ≡ hashed n
 unfolding hashed
@@ -57,11 +57,10 @@ pub hashed-short : (n : ℕ) → n ≤ 128 → n ≡ hashed n
 unfolding hashed
 hashed-short n h = rw (le-ltb 128 n h)
 
--- a row of four bytes
-pub hash-four : (r : List ℕ) (a b c d : ℕ) → length r ≡ 4 → a ≡ getD r 0 0 → b ≡ getD r 1 0 → c ≡ getD r 2 0 → d ≡ getD r 3 0
-    → (a * 30011 + b * 17325 + (c * 20109 + d * 38363)) / 64 % 1024 ≡ rowHash r
-unfolding rowHash hashed hashSum weight
-hash-four r a b c d l ea eb ec ed = rw (l, ← ea, ← eb, ← ec, ← ed) (ap (λ (x : ℕ). x / 64 % 1024) (omega arith))
+-- a pair of states
+pub hash-two : (r : List ℕ) (p q : ℕ) → length r ≡ 4 → p ≡ numberAt r 0 → q ≡ numberAt r 2 → (p * 30011 + q * 20109) / 64 % 1024 ≡ rowHash r
+unfolding rowHash
+hash-two r p q l ep eq = rw (eq-eqb (length r) 4 l, ep, eq)
 
 -- ---- chains
 

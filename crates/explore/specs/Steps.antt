@@ -4,9 +4,9 @@ use mathlib.Core.Bool.{Bool, not, _&&_, _||_}
 use Prim.Native.Nat.{ℕ, zero, suc, _+_, _*_, _/_, _%_, _≤_, _<_}
 use mathlib.Core.List.{List}
 use lib.ListN.{length, getD, set, drop}
-use lib.Dec.{ltb}
+use lib.Dec.{eqb, ltb}
 use Rattle.automata.specs.Booleans.{choose}
-use Rattle.explore.specs.Rows.{flagAt, numberBytes}
+use Rattle.explore.specs.Rows.{flagAt, numberAt, numberBytes}
 
 -- where state q leads to by column c, in the table's transitions from base on
 abbrev pub cell : ℕ → ℕ → ℕ → List ℕ → ℕ → ℕ
@@ -48,5 +48,6 @@ hashSum r (suc i) = hashSum r i + getD r i 0 * weight i
 unfoldable pub hashed : ℕ → ℕ
 hashed n = choose (ltb 128 n) (λ _. 128) (λ _. n)
 
+-- pairs of states, rows of four bytes, by their two numbers
 unfoldable pub rowHash : List ℕ → ℕ
-rowHash r = hashSum r (hashed (length r)) / 64 % 1024
+rowHash r = choose (eqb (length r) 4) (λ _. (numberAt r 0 * 30011 + numberAt r 2 * 20109) / 64 % 1024) (λ _. hashSum r (hashed (length r)) / 64 % 1024)

@@ -1,5 +1,6 @@
 // Rows of one width, end to end in a buffer: finding one by its hash, and putting one behind the others. Rows with the same hash are chained: `heads` has
 // for each hash the last such row, and `links` for each row the one before it, each plus 1, or 0 where there is none.
+use crate::number;
 ghost use mathlib.Core.Bool.{true};
 ghost use mathlib.Core.Path.{_≡_};
 ghost use Prim.Native.Nat.{_+_, _*_, _<_, _≤_};
@@ -34,14 +35,14 @@ fn wide(x: u8) -> u32
     x as u32
 }
 
-// The same for a row of four bytes, a pair of states, with the weights of its places.
+// The hash of a pair of states, from the two numbers: they are read as they were written, two bytes at a time.
 fn hash_pair(row: &[u8]) -> usize
     requires { ⌜ length (now row) ≡ 4 ⌝ }
     ensures { λ r. ⌜ (r ≡ rowHash (now (row .entry))) × (r < 1024) ⌝ }
 {
-    let low = wide(row[0]) * 30011 + wide(row[1]) * 17325;
-    let high = wide(row[2]) * 20109 + wide(row[3]) * 38363;
-    ((low + high) / 64 % 1024) as usize
+    let p = number::read(row, 0);
+    let q = number::read(row, 2);
+    (p * 30011 + q * 20109) / 64 % 1024
 }
 
 // A number that equal rows share. The products are independent of each other, so that the sum is quick.
@@ -81,11 +82,25 @@ fn same_long(a: &[u8], b: &[u8]) -> bool
     ok
 }
 
+// Whether two pairs of states are equal.
+fn same_pair(a: &[u8], b: &[u8]) -> bool
+    requires { ⌜ (length (now a) ≡ 4) × (length (now b) ≡ 4) ⌝ }
+    ensures { λ r. ⌜ (r ≡ true → now (a .entry) ≡ now (b .entry)) × (now (a .entry) ≡ now (b .entry) → r ≡ true) ⌝ }
+{
+    if number::read(a, 0) != number::read(b, 0) {
+        return false;
+    }
+    number::read(a, 2) == number::read(b, 2)
+}
+
 // Whether two rows are equal.
 fn same(a: &[u8], b: &[u8]) -> bool
     requires { ⌜ length (now a) ≡ length (now b) ⌝ }
     ensures { λ r. ⌜ (r ≡ true → now (a .entry) ≡ now (b .entry)) × (now (a .entry) ≡ now (b .entry) → r ≡ true) ⌝ }
 {
+    if a.len() == 4 {
+        return same_pair(a, b);
+    }
     if a.len() < 16 {
         return check::same(a, b);
     }

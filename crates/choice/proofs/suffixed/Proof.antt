@@ -5,7 +5,7 @@ use native.Mathlib.Omega.{arith}
 use borrow.Author.Needs.{needs}
 use lib.ListN.{length}
 use Rattle.choice.proofs.KindLaws.{repeats-stop}
-use Rattle.choice.proofs.StepLaws.{Suffixing, suffixing-start, suffixing-turn, suffixing-done}
+use Rattle.choice.proofs.StepLaws.{Suffixing, suffixing-start, suffixing-spaces, suffixing-turn, suffixing-done}
 use Rattle.choice.proofs.suffixed.Statement.{statement}
 use Rattle.choice.proofs.suffixed.Tie as tie
 
@@ -18,6 +18,9 @@ abbrev μ-loop : tie.MeasureT-loop
 loop-holds : tie.Need-loop-holds Inv-loop μ-loop
 loop-holds c = suffixing-start _ _ _
 
+past-spaces-requires : tie.Need-past-spaces-requires Inv-loop μ-loop
+past-spaces-requires c κs = search needs
+
 token-requires : tie.Need-token-requires Inv-loop μ-loop
 token-requires c κs = search needs
 
@@ -25,26 +28,27 @@ same-length : tie.Need-same-length Inv-loop μ-loop
 same-length c = search needs
 
 returns : tie.Need-returns Inv-loop μ-loop
-returns c = suffixing-done (c .before .before .loop .inv) (λ e. repeats-stop _ _ e (c .before .token .ensures .kind-is) (λ q. omega arith) (λ q. omega arith) (λ q. omega arith))
+returns c = suffixing-done (suffixing-spaces (c .before .before .before .loop .inv) (c .before .before .past-spaces .ensures)) (λ e. repeats-stop _ _ e (c .before .token .ensures .kind-is) (λ q. omega arith) (λ q. omega arith) (λ q. omega arith))
 
 same-length-2 : tie.Need-same-length-2 Inv-loop μ-loop
 same-length-2 c = search needs
 
 returns-2 : tie.Need-returns-2 Inv-loop μ-loop
-returns-2 c = suffixing-done (c .before .before .before .loop .inv) (λ e. repeats-stop _ _ e (c .before .before .token .ensures .kind-is) (λ q. omega arith) (λ q. omega arith) (λ q. omega arith))
+returns-2 c = suffixing-done (suffixing-spaces (c .before .before .before .before .loop .inv) (c .before .before .before .past-spaces .ensures)) (λ e. repeats-stop _ _ e (c .before .before .token .ensures .kind-is) (λ q. omega arith) (λ q. omega arith) (λ q. omega arith))
 
 put-requires : tie.Need-put-requires Inv-loop μ-loop
 put-requires c κs =
     let x = c .before .before .before .before .token .ensures .token (λ e. omega arith) in
-    omega (arith, c .before .before .before .before .before .loop .inv .room, c .before .before .before .before .before .loop .inv .falls, c .before .before .before .before .before .loop .inv .same-length, x .falls)
+    let v = c .before .before .before .before .before .before .loop .inv in
+    omega (arith, v .room, v .falls, v .same-length, c .before .before .before .before .before .past-spaces .ensures .up, x .falls)
 
 loop-less : tie.Need-loop-less Inv-loop μ-loop
 loop-less c =
     let x = c .before .before .before .before .before .before .before .token .ensures .token (λ e. omega arith) in
-    omega (arith, x .falls, c .before .before .put .ensures .at-is)
+    omega (arith, x .falls, c .before .before .before .before .before .before .before .before .past-spaces .ensures .up, c .before .before .put .ensures .at-is)
 
 loop-again : tie.Need-loop-again Inv-loop μ-loop
-loop-again c = suffixing-turn (c .before .before .before .before .before .before .before .before .loop .inv) (c .before .before .before .before .before .before .before .token .ensures .token (λ e. omega arith)) (c .before .before .before .before .before .before .if1 .left) (c .before .before .before .before .before .if2 .left) (c .before .before .put .ensures) refl (c .before .before .put .kept .0)
+loop-again c = suffixing-turn (suffixing-spaces (c .before .before .before .before .before .before .before .before .before .loop .inv) (c .before .before .before .before .before .before .before .before .past-spaces .ensures)) (c .before .before .before .before .before .before .before .token .ensures .token (λ e. omega arith)) (c .before .before .before .before .before .before .if1 .left) (c .before .before .before .before .before .if2 .left) (c .before .before .put .ensures) refl (c .before .before .put .kept .0)
 
 pub suffixed-spec : {M : Type 1} → statement M
 suffixed-spec =
@@ -53,6 +57,7 @@ suffixed-spec =
     Inv-loop
     μ-loop
     loop-holds
+    past-spaces-requires
     token-requires
     same-length
     returns

@@ -1,28 +1,44 @@
--- `choice::kinds::kind` meets its contract: the table's rule is a test at each of its 256 entries, which antt computes.
+-- `choice::kinds::kind` meets its contract: a byte with an entry of its own has its kind by computing, and the others of a row by a test at each byte
+-- of the row, which antt computes.
 -- Assumes nothing.
-use mathlib.Core.List.{List, [], _∷_}
-use mathlib.Core.Bool.{Bool}
-use Prim.Native.Nat.{ℕ}
-use lib.Dec.{eqb, eqb→eq}
-use lib.ListN.{getD}
+use mathlib.Core.Path.{sym, ap}
+use mathlib.Core.List.{[], _∷_}
+use native.Mathlib.Omega.{arith}
 use borrow.Author.Needs.{needs}
 use Rattle.book.specs.Kind.{kindOf}
-use Rattle.choice.proofs.Table.{at}
+use Rattle.choice.proofs.Table.{in-row}
 use Rattle.choice.proofs.kinds.kind.Statement.{statement}
 use Rattle.choice.proofs.kinds.kind.Tie as tie
 
-table : List ℕ
-table = 0 ∷ 0 ∷ 0 ∷ 0 ∷ 0 ∷ 0 ∷ 0 ∷ 0 ∷ 0 ∷ 0 ∷ 15 ∷ 0 ∷ 0 ∷ 0 ∷ 0 ∷ 0 ∷ 0 ∷ 0 ∷ 0 ∷ 0 ∷ 0 ∷ 0 ∷ 0 ∷ 0 ∷ 0 ∷ 0 ∷ 0 ∷ 0 ∷ 0 ∷ 0 ∷ 0 ∷ 0 ∷ 14 ∷ 6 ∷ 0 ∷ 0 ∷ 0 ∷ 0 ∷ 10 ∷ 0 ∷ 5 ∷ 13 ∷ 7 ∷ 8 ∷ 0 ∷ 11 ∷ 3 ∷ 19 ∷ 0 ∷ 0 ∷ 0 ∷ 0 ∷ 0 ∷ 0 ∷ 0 ∷ 0 ∷ 0 ∷ 0 ∷ 16 ∷ 0 ∷ 0 ∷ 17 ∷ 18 ∷ 9 ∷ 4 ∷ 2 ∷ 2 ∷ 2 ∷ 2 ∷ 2 ∷ 2 ∷ 2 ∷ 2 ∷ 2 ∷ 2 ∷ 2 ∷ 2 ∷ 2 ∷ 2 ∷ 2 ∷ 2 ∷ 2 ∷ 2 ∷ 2 ∷ 2 ∷ 2 ∷ 2 ∷ 2 ∷ 2 ∷ 2 ∷ 2 ∷ 0 ∷ 0 ∷ 0 ∷ 0 ∷ 20 ∷ 0 ∷ 1 ∷ 1 ∷ 1 ∷ 1 ∷ 1 ∷ 1 ∷ 1 ∷ 1 ∷ 1 ∷ 1 ∷ 1 ∷ 1 ∷ 1 ∷ 1 ∷ 1 ∷ 1 ∷ 1 ∷ 1 ∷ 1 ∷ 1 ∷ 1 ∷ 1 ∷ 1 ∷ 1 ∷ 1 ∷ 1 ∷ 0 ∷ 12 ∷ 0 ∷ 0 ∷ 0 ∷ 0 ∷ 0 ∷ 0 ∷ 0 ∷ 0 ∷ 0 ∷ 0 ∷ 0 ∷ 0 ∷ 0 ∷ 0 ∷ 0 ∷ 0 ∷ 0 ∷ 0 ∷ 0 ∷ 0 ∷ 0 ∷ 0 ∷ 0 ∷ 0 ∷ 0 ∷ 0 ∷ 0 ∷ 0 ∷ 0 ∷ 0 ∷ 0 ∷ 0 ∷ 0 ∷ 0 ∷ 0 ∷ 0 ∷ 0 ∷ 0 ∷ 0 ∷ 0 ∷ 0 ∷ 0 ∷ 0 ∷ 0 ∷ 0 ∷ 0 ∷ 0 ∷ 0 ∷ 0 ∷ 0 ∷ 0 ∷ 0 ∷ 0 ∷ 0 ∷ 0 ∷ 0 ∷ 0 ∷ 0 ∷ 0 ∷ 0 ∷ 0 ∷ 0 ∷ 0 ∷ 0 ∷ 0 ∷ 0 ∷ 0 ∷ 0 ∷ 0 ∷ 0 ∷ 0 ∷ 0 ∷ 0 ∷ 0 ∷ 0 ∷ 0 ∷ 0 ∷ 0 ∷ 0 ∷ 0 ∷ 0 ∷ 0 ∷ 0 ∷ 0 ∷ 0 ∷ 0 ∷ 0 ∷ 0 ∷ 0 ∷ 0 ∷ 0 ∷ 0 ∷ 0 ∷ 0 ∷ 0 ∷ 0 ∷ 0 ∷ 0 ∷ 0 ∷ 0 ∷ 0 ∷ 0 ∷ 0 ∷ 0 ∷ 0 ∷ 0 ∷ 0 ∷ 0 ∷ 0 ∷ 0 ∷ 0 ∷ 0 ∷ 0 ∷ 0 ∷ 0 ∷ 0 ∷ 0 ∷ 0 ∷ 0 ∷ 0 ∷ 0 ∷ 0 ∷ 0 ∷ 0 ∷ 0 ∷ 0 ∷ 0 ∷ 0 ∷ 0 ∷ 0 ∷ 0 ∷ []
-
-right : ℕ → ℕ → Bool
-right k x = eqb x (kindOf k)
-
-array-read-result : tie.Need-array-read-result
-array-read-result c = search needs
-
-returns : tie.Need-returns
-unfolding table right
-returns c = eqb→eq (getD table (c .args .b) 0) (kindOf (c .args .b)) (at right table tt (c .args .b) (search needs))
-
 pub kind-spec : {M : Type 1} → statement M
-kind-spec = tie.close (tie.spec array-read-result returns)
+kind-spec =
+    tie.close
+    (tie.spec
+    (λ c. ap kindOf (sym (c .match .keys1)))
+    (λ c. in-row (10 ∷ []) 0 0 32 tt _ (omega arith) (omega arith) (c .match .rest))
+    (λ c. ap kindOf (sym (c .match2 .keys1)))
+    (λ c. ap kindOf (sym (c .match2 .keys2)))
+    (λ c. ap kindOf (sym (c .match2 .keys3)))
+    (λ c. in-row (38 ∷ 33 ∷ 32 ∷ []) 0 32 8 tt _ (omega arith) (omega arith) (c .match2 .rest))
+    (λ c. ap kindOf (sym (c .match3 .keys1)))
+    (λ c. ap kindOf (sym (c .match3 .keys2)))
+    (λ c. ap kindOf (sym (c .match3 .keys3)))
+    (λ c. ap kindOf (sym (c .match3 .keys4)))
+    (λ c. ap kindOf (sym (c .match3 .keys5)))
+    (λ c. ap kindOf (sym (c .match3 .keys6)))
+    (λ c. ap kindOf (sym (c .match3 .keys7)))
+    (λ c. in-row (47 ∷ 46 ∷ 45 ∷ 43 ∷ 42 ∷ 41 ∷ 40 ∷ []) 0 40 8 tt _ (omega arith) (omega arith) (c .match3 .rest))
+    (λ c. ap kindOf (sym (c .match4 .keys1)))
+    (λ c. ap kindOf (sym (c .match4 .keys2)))
+    (λ c. ap kindOf (sym (c .match4 .keys3)))
+    (λ c. ap kindOf (sym (c .match4 .keys4)))
+    (λ c. in-row (63 ∷ 62 ∷ 61 ∷ 58 ∷ []) 0 48 16 tt _ (omega arith) (omega arith) (c .match4 .rest))
+    (λ c. ap kindOf (sym (c .match5 .keys1)))
+    (λ c. ap kindOf (sym (c .match5 .keys2)))
+    (λ c. in-row (95 ∷ 64 ∷ []) 2 64 27 tt _ (omega arith) (omega arith) (c .before .before .match5 .rest))
+    (λ c. search needs)
+    (λ c. in-row (95 ∷ 64 ∷ []) 0 91 6 tt _ (omega arith) (omega arith) (c .before .before .match5 .rest))
+    (λ c. ap kindOf (sym (c .match6 .keys1)))
+    (λ c. in-row (124 ∷ []) 1 97 26 tt _ (omega arith) (omega arith) (c .before .before .match6 .rest))
+    (λ c. search needs)
+    (λ c. in-row (124 ∷ []) 0 123 133 tt _ (omega arith) (omega arith) (c .before .before .match6 .rest)))

@@ -61,7 +61,7 @@ returns-2 c =
     let loop = c .before .loop in
     let v = loop .inv in
     let e : loop .i ≡ c .before .before .if2 .end = omega arith in
-    (hash-is (c .before .before .before .before .before .args .row .now) (c .before .before .if2 .end) (loop .sum) (v .3) (rw e at (v .4)), omega arith)
+    (hash-is (c .before .before .before .before .before .args .row .now) (c .before .before .if2 .end) (loop .sum) (c .before .before .before .if1 .left) (v .3) (rw e at (v .4)), omega arith)
 
 pub hash-spec : {M : Type 1} → statement M
 hash-spec =

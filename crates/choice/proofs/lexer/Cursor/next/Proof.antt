@@ -1,62 +1,40 @@
--- `choice::lexer::Cursor::next` meets its contract: as the loop passes spaces, the tokens left stay the same. Assumes nothing.
-use mathlib.Core.Path.{_≡_, refl, sym, _∙_}
-use Prim.Native.Nat.{_≤_, _-_}
+-- `choice::lexer::Cursor::next` meets its contract: where the spaces end, a token stands, or the bytes end. Assumes nothing.
+use mathlib.Core.Path.{sym, _∙_}
 use native.Mathlib.Omega.{arith}
 use borrow.Author.Needs.{needs}
-use lib.ListN.{length, drop}
-use Rattle.book.specs.Text.{tokens}
-use Rattle.choice.proofs.TokenLaws.{tokens-space, tokens-other, tokens-end}
+use Rattle.choice.proofs.TokenLaws.{tokens-other, tokens-end}
 use Rattle.choice.proofs.lexer.Cursor.next.Statement.{statement}
 use Rattle.choice.proofs.lexer.Cursor.next.Tie as tie
 
-abbrev Inv-loop : tie.InvT-loop
-Inv-loop s at₀ at = (tokens (drop at s) ≡ tokens (drop at₀ s)) × (at₀ ≤ at)
+past-spaces-requires : tie.Need-past-spaces-requires
+past-spaces-requires c κs = search needs
 
-abbrev μ-loop : tie.MeasureT-loop
-μ-loop s at₀ at = length s - at
+shared-slice-read-b : tie.Need-shared-slice-read-b
+shared-slice-read-b c = search needs
 
-loop-holds : tie.Need-loop-holds Inv-loop μ-loop
-loop-holds c = (refl, omega arith)
-
-shared-slice-read-b : tie.Need-shared-slice-read-b Inv-loop μ-loop
-shared-slice-read-b c = omega arith
-
-kind-requires : tie.Need-kind-requires Inv-loop μ-loop
+kind-requires : tie.Need-kind-requires
 kind-requires c κs = search needs
 
-add-at : tie.Need-add-at Inv-loop μ-loop
-add-at c = omega arith
+add-t9 : tie.Need-add-t9
+add-t9 c = search needs
 
-returns : tie.Need-returns Inv-loop μ-loop
+returns : tie.Need-returns
 returns c =
+    let p = c .before .before .before .past-spaces .ensures in
+    let h = c .before .before .if1 .taken in
+    let k = c .kind .ensures in
     record {
       sees = record {
-        rest-is = sym (c .before .before .before .before .loop .inv .0) ∙ tokens-other _ _ _ (c .before .before .before .loop-test .taken) (c .before .kind .ensures) (c .if1 .taken);
-        kind-is = c .before .kind .ensures;
-        falls = omega arith;
+        rest-is = sym (p .same) ∙ tokens-other _ _ _ h k (λ e. p .token h (sym k ∙ e));
+        kind-is = k;
+        falls = omega (arith, p .up);
       };
     }
 
-loop-less : tie.Need-loop-less Inv-loop μ-loop
-loop-less c = omega arith
-
-loop-again : tie.Need-loop-again Inv-loop μ-loop
-loop-again c = (tokens-space _ _ _ (c .before .before .before .loop-test .taken) (c .before .kind .ensures) (c .if1 .left) ∙ c .before .before .before .before .loop .inv .0, omega arith)
-
-returns-2 : tie.Need-returns-2 Inv-loop μ-loop
-returns-2 c = record { sees = sym (c .before .loop .inv .0) ∙ tokens-end _ _ (c .loop-test .left) }
+returns-2 : tie.Need-returns-2
+returns-2 c = record { sees = sym (c .before .past-spaces .ensures .same) ∙ tokens-end _ _ (c .if1 .left) }
 
 pub next-spec : {M : Type 1} → statement M
 next-spec =
     tie.close
-    (tie.spec
-    Inv-loop
-    μ-loop
-    loop-holds
-    shared-slice-read-b
-    kind-requires
-    add-at
-    returns
-    loop-less
-    loop-again
-    returns-2)
+    (tie.spec past-spaces-requires shared-slice-read-b kind-requires add-t9 returns returns-2)

@@ -1,0 +1,59 @@
+-- `choice::lexer::past_spaces` meets its contract: as the loop passes spaces, the tokens left stay the same. Assumes nothing.
+use mathlib.Core.Path.{_≡_, refl, _∙_}
+use Prim.Native.Nat.{_≤_, _-_}
+use native.Mathlib.Omega.{arith}
+use borrow.Author.Needs.{needs}
+use lib.ListN.{length, drop}
+use Rattle.book.specs.Text.{tokens}
+use Rattle.choice.proofs.TokenLaws.{tokens-space}
+use Rattle.choice.proofs.lexer.past_spaces.Statement.{statement}
+use Rattle.choice.proofs.lexer.past_spaces.Tie as tie
+
+abbrev Inv-loop : tie.InvT-loop
+Inv-loop s at i₀ i = (tokens (drop i s) ≡ tokens (drop at s)) × (at ≤ i)
+
+abbrev μ-loop : tie.MeasureT-loop
+μ-loop s at i₀ i = length s - i
+
+loop-holds : tie.Need-loop-holds Inv-loop μ-loop
+loop-holds c = (refl, omega arith)
+
+shared-slice-read-kind : tie.Need-shared-slice-read-kind Inv-loop μ-loop
+shared-slice-read-kind c = omega arith
+
+kind-requires : tie.Need-kind-requires Inv-loop μ-loop
+kind-requires c κs = search needs
+
+returns : tie.Need-returns Inv-loop μ-loop
+returns c =
+    let v = c .before .before .before .before .loop .inv in
+    record { same = v .0; up = v .1; token = λ h e. c .if1 .taken (c .before .kind .ensures ∙ e) }
+
+add-i : tie.Need-add-i Inv-loop μ-loop
+add-i c = omega arith
+
+loop-less : tie.Need-loop-less Inv-loop μ-loop
+loop-less c = omega arith
+
+loop-again : tie.Need-loop-again Inv-loop μ-loop
+loop-again c = (tokens-space _ _ _ (c .before .before .before .loop-test .taken) (c .before .kind .ensures) (c .if1 .left) ∙ c .before .before .before .before .loop .inv .0, omega arith)
+
+returns-2 : tie.Need-returns-2 Inv-loop μ-loop
+returns-2 c =
+    let v = c .before .loop .inv in
+    record { same = v .0; up = v .1; token = λ h e. omega arith }
+
+pub past-spaces-spec : {M : Type 1} → statement M
+past-spaces-spec =
+    tie.close
+    (tie.spec
+    Inv-loop
+    μ-loop
+    loop-holds
+    shared-slice-read-kind
+    kind-requires
+    returns
+    add-i
+    loop-less
+    loop-again
+    returns-2)
