@@ -1,0 +1,94 @@
+// What the parts of the benchmark share: texts, the two compilers behind one face, timing.
+#ifndef BENCH_H
+#define BENCH_H
+
+#include <stddef.h>
+#include <stdint.h>
+
+#include "../plain/plain.h"
+
+Compiled second_compile(const uint8_t *text, size_t length, uint8_t *card, size_t room);
+void second_load(const uint8_t *card, size_t length, uint64_t out[3]);
+void second_judge(const uint8_t *card, size_t length, const uint8_t *plan, size_t letters, uint64_t out[3]);
+
+enum { CARD = 3278 };
+
+// A book of the set: from bench/books, or made here.
+typedef struct {
+    char name[64];
+    size_t length;
+    uint8_t text[MOST_TEXT + 1];
+} Text;
+
+typedef struct {
+    int count;
+    Text *text;
+} Texts;
+
+Texts read_texts(const char *folder); // the books of a folder, by name
+Texts large_texts(void);              // those made here
+Texts find_text(const char *folder, const char *name);
+
+Compiled product_compile(const Text *text, uint8_t *card);
+Compiled twin_compile(const Text *text, uint8_t *card);   // plain C
+Compiled second_twin(const Text *text, uint8_t *card);    // plain C by another compiler
+void spoil_buffers(void); // puts garbage into the product's work buffers
+
+// Things to time, one after the other in each round, so that all meet the same machine.
+typedef void (*Action)(void *);
+
+#ifdef WITH_SECOND
+#define IF_SECOND(act) act
+#else
+#define IF_SECOND(act) 0
+#endif
+
+typedef struct {
+    double median, best;
+} Time; // nanoseconds for one run
+
+enum { MOST_ACTIONS = 3 };
+
+typedef struct {
+    Time time[MOST_ACTIONS];
+    Time first, second; // the product, and the quicker of the others
+    int samples;
+    long runs; // in each sample
+} Times;
+
+Times time_all(const Action *act, int count, void *with, double seconds, int most);
+Times time_both(Action product, Action twin, Action second, void *with, double seconds, int most);
+double now(void);
+
+// A card, a plan, and the answer's numbers.
+typedef struct {
+    const char *name;
+    size_t length;
+    uint8_t card[CARD];
+    const uint8_t *plan;
+    size_t letters;
+    uint64_t out[3];
+} Judging;
+
+Times time_load(Judging *j, double seconds, int most);
+Times time_judge(Judging *j, double seconds, int most);
+
+int same_cards(const Texts *texts); // how many books differ; prints each
+void compile_times(const Texts *texts, double seconds);
+int board_both(const char *folder, double seconds, int *compared); // how many answers differ, of so many; seconds 0 only compares
+
+// One stage: its sets, and nanoseconds by each.
+typedef struct {
+    int sets;
+    double product, twin;
+    int samples;
+    long runs;
+} Stage;
+
+Stage time_stage(int m, const char *definitions, const char *stage, double seconds);
+void counters(char *out, size_t room, int i, int j); // A and B whose pairs hold no plan
+void stage_times(double seconds);
+int growth(const char *folder, double seconds, const char *svg);
+void memory(const char *folder);
+
+#endif

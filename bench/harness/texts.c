@@ -1,0 +1,106 @@
+// The books: those of the folder, and large texts made here, each as long as a text may be.
+#define _GNU_SOURCE
+#include "bench.h"
+#include <dirent.h>
+#include <stdio.h>
+#include <stdlib.h>
+#include <string.h>
+
+static int by_name(const void *a, const void *b) { return strcmp(((const Text *)a)->name, ((const Text *)b)->name); }
+
+Texts read_texts(const char *folder) {
+    Texts out = {0, calloc(256, sizeof(Text))};
+    DIR *d = opendir(folder);
+    for (struct dirent *e; d && (e = readdir(d)) && out.count < 256;) {
+        Text *t = &out.text[out.count];
+        char path[4096], *dot = strstr(e->d_name, ".book");
+        if (!dot || dot == e->d_name) continue;
+        snprintf(path, sizeof path, "%s/%s", folder, e->d_name);
+        snprintf(t->name, sizeof t->name, "%.*s", (int)(dot - e->d_name), e->d_name);
+        FILE *f = fopen(path, "rb");
+        if (!f) continue;
+        t->length = fread(t->text, 1, sizeof t->text, f);
+        fclose(f);
+        out.count++;
+    }
+    if (d) closedir(d);
+    qsort(out.text, (size_t)out.count, sizeof *out.text, by_name);
+    return out;
+}
+
+static Text *begin(Texts *out, const char *name) {
+    Text *t = &out->text[out->count++];
+    snprintf(t->name, sizeof t->name, "%s", name);
+    return t;
+}
+
+static void put(Text *t, const char *s) {
+    size_t n = strlen(s);
+    memcpy(t->text + t->length, s, n);
+    t->length += n;
+}
+
+// The string over and over while it and the tail fit, then the tail.
+static void fill(Text *t, const char *s, const char *tail) {
+    while (t->length + strlen(s) + strlen(tail) <= MOST_TEXT) put(t, s);
+    put(t, tail);
+}
+
+#define ALPHABET "abcdefghijklmnopqrstuvwxyz"
+
+// Some 580 rules: each forbids a pair of letters but at the start of the day.
+static void short_rules(Text *t) {
+    char rule[64];
+    put(t, ":" ALPHABET "\n");
+    for (int i = 0;; i++) {
+        int a = i % 26, b = (i / 26 + i) % 26, c = (7 * i + 3) % 26, d = (c + 1) % 26;
+        snprintf(rule, sizeof rule, ">%c%c / @ _ .* / @ _ (%c|%c|%c)*\n", 'a' + a, 'a' + b, 'a' + b, 'a' + c, 'a' + d);
+        if (t->length + strlen(rule) > MOST_TEXT) break;
+        put(t, rule);
+    }
+}
+
+#define DOTS13 "............."
+#define DOTS17 "................."
+
+Texts large_texts(void) {
+    Texts out = {0, calloc(16, sizeof(Text))};
+    Text *t;
+    short_rules(begin(&out, "16k-short-rules"));
+    // A* makes 504 sets, of 3 columns or of 27.
+    t = begin(&out, "16k-stars-2");
+    put(t, ":ab\n=A ((.a|ba)(a.)*bb.(a|b)|((b.b|b.a)|(.|.)))..\n>A");
+    fill(t, "|A*", "\n");
+    t = begin(&out, "16k-stars-26");
+    put(t, ":" ALPHABET "\n=L a|b|c|d|e|f|g|h|i|j|k|l|m\n=N n|o|p|q|r|s|t|u|v|w|x|y|z\n");
+    put(t, "=A ((.L|NL)(L.)*NN.(L|N)|((N.N|N.L)|(.|.)))..\n>A");
+    fill(t, "|A*", "\n");
+    // A&B makes 251 pairs, or 252, and holds no plan.
+    t = begin(&out, "16k-meets-2");
+    put(t, ":ab\n=A (" DOTS13 ")*a\n=B (" DOTS17 ")*b\n>a");
+    fill(t, "|A&B", "\n");
+    t = begin(&out, "16k-meets-26");
+    put(t, ":" ALPHABET "\n=A (" DOTS13 ")*a\n=B (" DOTS17 ")*b\n>a");
+    fill(t, "|A&B", "\n");
+    t = begin(&out, "16k-bangs");
+    put(t, ":a\n>");
+    fill(t, "!", "a\n");
+    t = begin(&out, "16k-brackets");
+    put(t, ":ab\n>b");
+    fill(t, "|((((a|b))))", "\n");
+    t = begin(&out, "16k-pluses");
+    put(t, ":ab\n>a");
+    fill(t, "+", "\n");
+    t = begin(&out, "16k-spaces");
+    put(t, ":ab\n>a");
+    fill(t, " ", "\n");
+    return out;
+}
+
+Texts find_text(const char *folder, const char *name) {
+    Texts sets[2] = {read_texts(folder), large_texts()};
+    for (int s = 0; s < 2; s++)
+        for (int i = 0; i < sets[s].count; i++)
+            if (strcmp(sets[s].text[i].name, name) == 0) return (Texts){1, &sets[s].text[i]};
+    return (Texts){0, 0};
+}

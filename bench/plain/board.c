@@ -1,0 +1,170 @@
+// The board in plain C: a card's tests, 21 to 26 in order, and the walk of a plan. No work buffer is lent.
+#include "plain.h"
+#include <string.h>
+
+typedef struct {
+    int m, n;
+    const uint8_t *letters, *marks, *moves;
+} Card;
+
+static size_t get16(const uint8_t *at) { return at[0] + 256u * at[1]; }
+
+static Card view(const uint8_t *card) {
+    Card c = {(int)get16(card + 2), (int)get16(card + 6), card + 12, 0, 0};
+    c.marks = c.letters + c.m;
+    c.moves = c.marks + c.n;
+    return c;
+}
+
+static int contents(const uint8_t *card, size_t length) {
+    if (length < 12) return 0;
+    size_t m = get16(card + 2), n = get16(card + 6);
+    return m >= 1 && m <= 26 && n >= 1 && n <= 120 && get16(card) == 12 && get16(card + 4) == 12 + m && get16(card + 8) == 12 + m + n
+        && get16(card + 10) == n * m && length == 12 + m + n + n * m;
+}
+
+static int rising(const Card *c) {
+    uint8_t last = 'a' - 1;
+    for (int i = 0; i < c->m; i++) {
+        if (c->letters[i] <= last || c->letters[i] > 'z') return 0;
+        last = c->letters[i];
+    }
+    return 1;
+}
+
+// Without an exit in the loop, so that the compiler may take many moves at once.
+static int inside(const Card *c) {
+    uint8_t most = 0;
+    for (int i = 0; i < c->n * c->m; i++)
+        if (c->moves[i] > most) most = c->moves[i];
+    return most < c->n;
+}
+
+static int numbered(const Card *c) {
+    int seen = 1;
+    const uint8_t *move = c->moves;
+    for (int p = 0; p < c->n; p++) {
+        if (p >= seen) return 0;
+        for (int i = 0; i < c->m; i++, move++) {
+            if (*move > seen) return 0;
+            seen += *move == seen;
+        }
+    }
+    return seen == c->n;
+}
+
+static int marked(const Card *c) {
+    uint8_t live[MOST_STATES];
+    for (int p = 0; p < c->n; p++) live[p] = c->marks[p] == 1;
+    for (int changed = 1; changed;) {
+        changed = 0;
+        for (int p = c->n; p-- > 0;) {
+            if (live[p]) continue;
+            const uint8_t *row = &c->moves[p * c->m];
+            for (int i = 0; i < c->m; i++)
+                if (live[row[i]]) {
+                    live[p] = 1;
+                    changed = 1;
+                    break;
+                }
+        }
+    }
+    for (int p = 0; p < c->n; p++)
+        if (c->marks[p] != 1 && c->marks[p] != (live[p] ? 0 : 2)) return 0;
+    return 1;
+}
+
+// Splits classes by a key of each state. A class goes by its least state; the classes that one falls into are linked, least states first.
+static int split(int n, const uint8_t *class, const uint8_t *key, uint8_t *fresh) {
+    uint8_t link[MOST_STATES];
+    int count = 0;
+    memset(link, 0, (size_t)n);
+    for (int p = 0; p < n; p++) {
+        int r = class[p];
+        while (key[r] != key[p] && link[r]) r = link[r];
+        if (key[r] == key[p] && r != p) {
+            fresh[p] = (uint8_t)r;
+            continue;
+        }
+        if (r != p) link[r] = (uint8_t)p;
+        fresh[p] = (uint8_t)p;
+        count++;
+    }
+    return count;
+}
+
+// Partition refinement, one column at a time, each as long as it splits, until every state is alone or no column splits.
+static int reduced(const Card *c) {
+    uint8_t one[MOST_STATES] = {0}, two[MOST_STATES], key[MOST_STATES], *class = one, *fresh = two;
+    for (int p = 0; p < c->n; p++) key[p] = c->marks[p] == 1;
+    int count = split(c->n, class, key, fresh);
+    class = two, fresh = one;
+    for (int i = 0, idle = 0; count < c->n && idle < c->m;) {
+        for (int p = 0; p < c->n; p++) key[p] = class[c->moves[p * c->m + i]];
+        int parts = split(c->n, class, key, fresh);
+        uint8_t *swap = class;
+        class = fresh, fresh = swap;
+        if (parts == count) {
+            idle++;
+            i = i + 1 == c->m ? 0 : i + 1;
+        } else {
+            idle = 0;
+            count = parts;
+        }
+    }
+    return count == c->n;
+}
+
+static int tested(const uint8_t *card, size_t length) {
+    if (!contents(card, length)) return 21;
+    Card c = view(card);
+    return !rising(&c) ? 22 : !inside(&c) ? 23 : !numbered(&c) ? 24 : !marked(&c) ? 25 : !reduced(&c) ? 26 : 0;
+}
+
+static void answer(uint64_t out[3], uint64_t a, uint64_t b, uint64_t c) {
+    out[0] = a;
+    out[1] = b;
+    out[2] = c;
+}
+
+void plain_load(const uint8_t *card, size_t length, uint64_t out[3]) {
+    int number = tested(card, length);
+    if (number) answer(out, (uint64_t)number, 0, 0);
+    else answer(out, 0, get16(card + 2), get16(card + 6));
+}
+
+void plain_walk(const uint8_t *card, const uint8_t *plan, size_t letters, uint64_t out[3]) {
+    Card c = view(card);
+    uint8_t column[256];
+    memset(column, c.m, sizeof column);
+    for (int i = c.m; i-- > 0;) column[c.letters[i]] = (uint8_t)i;
+    size_t s = 0, k = 0, dead = 0;
+    const size_t m = (size_t)c.m;
+    int hopeless = c.marks[0] == 2;
+    while (k < letters && !hopeless) {
+        size_t i = column[plan[k]];
+        if (i >= m) {
+            answer(out, 27, 0, k);
+            return;
+        }
+        s = c.moves[s * m + i];
+        k++;
+        if (c.marks[s] == 2) {
+            hopeless = 1;
+            dead = k;
+        }
+    }
+    for (; k < letters; k++)
+        if (column[plan[k]] >= m) {
+            answer(out, 27, 0, k);
+            return;
+        }
+    if (hopeless) answer(out, 0, 2, dead);
+    else answer(out, 0, c.marks[s] == 1, 0);
+}
+
+void plain_judge(const uint8_t *card, size_t length, const uint8_t *plan, size_t letters, uint64_t out[3]) {
+    int number = tested(card, length);
+    if (number) answer(out, (uint64_t)number, 0, 0);
+    else plain_walk(card, plan, letters, out);
+}
