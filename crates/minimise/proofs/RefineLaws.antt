@@ -7,7 +7,7 @@ use Prim.Native.Nat.{ℕ, zero, suc, _+_, _-_, _≤_, _<_, zero-le}
 use native.Mathlib.Nat.{le-refl, not-suc-le-zero}
 use native.Mathlib.Numerals.{add-one}
 use native.Mathlib.Omega.{arith}
-use lib.ListN.{length, getD, take, set, replicate, length-replicate, getD-replicate}
+use lib.ListN.{length, getD, take, set}
 use lib.Seq.{getD-take, getD-set-same, getD-set-other, length-take-le, ext-getD}
 use lib.Dec.{eqb}
 use Rattle.automata.specs.Booleans.{bool-cases}
@@ -24,7 +24,7 @@ use Rattle.minimise.proofs.RoundLaws.{together-sym, together-trans}
 -- ---- a whole round
 
 module _ {base n k : ℕ} {t w : List ℕ} (B : Begun base n k t w) where
-  pub round-starts : Partial k n (tableMachine base n k t) (take n w) w (replicate 256 0) 0
+  pub round-starts : Partial k n (tableMachine base n k t) (take n w) w 0
   round-starts = record {
     kept = refl;
     led = B .led;
@@ -34,27 +34,22 @@ module _ {base n k : ℕ} {t w : List ℕ} (B : Begun base n k t w) where
       sound = λ p h. absurd (not-suc-le-zero h);
       whole = λ p q h. absurd (not-suc-le-zero h);
     };
-    chained = record {
-      head = λ x b. let z = getD-replicate {A = ℕ} 256 x 0 0 b in
-          record { within = omega arith; leads = λ i e. absurd (omega arith); is = λ i e. absurd (omega arith); none = λ i a h. absurd (not-suc-le-zero h) };
-      inner = λ p h. absurd (not-suc-le-zero h);
-      long = length-replicate {A = ℕ} 256 0;
-    };
+    linked = record { head = λ p h. absurd (not-suc-le-zero h); inner = λ p h. absurd (not-suc-le-zero h) };
   }
 
-  pub round-under : (p : ℕ) (v heads : List ℕ) → p < n → length v ≡ length w → Partial k n (tableMachine base n k t) (take n w) v heads p → Under base n k p t v heads
-  round-under p v heads h e P =
+  pub round-under : (p : ℕ) (v : List ℕ) → p < n → length v ≡ length w → Partial k n (tableMachine base n k t) (take n w) v p → Under base n k p t v
+  round-under p v h e P =
       record { closed = B .sized .closed; room = rw e (B .sized .room); few = B .sized .few; inside = h; told = rw (P .kept) (B .told); partial = rw (P .kept) P }
 
-  pub round-turns : (p r : ℕ) (v v′ heads heads′ : List ℕ) → Partial k n (tableMachine base n k t) (take n w) v heads p → Placing base n k p t v v′ heads′ r
-      → Partial k n (tableMachine base n k t) (take n w) v′ heads′ (p + 1)
-  round-turns p r v v′ heads heads′ P Q = rw add-one (rw (P .kept) at (Q .partial))
+  pub round-turns : (p r : ℕ) (v v′ : List ℕ) → Partial k n (tableMachine base n k t) (take n w) v p → Placing base n k p t v v′ r
+      → Partial k n (tableMachine base n k t) (take n w) v′ (p + 1)
+  round-turns p r v v′ P Q = rw add-one (rw (P .kept) at (Q .partial))
 
-  pub round-ends : (p r : ℕ) (v heads : List ℕ) → p ≡ n → Partial k n (tableMachine base n k t) (take n w) v heads p → r ≡ leaders (next n v) p → Rounded base n k t w v r
-  round-ends p r v heads e P c = record { kept = P .kept; placed = rw e at (P .placed); count = c ∙ ap (leaders (next n v)) e }
+  pub round-ends : (p r : ℕ) (v : List ℕ) → p ≡ n → Partial k n (tableMachine base n k t) (take n w) v p → r ≡ leaders (next n v) p → Rounded base n k t w v r
+  round-ends p r v e P c = record { kept = P .kept; placed = rw e at (P .placed); count = c ∙ ap (leaders (next n v)) e }
 
-pub count-turns : (base n k p r x y : ℕ) (t v v′ heads : List ℕ) → Placing base n k p t v v′ heads r → x ≡ leaders (next n v) p → y ≡ x + r → y ≡ leaders (next n v′) (p + 1)
-count-turns base n k p r x y t v v′ heads Q e i = rw add-one (omega (arith, Q .count))
+pub count-turns : (base n k p r x y : ℕ) (t v v′ : List ℕ) → Placing base n k p t v v′ r → x ≡ leaders (next n v) p → y ≡ x + r → y ≡ leaders (next n v′) (p + 1)
+count-turns base n k p r x y t v v′ Q e i = rw add-one (omega (arith, Q .count))
 
 -- ---- how many lead
 

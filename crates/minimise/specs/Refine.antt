@@ -4,9 +4,9 @@ use mathlib.Core.Path.{_≡_}
 use mathlib.Core.Bool.{Bool, true, false, cond}
 use mathlib.Core.Logic.{_≢_}
 use mathlib.Core.List.{List}
-use Prim.Native.Nat.{ℕ, zero, suc, _+_, _*_, _%_, _≤_, _<_}
+use Prim.Native.Nat.{ℕ, zero, suc, _+_, _≤_, _<_}
 use lib.ListN.{length, getD, take}
-use lib.Dec.{eqb, ltb}
+use lib.Dec.{eqb}
 use Rattle.automata.specs.Machine.{Machine, automaton}
 use Rattle.automata.specs.Refinement.{SameSignature}
 use Rattle.automata.specs.Partition.{bit}
@@ -58,33 +58,24 @@ pub record Placed (k : ℕ) (M : Machine) (f g : ℕ → ℕ) (m : ℕ) : Type 0
   pub sound : (p : ℕ) → p < m → Together k M f (g p) p
   pub whole : (p q : ℕ) → p < m → q < m → Together k M f p q → g p ≡ g q
 
--- A number that states share which a round keeps together: from the class, and from where the first three columns lead.
-unfoldable pub mixed : Machine → (ℕ → ℕ) → ℕ → ℕ → ℕ
-mixed M f p zero = f p % 256
-mixed M f p (suc c) = (mixed M f p c * 37 + f (automaton M .step p c)) % 256
+-- s is the latest leader below b that was in class c
+pub record Latest (f g : ℕ → ℕ) (c s b : ℕ) : Type 0 where
+  pub below : s < b
+  pub class : f s ≡ c
+  pub leads : g s ≡ s
+  pub none : (q : ℕ) → s < q → q < b → g q ≡ q → f q ≡ c → ⊥
 
-unfoldable pub signOf : ℕ → Machine → (ℕ → ℕ) → ℕ → ℕ
-signOf k M f p = mixed M f p (cond (ltb 3 k) 3 k)
-
--- y is 1 more than the last leader below b with the sign x, or 0 where there is none.
-pub record Last (s g : ℕ → ℕ) (b x y : ℕ) : Type 0 where
-  pub within : y ≤ b
-  pub leads : (i : ℕ) → i + 1 ≡ y → g i ≡ i
-  pub is : (i : ℕ) → i + 1 ≡ y → s i ≡ x
-  pub none : (i : ℕ) → y ≤ i → i < b → g i ≡ i → s i ≡ x → ⊥
-
--- Leaders with the same sign are chained, the last first: a head for each sign, a link for each leader.
-pub record Chained (s g l : ℕ → ℕ) (heads : List ℕ) (m : ℕ) : Type 0 where
-  pub head : (x : ℕ) → x < 256 → Last s g m x (getD heads x 0)
-  pub inner : (p : ℕ) → p < m → g p ≡ p → Last s g p (s p) (l p)
-  pub long : length heads ≡ 256
+-- The leader of an old class is linked to the latest leader in it, each later one to the one before it.
+pub record Linked (f g l : ℕ → ℕ) (m : ℕ) : Type 0 where
+  pub head : (p : ℕ) → p < m → f p ≡ p → Latest f g p (l p) m
+  pub inner : (p : ℕ) → p < m → g p ≡ p → f p ≢ p → Latest f g (f p) (l p) p
 
 -- the arrays of w when the states below m are placed
-pub record Partial (k n : ℕ) (M : Machine) (cls w heads : List ℕ) (m : ℕ) : Type 0 where
+pub record Partial (k n : ℕ) (M : Machine) (cls w : List ℕ) (m : ℕ) : Type 0 where
   pub kept : take n w ≡ cls
   pub led : Led n (classOf cls)
   pub placed : Placed k M (classOf cls) (next n w) m
-  pub chained : Chained (signOf k M (classOf cls)) (next n w) (link n w) heads m
+  pub linked : Linked (classOf cls) (next n w) (link n w) m
 
 -- ---- the classes to begin with
 
@@ -121,21 +112,13 @@ pub record Begun (base n k : ℕ) (t w : List ℕ) : Type 0 where
   pub told : Told n (tableMachine base n k t) (classOf (take n w))
 
 -- These, and a state that is not yet placed, but all before it are.
-pub record Under (base n k p : ℕ) (t w heads : List ℕ) : Type 0 where
+pub record Under (base n k p : ℕ) (t w : List ℕ) : Type 0 where
   pub closed : ClosedTable base n k t
   pub room : n + (n + n) ≤ length w
   pub few : n < 65536
   pub inside : p < n
   pub told : Told n (tableMachine base n k t) (classOf (take n w))
-  pub partial : Partial k n (tableMachine base n k t) (take n w) w heads p
-
--- what the sign of a state asks
-pub record Signing (base n k p : ℕ) (t w : List ℕ) : Type 0 where
-  pub closed : ClosedTable base n k t
-  pub room : n ≤ length w
-  pub few : n < 65536
-  pub inside : p < n
-  pub led : Led n (classOf (take n w))
+  pub partial : Partial k n (tableMachine base n k t) (take n w) w p
 
 -- r is the leader that p goes with: an earlier one, or p itself where the round keeps no earlier leader together with p
 pub record Leads (k : ℕ) (M : Machine) (f g : ℕ → ℕ) (p r : ℕ) : Type 0 where
@@ -145,8 +128,8 @@ pub record Leads (k : ℕ) (M : Machine) (f g : ℕ → ℕ) (p r : ℕ) : Type 
   pub none : r ≡ p → (s : ℕ) → s < p → g s ≡ s → Together k M f s p → ⊥
 
 -- State p is placed, and r counts it where it leads.
-pub record Placing (base n k p : ℕ) (t w w′ heads : List ℕ) (r : ℕ) : Type 0 where
-  pub partial : Partial k n (tableMachine base n k t) (take n w) w′ heads (suc p)
+pub record Placing (base n k p : ℕ) (t w w′ : List ℕ) (r : ℕ) : Type 0 where
+  pub partial : Partial k n (tableMachine base n k t) (take n w) w′ (suc p)
   pub count : leaders (next n w′) (suc p) ≡ r + leaders (next n w) p
   pub one : r ≤ 1
 

@@ -1,6 +1,6 @@
 // Partition refinement over a table (Moore's algorithm): each state's class, rounds that part the classes, until a round parts none. A class goes by its first
-// state, its leader. In a round a state is compared only with the leaders so far that share its sign, which are chained: a head for each sign, a link for each
-// leader, each plus 1. The work list holds three arrays of n entries: the classes, the classes after the round, the links.
+// state, its leader. In a round a state is compared only with the leaders that its old class has so far, which are linked. The work list holds three arrays of
+// n entries: the classes, the classes after the round, the links.
 use crate::entries::at;
 use crate::entries::flag;
 use crate::entries::put;
@@ -8,22 +8,21 @@ use crate::entries::target;
 ghost use mathlib.Core.Path.{_≡_};
 ghost use Prim.Native.Nat.{ℕ, _+_, _≤_, _<_};
 ghost use lib.ListN.{length, getD, take};
+ghost use Rattle.automata.specs.Machine.{automaton};
+ghost use Rattle.automata.specs.Refinement.{SameSignature};
 ghost use Rattle.automata.specs.Partition.{classes};
 ghost use Rattle.automata.specs.Table.{tableMachine, ClosedTable};
-ghost use Rattle.minimise.specs.Refine.{Says, classOf, next, Told, Together, signOf, Signing, FirstOther, sideOf, Parted, Sized, Begun, Under, Leads, Placing, Rounded};
+ghost use Rattle.minimise.specs.Refine.{Says, classOf, next, FirstOther, sideOf, Parted, Sized, Begun, Under, Leads, Placing, Rounded};
 
-// Whether a round keeps states p and q together: they are in one class, so that both accept or neither, and each column leads to one class.
+// Whether a round sees the same of states p and q, of which both accept or neither: each column leads to one class.
 fn alike(table: &[u16], base: usize, n: usize, k: usize, work: &[u16], p: usize, q: usize) -> bool
     requires { ⌜ ClosedTable base n k (now table) ⌝ }
     requires { ⌜ n ≤ length (now work) ⌝ }
     requires { ⌜ p < n ⌝ }
     requires { ⌜ q < n ⌝ }
-    requires { ⌜ Told n (tableMachine base n k (now table)) (classOf (take n (now work))) ⌝ }
-    ensures { λ r. ⌜ Says r (Together k (tableMachine base n k (now (table .entry))) (classOf (take n (now (work .entry)))) p q) ⌝ }
+    requires { ⌜ automaton (tableMachine base n k (now table)) .accepting p ≡ automaton (tableMachine base n k (now table)) .accepting q ⌝ }
+    ensures { λ r. ⌜ Says r (SameSignature k (tableMachine base n k (now (table .entry))) (classOf (take n (now (work .entry)))) p q) ⌝ }
 {
-    if at(work, p) != at(work, q) {
-        return false;
-    }
     let mut c = 0;
     while c < k {
         let s = target(table, base, n, k, p, c);
@@ -36,72 +35,44 @@ fn alike(table: &[u16], base: usize, n: usize, k: usize, work: &[u16], p: usize,
     true
 }
 
-// A number that states share which a round keeps together: from the class, and from where the first three columns lead.
-fn sign(table: &[u16], base: usize, n: usize, k: usize, work: &[u16], p: usize) -> usize
-    requires { ⌜ Signing base n k p (now table) (now work) ⌝ }
-    ensures { λ r. ⌜ (r ≡ signOf k (tableMachine base n k (now (table .entry))) (classOf (take n (now (work .entry)))) p) × (r < 256) ⌝ }
-{
-    let mut h = at(work, p) % 256;
-    let mut c = 0;
-    while c < k {
-        if c == 3 {
-            return h;
-        }
-        let t = target(table, base, n, k, p, c);
-        h = (h * 37 + at(work, t)) % 256;
-        c += 1;
-    }
-    h
-}
-
-// The leader that p goes with, of those that have its sign h, the latest first. It is p where there is none.
-fn leader(
-    table: &[u16],
-    base: usize,
-    n: usize,
-    k: usize,
-    work: &[u16],
-    heads: &[u16; 256],
-    p: usize,
-    h: usize,
-) -> usize
-    requires { ⌜ Under base n k p (now table) (now work) (now heads) ⌝ }
-    requires { ⌜ (h ≡ signOf k (tableMachine base n k (now table)) (classOf (take n (now work))) p) × (h < 256) ⌝ }
+// The leader that p goes with, of those that its class has so far: the latest of them first. It is p where there is none.
+fn leader(table: &[u16], base: usize, n: usize, k: usize, work: &[u16], p: usize) -> usize
+    requires { ⌜ Under base n k p (now table) (now work) ⌝ }
+    requires { ⌜ (getD (now work) p 0 ≡ p → ⊥) ⌝ }
     ensures { λ r. ⌜ Leads k (tableMachine base n k (now (table .entry))) (classOf (take n (now (work .entry)))) (next n (now (work .entry))) p r ⌝ }
 {
-    let mut from = heads[h] as usize;
-    while 0 < from {
-        let r = from - 1;
+    let c = at(work, p);
+    let mut r = at(work, n + (n + c));
+    loop {
         if alike(table, base, n, k, work, r, p) {
             return r;
         }
-        from = at(work, n + (n + r));
+        if r == c {
+            return p;
+        }
+        r = at(work, n + (n + r));
     }
-    p
 }
 
 // State p is placed; 1 where it leads a class of its own.
-fn place(
-    table: &[u16],
-    base: usize,
-    n: usize,
-    k: usize,
-    work: &mut [u16],
-    heads: &mut [u16; 256],
-    p: usize,
-) -> usize
-    requires { ⌜ Under base n k p (now table) (now work) (now heads) ⌝ }
-    ensures { λ r. ⌜ Placing base n k p (now (table .entry)) (now (work .entry)) (now (work .exit)) (now (heads .exit)) r ⌝ }
+fn place(table: &[u16], base: usize, n: usize, k: usize, work: &mut [u16], p: usize) -> usize
+    requires { ⌜ Under base n k p (now table) (now work) ⌝ }
+    ensures { λ r. ⌜ Placing base n k p (now (table .entry)) (now (work .entry)) (now (work .exit)) r ⌝ }
 {
-    let h = sign(table, base, n, k, &work[..], p);
-    let r = leader(table, base, n, k, &work[..], heads, p, h);
+    let c = at(&work[..], p);
+    if c == p {
+        put(work, n + p, p);
+        put(work, n + (n + p), p);
+        return 1;
+    }
+    let r = leader(table, base, n, k, &work[..], p);
     put(work, n + p, r);
     if r < p {
         return 0;
     }
-    let before = heads[h] as usize;
-    put(work, n + (n + p), before);
-    heads[h] = (p + 1) as u16;
+    let s = at(&work[..], n + (n + c));
+    put(work, n + (n + p), s);
+    put(work, n + (n + c), p);
     1
 }
 
@@ -110,11 +81,10 @@ fn round(table: &[u16], base: usize, n: usize, k: usize, work: &mut [u16]) -> us
     requires { ⌜ Begun base n k (now table) (now work) ⌝ }
     ensures { λ r. ⌜ Rounded base n k (now (table .entry)) (now (work .entry)) (now (work .exit)) r ⌝ }
 {
-    let mut heads = [0; 256];
     let mut count = 0;
     let mut p = 0;
     while p < n {
-        count += place(table, base, n, k, work, &mut heads, p);
+        count += place(table, base, n, k, work, p);
         p += 1;
     }
     count

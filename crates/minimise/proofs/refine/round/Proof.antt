@@ -9,48 +9,33 @@ use Rattle.minimise.specs.Refine.{next, leaders, Partial}
 use Rattle.minimise.proofs.RefineLaws.{round-starts, round-under, round-turns, round-ends, count-turns, leaders-le}
 use Rattle.minimise.proofs.refine.round.Statement.{statement}
 use Rattle.minimise.proofs.refine.round.Tie as tie
-use Rattle.minimise.proofs.refine.round.Reads as reads
-use Rattle.minimise.proofs.refine.round.Lts as lts
-use Rattle.minimise.proofs.refine.place.Reads as place-reads
 
 abbrev Inv-loop : tie.InvT-loop
-Inv-loop table base n k work₀ heads₀ count₀ p₀ work heads count p = (p ≤ n) × Partial k n (tableMachine base n k table) (take n work₀) work heads p × (count ≡ leaders (next n work) p) × (length work ≡ length work₀)
+Inv-loop table base n k work₀ count₀ p₀ work count p = (p ≤ n) × Partial k n (tableMachine base n k table) (take n work₀) work p × (count ≡ leaders (next n work) p) × (length work ≡ length work₀)
 
 abbrev μ-loop : tie.MeasureT-loop
-μ-loop table base n k work₀ heads₀ count₀ p₀ work heads count p = n - p
+μ-loop table base n k work₀ count₀ p₀ work count p = n - p
 
--- src/refine.rt:116:5
 loop-holds : tie.Need-loop-holds Inv-loop μ-loop
 unfolding leaders
 loop-holds c = (omega arith, round-starts (c .before .before .pre), refl, refl)
 
--- src/refine.rt:117:18
 place-requires : tie.Need-place-requires Inv-loop μ-loop
-place-requires c κs = round-under (c .before .before .before .before .before .before .pre) _ _ _ (c .before .before .loop-test .taken) (c .before .before .before .loop .inv .3) (c .before .before .before .loop .inv .1)
+place-requires c κs = round-under (c .before .before .before .before .before .pre) _ _ (c .before .loop-test .taken) (c .before .before .loop .inv .3) (c .before .before .loop .inv .1)
 
--- src/refine.rt:117:9
 add-count : tie.Need-add-count Inv-loop μ-loop
-add-count c = omega (arith, c .before .before .place .ensures .one, leaders-le (next (c .before .before .before .before .before .before .before .before .before .args .n) (c .before .before .before .before .before .before .loop .work)) (c .before .before .before .before .before .before .loop .p), c .before .before .before .before .before .before .loop .inv .2)
+add-count c = omega (arith, c .before .before .place .ensures .one, leaders-le (next (c .before .before .before .before .before .before .before .before .args .n) (c .before .before .before .before .before .loop .work)) (c .before .before .before .before .before .loop .p))
 
--- src/refine.rt:118:9
-add-p : tie.Need-add-p Inv-loop μ-loop
-add-p c = search needs
-
--- src/refine.rt:116:5
-loop-less : tie.Need-loop-less Inv-loop μ-loop
-loop-less c = search needs
-
--- src/refine.rt:116:5
 loop-again : tie.Need-loop-again Inv-loop μ-loop
-loop-again c = (omega arith, round-turns (c .before .before .before .before .before .before .before .before .before .pre) _ _ _ _ _ _ (c .before .before .before .before .before .before .loop .inv .1) (c .before .before .place .ensures), count-turns _ _ _ _ _ _ _ _ _ _ _ (c .before .before .place .ensures) (c .before .before .before .before .before .before .loop .inv .2) refl, c .before .before .place .kept .1 .1 .1 .1 .0 ∙ c .before .before .before .before .before .before .loop .inv .3)
+loop-again c = (
+  omega arith,
+  round-turns (c .before .before .before .before .before .before .before .before .pre) _ _ _ _ (c .before .before .before .before .before .loop .inv .1) (c .before .before .place .ensures),
+  count-turns _ _ _ _ _ _ _ _ _ _ (c .before .before .place .ensures) (c .before .before .before .before .before .loop .inv .2) refl,
+  c .before .before .place .kept .1 .1 .1 .1 .0 ∙ c .before .before .before .before .before .loop .inv .3,
+)
 
--- src/refine.rt:109:1
-same-length : tie.Need-same-length Inv-loop μ-loop
-same-length c = search needs
-
--- src/refine.rt:109:1
 returns : tie.Need-returns Inv-loop μ-loop
-returns c = round-ends (c .before .before .before .before .pre) _ _ _ _ (omega arith) (c .before .loop .inv .1) (c .before .loop .inv .2)
+returns c = round-ends (c .before .before .before .before .pre) _ _ _ (omega arith) (c .before .loop .inv .1) (c .before .loop .inv .2)
 
 pub round-spec : {M : Type 1} → statement M
 round-spec =
@@ -61,8 +46,8 @@ round-spec =
     loop-holds
     place-requires
     add-count
-    add-p
-    loop-less
+    (λ c. search needs)
+    (λ c. search needs)
     loop-again
-    same-length
+    (λ c. search needs)
     returns)
