@@ -3,7 +3,7 @@
 #include <math.h>
 #include <stdio.h>
 
-enum { WIDTH = 300, HEIGHT = 220, LEFT = 52, RIGHT = 12, TOP = 28, BOTTOM = 30, COLUMNS = 3 };
+enum { WIDTH = 300, HEIGHT = 220, LEFT = 52, RIGHT = 24, TOP = 28, BOTTOM = 30, COLUMNS = 3 };
 
 typedef struct {
     double low_x, high_x, low_y, high_y;
