@@ -3,14 +3,14 @@ use mathlib.Core.Path.{_≡_, refl, sym, ap, _∙_}
 use mathlib.Core.Logic.{inl, inr}
 use mathlib.Core.List.{List}
 use Prim.Native.Nat.{ℕ, _+_, _*_, _-_, _%_, _≤_, _<_}
-use native.Mathlib.Nat.{mul-le-mul-right, le-refl, mod-eq-of-lt}
+use native.Mathlib.Nat.{mul-le-mul-right, zero-mul, le-refl, mod-eq-of-lt}
 use native.Mathlib.Omega.{arith}
 use lib.ListN.{length, getD, set, take, drop, length-set}
 use lib.Seq.{getD-set-same, getD-set-other}
 use Rattle.automata.specs.Basics.{LtCases, lt-cases}
 use Rattle.automata.specs.Automaton.{Automaton}
 use Rattle.automata.specs.Stage.{MoreThan}
-use Rattle.explore.specs.Rows.{rowAt, bit, operationOf}
+use Rattle.explore.specs.Rows.{rowAt, bit, operationOf, erase}
 use Rattle.explore.specs.Steps.{rowHash}
 use Rattle.explore.specs.Answer.{rowsFor, RowFits, Source, Step, Twins, Looked, Appended, Earlier, Turning, Turned, Flagging, Flagged}
 use Rattle.explore.specs.declared.Shape.{Shape}
@@ -20,7 +20,7 @@ use Rattle.explore.specs.declared.rows.Found.the-variants.{At, Nothing}
 use Rattle.explore.proofs.RowLaws.{row-within, cell-within, row-part, row-length}
 use Rattle.explore.proofs.FitLaws.{reach-fits}
 use Rattle.explore.proofs.HashLaws.{chained-more}
-use Rattle.explore.proofs.TwinLaws.{twin-step}
+use Rattle.explore.proofs.TwinLaws.{twin-step, mark-step}
 use Rattle.explore.proofs.LoopLaws.{partial-store, partial-found, partial-new, partial-full}
 
 -- a row in the buffer is one from which the next is made
@@ -82,22 +82,32 @@ module _ (s : Shape) (a b rows row table heads : List ℕ) (count state column q
         let n : Looked (s .w) count rows row′ Nothing = rw f at l in
         partial-full (rowsFor s a b) (s .k) (s .w) (s .limit) count state column q rows table heads row′ (T .partial) (T .place) next turn-cell n h
 
-  -- an earlier column leads to the same row
-  pub turn-twin : (d : ℕ) → d < column → Twins s a b d column → (j : ℕ) → j ≡ getD table (s .limit + (q - (column - d))) 0 → Turned (rowsFor s a b) (s .k) (s .w) (s .limit) count state column rows (set table (s .limit + q) j) heads (Sets count)
-  turn-twin d h W j e =
-      let x : s .limit + (q - (column - d)) ≡ s .limit + (state * s .k + d) = omega (arith, T .place .cell) in
-      let y : j ≡ getD table (s .limit + (state * s .k + d)) 0 = e ∙ ap (λ (i : ℕ). getD table i 0) x in
-      let before : Earlier state d state column = inr (refl, h) in
-      let d< : d < s .k = omega (arith, T .place .column) in
-      let inside : j < count = rw y (T .partial .inside state d d< before) in
+  -- an earlier transition leads to the same row
+  turn-copy : (p d : ℕ) → d < s .k → Earlier p d state column → rowsFor s a b .step (rowAt (s .w) p rows) d ≡ rowsFor s a b .step (rowAt (s .w) state rows) column → (j : ℕ)
+      → j ≡ getD table (s .limit + (p * s .k + d)) 0 → Turned (rowsFor s a b) (s .k) (s .w) (s .limit) count state column rows (set table (s .limit + q) j) heads (Sets count)
+  turn-copy p d l before same j y =
+      let inside : j < count = rw y (T .partial .inside p d l before) in
       let small : j < 65536 = omega (arith, inside, T .partial .within, T .room .small) in
-      let to : rowAt (s .w) j rows ≡ rowsFor s a b .step (rowAt (s .w) state rows) column =
-      ap (λ (i : ℕ). rowAt (s .w) i rows) y ∙ T .partial .moves state d d< before
-      ∙ twin-step s a b d column (T .fits) W (rowAt (s .w) state rows) (reach-fits s a b (T .fits) (rowAt (s .w) state rows) (T .partial .reached state (T .place .state))) in (
+      let to : rowAt (s .w) j rows ≡ rowsFor s a b .step (rowAt (s .w) state rows) column = ap (λ (i : ℕ). rowAt (s .w) i rows) y ∙ T .partial .moves p d l before ∙ same in (
         le-refl count,
         rw (mod-eq-of-lt small) at (partial-found (rowsFor s a b) (s .k) (s .w) (s .limit) count state column q rows table heads (rowsFor s a b .step (rowAt (s .w) state rows) column)
             (T .partial) (T .place) refl j turn-cell small inside to),
       )
+
+  -- an earlier column is this one's twin
+  pub turn-twin : (d : ℕ) → d < column → Twins s a b d column → (j : ℕ) → j ≡ getD table (s .limit + (q - (column - d))) 0 → Turned (rowsFor s a b) (s .k) (s .w) (s .limit) count state column rows (set table (s .limit + q) j) heads (Sets count)
+  turn-twin d h W j e =
+      let x : s .limit + (q - (column - d)) ≡ s .limit + (state * s .k + d) = omega (arith, T .place .cell) in
+      turn-copy state d (omega (arith, T .place .column)) (inr (refl, h))
+      (twin-step s a b d column (T .fits) W (rowAt (s .w) state rows) (reach-fits s a b (T .fits) (rowAt (s .w) state rows) (T .partial .reached state (T .place .state)))) j
+      (e ∙ ap (λ (i : ℕ). getD table i 0) x)
+
+  -- an erase by the mark
+  pub turn-mark : (operationOf (s .op) ≡ erase) × (column ≡ s .k - 1) × (0 < state) → (j : ℕ) → j ≡ getD table (s .limit + column) 0
+      → Turned (rowsFor s a b) (s .k) (s .w) (s .limit) count state column rows (set table (s .limit + q) j) heads (Sets count)
+  turn-mark (o, c, h) j e =
+      let x : s .limit + column ≡ s .limit + (0 * s .k + column) = omega (arith, zero-mul (s .k)) in
+      turn-copy 0 column (T .place .column) (inl h) (mark-step s a b (rowAt (s .w) 0 rows) (rowAt (s .w) state rows) column o c) j (e ∙ ap (λ (i : ℕ). getD table i 0) x)
 
 -- ---- the flags
 

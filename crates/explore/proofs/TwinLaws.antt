@@ -9,7 +9,7 @@ use lib.Dec.{eqb}
 use lib.ListN.{length, getD, set, replicate, length-set, length-replicate, getD-replicate}
 use lib.Seq.{getD-set-same, getD-set-other}
 use Rattle.automata.specs.Basics.{LtCases, lt-cases}
-use borrow.Author.Tests.{ne-eqb}
+use borrow.Author.Tests.{eq-eqb, ne-eqb}
 use Rattle.automata.specs.Automaton.{Automaton}
 use Rattle.automata.specs.Decide.{anyBelow}
 use Rattle.automata.specs.Table.{table-step}
@@ -55,6 +55,11 @@ twin-step s a b d c F W r h =
     (λ q g. table-step (s .ba) (s .na) (s .k) a (F .left) q d g (omega (arith, W .low)) ∙ W .left q g ∙ sym (table-step (s .ba) (s .na) (s .k) a (F .left) q c g (omega (arith, W .high))))
     (λ q g. table-step (s .bb) (s .nb) (s .k) b (F .right) q d g (omega (arith, W .low)) ∙ W .right q g ∙ sym (table-step (s .bb) (s .nb) (s .k) b (F .right) q c g (omega (arith, W .high))))
     (operationOf (s .op)) r h
+
+-- By the mark an erase leads every row to the empty one.
+pub mark-step : (s : Shape) (a b : List ℕ) (r r′ : List ℕ) (c : ℕ) → operationOf (s .op) ≡ erase → c ≡ s .k - 1 → rowsFor s a b .step r c ≡ rowsFor s a b .step r′ c
+unfolding eraseRows
+mark-step s a b r r′ c o e = rw (o, eq-eqb c (s .k - 1) e)
 
 -- ---- the table of twins
 

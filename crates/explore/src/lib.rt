@@ -11,10 +11,11 @@ mod rows;
 mod star;
 mod table;
 
+ghost use mathlib.Core.Bool.{true};
 ghost use mathlib.Core.Path.{_≡_};
-ghost use Prim.Native.Nat.{_<_, _≤_};
+ghost use Prim.Native.Nat.{_-_, _<_, _≤_};
 ghost use lib.ListN.{length, replicate};
-ghost use Rattle.explore.specs.Rows.{bit};
+ghost use Rattle.explore.specs.Rows.{bit, operationOf, erase};
 ghost use Rattle.explore.specs.Steps.{Weighted};
 ghost use Rattle.explore.specs.Answer.{rowsFor, Fits, Room, Source, Step, Twins, Turning, Turned, Flagging, Flagged, Explores, Answers};
 
@@ -159,7 +160,24 @@ fn turn(
     }
 }
 
-// The same, where an earlier column of the same row may be its twin: then both lead to one row.
+// Whether a transition is an erase's by the mark, from another row than the first.
+fn erases(s: Shape, state: usize, column: usize) -> bool
+    requires { ⌜ column < s .k ⌝ }
+    ensures { λ r. ⌜ (r ≡ true → (operationOf (s .op) ≡ erase) × (column ≡ s .k - 1) × (0 < state)) ⌝ }
+{
+    let op = s.op;
+    let k = s.k;
+    if op < 5 {
+        return false;
+    }
+    if column + 1 != k {
+        return false;
+    }
+    0 < state
+}
+
+// The same, where an earlier column of the same row may be its twin: then both lead to one row. And by the mark an erase leads every row to the empty one,
+// so that the first row's transition is repeated.
 fn advance(
     a: &[u16],
     b: &[u16],
@@ -183,6 +201,11 @@ fn advance(
     let limit = s.limit;
     if twin < column {
         let j = table[limit + (q - (column - twin))];
+        table[limit + q] = j;
+        return Explored::Sets(count);
+    }
+    if erases(s, state, column) {
+        let j = table[limit + column];
         table[limit + q] = j;
         return Explored::Sets(count);
     }
