@@ -74,6 +74,7 @@ Times time_load(Judging *j, double seconds, int most);
 Times time_judge(Judging *j, double seconds, int most);
 
 int same_cards(const Texts *texts); // how many books differ; prints each
+Times time_compile(Text *text, double seconds, int most);
 void compile_times(const Texts *texts, double seconds);
 int board_both(const char *folder, double seconds, int *compared); // how many answers differ, of so many; seconds 0 only compares
 

@@ -5,12 +5,6 @@
 #include <stdlib.h>
 #include <string.h>
 
-static uint8_t card[CARD];
-static void compile_product(void *text) { product_compile(text, card); }
-static void compile_twin(void *text) { twin_compile(text, card); }
-#ifdef WITH_SECOND
-static void compile_second(void *text) { second_twin(text, card); }
-#endif
 
 static void point(Panel *p, double x, double product, double twin) {
     printf("growth\t%s\t%.0f\t%.0f\t%.0f\t%.3f\n", p->title, x, product, twin, product / twin);
@@ -25,7 +19,7 @@ static void over_bytes(Panel *p, const Text *large, double seconds) {
         t = *large;
         t.length = most < large->length ? most : large->length;
         while (t.text[t.length - 1] != '\n') t.length--;
-        Times x = time_both(compile_product, compile_twin, IF_SECOND(compile_second), &t, seconds, 501);
+        Times x = time_compile(&t, seconds, 501);
         point(p, (double)t.length, x.first.median, x.second.median);
     }
 }
@@ -37,7 +31,7 @@ static void over_line(Panel *p, const Text *large, const char *tail, double seco
         t = *large;
         t.length = most;
         memcpy(t.text + most - strlen(tail), tail, strlen(tail));
-        Times x = time_both(compile_product, compile_twin, IF_SECOND(compile_second), &t, seconds, 501);
+        Times x = time_compile(&t, seconds, 501);
         point(p, (double)t.length, x.first.median, x.second.median);
     }
 }

@@ -4,11 +4,6 @@
 #include <string.h>
 
 static uint8_t card[CARD];
-static void product(void *text) { product_compile(text, card); }
-static void twin(void *text) { twin_compile(text, card); }
-#ifdef WITH_SECOND
-static void second(void *text) { second_twin(text, card); }
-#endif
 
 static void put(Text *t, const char *s) {
     memcpy(t->text + t->length, s, strlen(s));
@@ -51,7 +46,7 @@ Stage time_stage(int m, const char *definitions, const char *stage, double secon
     make(&without, m, definitions, stage, 0);
     Compiled c = twin_compile(&with, card);
     if (c.number) return (Stage){0, 0, 0, 0, 0};
-    Times x = time_both(product, twin, IF_SECOND(second), &with, seconds, 501), y = time_both(product, twin, IF_SECOND(second), &without, seconds, 501);
+    Times x = time_compile(&with, seconds, 501), y = time_compile(&without, seconds, 501);
     return (Stage){c.peak, (x.first.median - y.first.median) / LINES, (x.second.median - y.second.median) / LINES, x.samples, x.runs};
 }
 

@@ -63,37 +63,35 @@ static void short_rules(Text *t) {
 #define DOTS13 "............."
 #define DOTS17 "................."
 
+// A head, a part over and over, a tail.
+typedef struct {
+    const char *name, *head, *part, *tail;
+} Recipe;
+
+#define PAIRS "=A (" DOTS13 ")*a\n=B (" DOTS17 ")*b\n>a"
+
+// A* makes 504 sets, of 3 columns or of 27; A&B makes 251 pairs, or 252, and holds no plan.
+static const Recipe recipes[] = {
+    {"16k-stars-2", ":ab\n=A ((.a|ba)(a.)*bb.(a|b)|((b.b|b.a)|(.|.)))..\n>A", "|A*", "\n"},
+    {"16k-stars-26",
+     ":" ALPHABET "\n=L a|b|c|d|e|f|g|h|i|j|k|l|m\n=N n|o|p|q|r|s|t|u|v|w|x|y|z\n=A ((.L|NL)(L.)*NN.(L|N)|((N.N|N.L)|(.|.)))..\n>A", "|A*", "\n"},
+    {"16k-meets-2", ":ab\n" PAIRS, "|A&B", "\n"},
+    {"16k-meets-26", ":" ALPHABET "\n" PAIRS, "|A&B", "\n"},
+    {"16k-bangs", ":a\n>", "!", "a\n"},
+    {"16k-brackets", ":ab\n>b", "|((((a|b))))", "\n"},
+    {"16k-pluses", ":ab\n>a", "+", "\n"},
+    {"16k-spaces", ":ab\n>a", " ", "\n"},
+};
+
 Texts large_texts(void) {
     Texts out = {0, calloc(16, sizeof(Text))};
-    Text *t;
     short_rules(begin(&out, "16k-short-rules"));
-    // A* makes 504 sets, of 3 columns or of 27.
-    t = begin(&out, "16k-stars-2");
-    put(t, ":ab\n=A ((.a|ba)(a.)*bb.(a|b)|((b.b|b.a)|(.|.)))..\n>A");
-    fill(t, "|A*", "\n");
-    t = begin(&out, "16k-stars-26");
-    put(t, ":" ALPHABET "\n=L a|b|c|d|e|f|g|h|i|j|k|l|m\n=N n|o|p|q|r|s|t|u|v|w|x|y|z\n");
-    put(t, "=A ((.L|NL)(L.)*NN.(L|N)|((N.N|N.L)|(.|.)))..\n>A");
-    fill(t, "|A*", "\n");
-    // A&B makes 251 pairs, or 252, and holds no plan.
-    t = begin(&out, "16k-meets-2");
-    put(t, ":ab\n=A (" DOTS13 ")*a\n=B (" DOTS17 ")*b\n>a");
-    fill(t, "|A&B", "\n");
-    t = begin(&out, "16k-meets-26");
-    put(t, ":" ALPHABET "\n=A (" DOTS13 ")*a\n=B (" DOTS17 ")*b\n>a");
-    fill(t, "|A&B", "\n");
-    t = begin(&out, "16k-bangs");
-    put(t, ":a\n>");
-    fill(t, "!", "a\n");
-    t = begin(&out, "16k-brackets");
-    put(t, ":ab\n>b");
-    fill(t, "|((((a|b))))", "\n");
-    t = begin(&out, "16k-pluses");
-    put(t, ":ab\n>a");
-    fill(t, "+", "\n");
-    t = begin(&out, "16k-spaces");
-    put(t, ":ab\n>a");
-    fill(t, " ", "\n");
+    for (size_t i = 0; i < sizeof recipes / sizeof *recipes; i++) {
+        const Recipe *r = &recipes[i];
+        Text *t = begin(&out, r->name);
+        put(t, r->head);
+        fill(t, r->part, r->tail);
+    }
     return out;
 }
 
