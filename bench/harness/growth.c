@@ -5,7 +5,6 @@
 #include <stdlib.h>
 #include <string.h>
 
-
 static void point(Panel *p, double x, double product, double twin) {
     printf("growth\t%s\t%.0f\t%.0f\t%.0f\t%.3f\n", p->title, x, product, twin, product / twin);
     fflush(stdout);
