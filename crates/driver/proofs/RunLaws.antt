@@ -137,6 +137,7 @@ module _ (ls : List ℕ) (len : ℕ) (code low high registers : List ℕ) where
       rowsLong = R .room .rows;
       tableLong = omega (arith, R .letters .1, R .room .table);
       workLong = omega (arith, R .letters .1, R .room .work);
+      classesLong = (omega (arith, R .room .work), omega (arith, R .room .work));
     };
     held = record { held = R .stored .registers .held };
     whole = R .program .fits;

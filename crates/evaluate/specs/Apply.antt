@@ -39,15 +39,16 @@ greatest (c ∷ cs) = max c (greatest cs)
 abbrev pub tallest : ℕ
 tallest = 19
 
--- The lent buffers: room for the stack, for the rows and their table, and for two operands.
+-- The lent buffers: room for the stack, for the rows and their table, and for two operands and in their place the classes.
 pub record Lent (l : Layout) (m : ℕ) (stack rows table work : List ℕ) : Type 0 where
   pub states : (3 ≤ l .states) × (l .states ≤ 256)
-  pub sets : (1 ≤ l .sets) × (l .sets ≤ 512)
+  pub sets : (1 ≤ l .sets) × (l .sets < 65536)
   pub slot : needs (l .states) (suc m) ≤ l .size
   pub stackLong : tallest * l .size ≤ length stack
   pub rowsLong : l .sets * (l .states + 2) ≤ length rows
   pub tableLong : l .sets + l .sets * suc m ≤ length table
   pub workLong : (l .states + l .states * suc m) + (l .states + l .states * suc m) ≤ length work
+  pub classesLong : (l .sets + (l .sets + l .sets) ≤ length work) × (l .sets + l .sets + l .states ≤ length work)
 
 -- buffers of the same lengths
 pub lent-kept : {l : Layout} {m : ℕ} {stack rows table work stack′ rows′ table′ work′ : List ℕ} → Lent l m stack rows table work
@@ -60,6 +61,7 @@ lent-kept L a b c d = record {
   rowsLong = rw b (L .rowsLong);
   tableLong = rw c (L .tableLong);
   workLong = rw d (L .workLong);
+  classesLong = rw d (L .classesLong);
 }
 
 -- a slot of the stack ends in it
@@ -90,18 +92,18 @@ pub record Makes (l : Layout) (m left : ℕ) (s t : List ℕ) (r : Stepped) (X :
 abbrev pub limitsOf : Layout → Limits
 limitsOf l = record { sets = l .sets; states = l .states }
 
-pub apply-ready : {l : Layout} {m left right : ℕ} {stack rows table work : List ℕ} (classes : List ℕ) → length classes ≡ 1536 → Applying l m left right stack rows table work
-    → Ready m (limitsOf l) (left * l .size) (right * l .size) stack work rows table classes
-apply-ready {l} {m} {left} {right} {stack} {rows} {table} {work} classes c A = record {
+pub apply-ready : {l : Layout} {m left right : ℕ} {stack rows table work : List ℕ} → Applying l m left right stack rows table work
+    → Ready m (limitsOf l) (left * l .size) (right * l .size) stack work rows table
+apply-ready {l} {m} {left} {right} {stack} {rows} {table} {work} A = record {
   leftSlot = A .leftSlot;
   rightSlot = A .rightSlot;
   states = (omega (arith, A .lent .states .0), A .lent .states .1);
-  sets = (A .lent .sets .0, omega (arith, A .lent .sets .1));
+  sets = A .lent .sets;
   room = omega (arith, slot-room (A .lent) left (A .low), A .lent .slot);
   operandsLong = A .lent .workLong;
+  classesLong = A .lent .classesLong;
   rowsLong = A .lent .rowsLong;
   tableLong = A .lent .tableLong;
-  workLong = (omega (arith, A .lent .sets .1), omega (arith, A .lent .sets .1, A .lent .states .1));
 }
 
 pub aside-below : {at len : ℕ} {s t : List ℕ} → Aside at len s t → Below at s t

@@ -53,8 +53,6 @@ pub fn apply(
         sets: l.sets,
         states: l.states,
     };
-    // for the classes of at most 512 sets
-    let mut classes = [0u16; 1536];
     match stage::stage(
         op,
         m,
@@ -65,7 +63,6 @@ pub fn apply(
         work,
         rows,
         table,
-        &mut classes[..],
     ) {
         Staged::Made(n, _q) => Stepped::Next(left + 1, n),
         Staged::TooManySets => Stepped::Refused(8),

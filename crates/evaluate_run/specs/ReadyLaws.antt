@@ -124,6 +124,7 @@ module _ {letters names registers stack rows table work : List ℕ} (R : Ready l
       rowsLong = R .rowsLong;
       tableLong = omega (arith, R .few .1, R .tableLong);
       workLong = omega (arith, R .few .1, R .workLong);
+      classesLong = (omega (arith, R .workLong), omega (arith, R .workLong));
     };
     held = R .held;
     whole = C .fits;

@@ -66,17 +66,18 @@ pub record Reached (op k : ℕ) (l : Limits) (r : Sizes) (t rows table : List �
 
 -- ---- a stage
 
--- Slots with the two machines, with room for the first to be replaced; room for the operands, the rows, their table, and the classes.
-pub record Ready (m : ℕ) (l : Limits) (left right : ℕ) (slots operands rows table work : List ℕ) : Type 0 where
+-- Slots with the two machines, with room for the first to be replaced; room for the operands and in their place the classes, for the rows, and for their
+-- table.
+pub record Ready (m : ℕ) (l : Limits) (left right : ℕ) (slots operands rows table : List ℕ) : Type 0 where
   pub leftSlot : Slot (l .states) (suc m) (drop left slots)
   pub rightSlot : Slot (l .states) (suc m) (drop right slots)
   pub states : (2 ≤ l .states) × (l .states ≤ 256)
   pub sets : (1 ≤ l .sets) × (l .sets < 65536)
   pub room : left + 2 + (l .states + l .states * suc m) ≤ length slots
   pub operandsLong : (l .states + l .states * suc m) + (l .states + l .states * suc m) ≤ length operands
+  pub classesLong : (l .sets + (l .sets + l .sets) ≤ length operands) × (l .sets + l .sets + l .states ≤ length operands)
   pub rowsLong : l .sets * (l .states + 2) ≤ length rows
   pub tableLong : l .sets + l .sets * suc m ≤ length table
-  pub workLong : (l .sets + (l .sets + l .sets) ≤ length work) × (l .sets + l .sets + l .states ≤ length work)
 
 -- What an answer says: a count with the machine that the slot holds; 8, more sets than the limit; 9, more states.
 abbrev pub answerOf : ℕ → ℕ → List ℕ → Staged → Answer

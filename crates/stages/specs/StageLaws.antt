@@ -82,7 +82,7 @@ slot-formed {most} {k} {s} C = table-formed most (numberAt s 0) k (drop 2 s) (C 
 
 -- ---- what the steps ask
 
-module _ {m : ℕ} {l : Limits} {left right : ℕ} {slots operands rows table work : List ℕ} (R : Ready m l left right slots operands rows table work) where
+module _ {m : ℕ} {l : Limits} {left right : ℕ} {slots operands rows table : List ℕ} (R : Ready m l left right slots operands rows table) where
   pub ready-columns : m + 1 ≤ length table
   ready-columns = omega (arith, R .tableLong, R .sets .0, mul-le-mul-right {m = 1} {n = l .sets} (suc m) (R .sets .0), suc-mul 0 (suc m), zero-mul (suc m))
 
@@ -131,16 +131,16 @@ module _ {m : ℕ} {l : Limits} {left right : ℕ} {slots operands rows table wo
     }
 
     module _ (op n : ℕ) (rows′ table′ : List ℕ) (x : Explored) (H : Reached op (m + 1) l r t rows′ table′ x) (e : x ≡ Sets n) where
-      pub ready-keep : Keepable (l .sets) n (m + 1) (l .states) left table′ work slots
-      ready-keep =
+      pub ready-keep : (work : List ℕ) → length work ≡ length operands → Keepable (l .sets) n (m + 1) (l .states) left table′ work slots
+      ready-keep work g =
           let h = rw e at (H .answers) in
           record {
             closed = explored-closed (tableRows op (m + 1) (l .states) r t) (m + 1) (H .w) (l .sets) n rows′ table′ h;
             few = omega (arith, h .within, R .sets .1);
             some = omega (arith, R .states .0);
             bytes = R .states .1;
-            arrays = omega (arith, h .within, R .workLong .0);
-            order = omega (arith, h .within, R .workLong .1);
+            arrays = omega (arith, h .within, R .classesLong .0, g);
+            order = omega (arith, h .within, R .classesLong .1, g);
             slot = rw (add-one m) (R .room);
           }
 

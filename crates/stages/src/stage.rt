@@ -72,7 +72,8 @@ fn reach(
 }
 
 // The stage of the operation (0 `|`, 1 `&`, 2 `-`, 3 concatenation, 4 star, 5 erase) on the machines in two slots, over m letters and the mark. Its
-// machine is kept in the first slot; nothing outside that slot is changed. Star and erase take the first machine.
+// machine is kept in the first slot; nothing outside that slot is changed. Star and erase take the first machine. When the sets are reached, the operands
+// are not needed any more, and their buffer is lent for the classes.
 pub fn stage(
     op: u8,
     m: usize,
@@ -83,9 +84,8 @@ pub fn stage(
     operands: &mut [u16],
     rows: &mut [u8],
     table: &mut [u16],
-    work: &mut [u16],
 ) -> Staged
-    requires { ⌜ Ready m limits left right (now slots) (now operands) (now rows) (now table) (now work) ⌝ }
+    requires { ⌜ Ready m limits left right (now slots) (now operands) (now rows) (now table) ⌝ }
     ensures { λ r. ⌜ StageDone op m limits left right (now (slots .entry)) (now (slots .exit)) r ⌝ }
 {
     let k = m + 1;
@@ -95,7 +95,7 @@ pub fn stage(
         return Staged::TooManySets;
     };
     let limit = limits.sets;
-    let Kept::States(q) = keep::keep(&table[..], limit, n, k, most, work, slots, left) else {
+    let Kept::States(q) = keep::keep(&table[..], limit, n, k, most, operands, slots, left) else {
         return Staged::TooManyStates;
     };
     Staged::Made(n, q)

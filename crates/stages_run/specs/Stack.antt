@@ -24,11 +24,10 @@ pub record Stack (d : ℕ) (s : List ℕ) : Type 0 where
   pub filled : (i : ℕ) → i < d → Slot 120 2 (drop (i * 362) s)
 
 -- room for a stage of 512 sets
-pub record Room (operands rows table work : List ℕ) : Type 0 where
-  pub operandsLong : 720 ≤ length operands
+pub record Room (operands rows table : List ℕ) : Type 0 where
+  pub operandsLong : 1536 ≤ length operands
   pub rowsLong : 62464 ≤ length rows
   pub tableLong : 1536 ≤ length table
-  pub workLong : 1536 ≤ length work
 
 -- the slot after a stage
 abbrev pub Left : ℕ → List ℕ → Staged → Type 0
@@ -88,18 +87,18 @@ stack-push d s t ys M S h W H = stack-set d (d + 1) d s t S
 
 -- ---- a stage
 
-pub stack-ready : (d i j : ℕ) (s operands rows table work : List ℕ) → Stack d s → i < d → j < d → Room operands rows table work
-    → Ready 1 (record { sets = 512; states = 120 }) (i * 362) (j * 362) s operands rows table work
-stack-ready d i j s operands rows table work S hi hj R = record {
+pub stack-ready : (d i j : ℕ) (s operands rows table : List ℕ) → Stack d s → i < d → j < d → Room operands rows table
+    → Ready 1 (record { sets = 512; states = 120 }) (i * 362) (j * 362) s operands rows table
+stack-ready d i j s operands rows table S hi hj R = record {
   leftSlot = S .filled i hi;
   rightSlot = S .filled j hj;
   states = (omega arith, omega arith);
   sets = (omega arith, omega arith);
   room = omega (arith, S .long, S .deep);
-  operandsLong = R .operandsLong;
+  operandsLong = omega (arith, R .operandsLong);
+  classesLong = (R .operandsLong, omega (arith, R .operandsLong));
   rowsLong = R .rowsLong;
   tableLong = R .tableLong;
-  workLong = (R .workLong, omega (arith, R .workLong));
 }
 
 pub stack-stage : (op d i j : ℕ) (s t : List ℕ) (r : Staged) → Stack d s → i < d → StageDone op 1 (record { sets = 512; states = 120 }) (i * 362) (j * 362) s t r → Left d t r
@@ -119,12 +118,11 @@ stack-none s h = record { long = h; deep = omega arith; filled = λ i v. absurd 
 pub stack-taken : (d taken : ℕ) (s : List ℕ) (r : Staged) (n q : ℕ) → Left d s r → r ≡ Made n q → 1 ≤ taken → taken ≤ d → Goes s (Next (d - taken + 1) r)
 stack-taken d taken s r n q l e h b = stack-less d (d - taken + 1) s (rw e at l) (omega arith)
 
-pub room-kept : {a b c d : List ℕ} (a′ b′ c′ d′ : List ℕ) → Room a b c d → length a′ ≡ length a → length b′ ≡ length b → length c′ ≡ length c → length d′ ≡ length d → Room a′ b′ c′ d′
-room-kept a′ b′ c′ d′ R ea eb ec ed = record {
+pub room-kept : {a b c : List ℕ} (a′ b′ c′ : List ℕ) → Room a b c → length a′ ≡ length a → length b′ ≡ length b → length c′ ≡ length c → Room a′ b′ c′
+room-kept a′ b′ c′ R ea eb ec = record {
   operandsLong = omega (arith, R .operandsLong);
   rowsLong = omega (arith, R .rowsLong);
   tableLong = omega (arith, R .tableLong);
-  workLong = omega (arith, R .workLong);
 }
 
 pub goes-on : (s : List ℕ) (t : Turn) (d : ℕ) (r : Staged) → Goes s t → t ≡ Next d r → Stack d s

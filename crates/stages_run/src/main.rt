@@ -8,17 +8,11 @@ ghost use Prim.Native.Nat.{_+_, _*_, _<_, _≤_};
 ghost use lib.ListN.{length};
 ghost use Rattle.stages_run.specs.Stack.{Stack, Room, Left, Goes};
 
-// Buffers: four slots, two operands, the rows, their table, the classes.
+// Buffers: four slots; the rows; numbers for two operands and then the classes, and as many for the rows' table.
 fn slots() -> [u8; 1448]
     ensures { λ r. ⌜ 1448 ≡ length r ⌝ }
 {
     [0; 1448]
-}
-
-fn operands() -> [u16; 720]
-    ensures { λ r. ⌜ 720 ≡ length r ⌝ }
-{
-    [0; 720]
 }
 
 fn rows() -> [u8; 62464]
@@ -59,11 +53,10 @@ fn apply(
     operands: &mut [u16],
     rows: &mut [u8],
     table: &mut [u16],
-    work: &mut [u16],
 ) -> Staged
     requires { ⌜ Stack depth (now slots) ⌝ }
     requires { ⌜ (i < depth) × (j < depth) ⌝ }
-    requires { ⌜ Room (now operands) (now rows) (now table) (now work) ⌝ }
+    requires { ⌜ Room (now operands) (now rows) (now table) ⌝ }
     ensures { λ r. ⌜ Left depth (now (slots .exit)) r ⌝ }
 {
     let limits = Limits {
@@ -80,7 +73,6 @@ fn apply(
         operands,
         rows,
         table,
-        work,
     )
 }
 
@@ -112,10 +104,9 @@ fn work_on(
     operands: &mut [u16],
     rows: &mut [u8],
     table: &mut [u16],
-    work: &mut [u16],
 ) -> Turn
     requires { ⌜ Stack depth (now slots) ⌝ }
-    requires { ⌜ Room (now operands) (now rows) (now table) (now work) ⌝ }
+    requires { ⌜ Room (now operands) (now rows) (now table) ⌝ }
     ensures { λ r. ⌜ Goes (now (slots .exit)) r ⌝ }
 {
     if c == 97 {
@@ -139,7 +130,6 @@ fn work_on(
         operands,
         rows,
         table,
-        work,
     );
     match r {
         Staged::Made(n, q) => Turn::Next(left + 1, r),
@@ -154,16 +144,15 @@ fn run(
     operands: &mut [u16],
     rows: &mut [u8],
     table: &mut [u16],
-    work: &mut [u16],
 ) -> Staged
     requires { ⌜ 1448 ≤ length (now slots) ⌝ }
-    requires { ⌜ Room (now operands) (now rows) (now table) (now work) ⌝ }
+    requires { ⌜ Room (now operands) (now rows) (now table) ⌝ }
 {
     let mut depth = 0;
     let mut last = Staged::Made(0, 0);
     let mut i = 0;
     while i < codes.len() {
-        match work_on(codes[i], slots, depth, operands, rows, table, work) {
+        match work_on(codes[i], slots, depth, operands, rows, table) {
             Turn::Next(d, r) => {
                 depth = d;
                 last = r;
@@ -197,11 +186,10 @@ fn say(r: Staged) {
 
 fn tell(codes: &[u8]) {
     let mut a = slots();
-    let mut b = operands();
+    let mut b = numbers();
     let mut c = rows();
     let mut d = numbers();
-    let mut e = numbers();
-    say(run(codes, &mut a, &mut b, &mut c, &mut d, &mut e));
+    say(run(codes, &mut a, &mut b, &mut c, &mut d));
 }
 
 fn main() {

@@ -6,25 +6,25 @@ use Rattle.stages.proofs.stage.stage.Statement.{statement}
 use Rattle.stages.proofs.stage.stage.Tie as tie
 
 add-k : tie.Need-add-k
-add-k c = omega (arith, ready-columns (c .before .before .before .before .before .pre))
+add-k c = omega (arith, ready-columns (c .before .before .before .before .pre))
 
 load-requires : tie.Need-load-requires
-load-requires c κs = ready-load (c .before .before .before .before .before .before .before .pre)
+load-requires c κs = ready-load (c .before .before .before .before .before .before .pre)
 
 reach-requires : tie.Need-reach-requires
-reach-requires c κs = ready-reach (c .before .before .before .before .before .before .before .before .before .before .before .before .before .pre) (c .before .before .before .before .before .load .ensures)
+reach-requires c κs = ready-reach (c .before .before .before .before .before .before .before .before .before .before .before .before .pre) (c .before .before .before .before .before .load .ensures)
 
 returns : tie.Need-returns
-returns c = done-many (c .before .before .before .before .before .before .before .before .before .before .before .before .before .before .before .before .before .before .before .before .pre) (c .before .before .before .before .before .before .before .before .before .before .before .before .load .ensures) _ _ _ _ (c .before .before .before .before .before .before .reach .ensures) (c .enum-told .given .1)
+returns c = done-many (c .before .before .before .before .before .before .before .before .before .before .before .before .before .before .before .before .before .before .before .pre) (c .before .before .before .before .before .before .before .before .before .before .before .before .load .ensures) _ _ _ _ (c .before .before .before .before .before .before .reach .ensures) (c .enum-told .given .1)
 
 keep-requires : tie.Need-keep-requires
-keep-requires c κs = ready-keep (c .before .before .before .before .before .before .before .before .before .before .before .before .before .before .before .before .before .before .before .before .before .before .before .before .pre) (c .before .before .before .before .before .before .before .before .before .before .before .before .before .before .before .before .load .ensures) _ _ _ _ _ (c .before .before .before .before .before .before .before .before .before .before .reach .ensures) (c .before .before .before .before .n .given .1)
+keep-requires c κs = ready-keep (c .before .before .before .before .before .before .before .before .before .before .before .before .before .before .before .before .before .before .before .before .before .before .before .pre) (c .before .before .before .before .before .before .before .before .before .before .before .before .before .before .before .before .load .ensures) _ _ _ _ _ (c .before .before .before .before .before .before .before .before .before .before .reach .ensures) (c .before .before .before .before .n .given .1) _ (c .before .before .before .before .before .before .before .before .before .before .before .before .before .before .before .before .load .kept .1 .1 .1 .1 .1 .0)
 
 returns-2 : tie.Need-returns-2
-returns-2 c = done-large (c .before .before .before .before .before .before .before .before .before .before .before .before .before .before .before .before .before .before .before .before .before .before .before .before .before .before .before .before .before .before .before .pre) (c .before .before .before .before .before .before .before .before .before .before .before .before .before .before .before .before .before .before .before .before .before .before .before .load .ensures) _ _ _ _ _ (c .before .before .before .before .before .before .before .before .before .before .before .before .before .before .before .before .before .reach .ensures) (c .before .before .before .before .before .before .before .before .before .before .before .n .given .1) _ _ (c .before .before .before .before .before .before .keep .ensures) (c .enum-told2 .given .1)
+returns-2 c = done-large (c .before .before .before .before .before .before .before .before .before .before .before .before .before .before .before .before .before .before .before .before .before .before .before .before .before .before .before .before .before .before .pre) (c .before .before .before .before .before .before .before .before .before .before .before .before .before .before .before .before .before .before .before .before .before .before .before .load .ensures) _ _ _ _ _ (c .before .before .before .before .before .before .before .before .before .before .before .before .before .before .before .before .before .reach .ensures) (c .before .before .before .before .before .before .before .before .before .before .before .n .given .1) _ _ (c .before .before .before .before .before .before .keep .ensures) (c .enum-told2 .given .1)
 
 returns-3 : tie.Need-returns-3
-returns-3 c = done-made (c .before .before .before .before .before .before .before .before .before .before .before .before .before .before .before .before .before .before .before .before .before .before .before .before .before .before .before .before .before .before .before .before .pre) (c .before .before .before .before .before .before .before .before .before .before .before .before .before .before .before .before .before .before .before .before .before .before .before .before .load .ensures) _ _ _ _ _ (c .before .before .before .before .before .before .before .before .before .before .before .before .before .before .before .before .before .before .reach .ensures) (c .before .before .before .before .before .before .before .before .before .before .before .before .n .given .1) _ _ _ (c .before .before .before .before .before .before .before .keep .ensures) (c .before .q .given .1)
+returns-3 c = done-made (c .before .before .before .before .before .before .before .before .before .before .before .before .before .before .before .before .before .before .before .before .before .before .before .before .before .before .before .before .before .before .before .pre) (c .before .before .before .before .before .before .before .before .before .before .before .before .before .before .before .before .before .before .before .before .before .before .before .before .load .ensures) _ _ _ _ _ (c .before .before .before .before .before .before .before .before .before .before .before .before .before .before .before .before .before .before .reach .ensures) (c .before .before .before .before .before .before .before .before .before .before .before .before .n .given .1) _ _ _ (c .before .before .before .before .before .before .before .keep .ensures) (c .before .q .given .1)
 
 pub stage-spec : {M : Type 1} → statement M
 stage-spec =
@@ -47,9 +47,7 @@ stage-spec =
     (λ c. search needs)
     (λ c. search needs)
     (λ c. search needs)
-    (λ c. search needs)
     returns-2
-    (λ c. search needs)
     (λ c. search needs)
     (λ c. search needs)
     (λ c. search needs)
