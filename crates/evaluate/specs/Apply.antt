@@ -3,7 +3,7 @@ use mathlib.Core.Path.{_≡_, refl, sym, ap, ap₂, _∙_, subst}
 use mathlib.Core.Logic.{inl, inr}
 use mathlib.Core.List.{List, [], _∷_, _++_}
 use Prim.Native.Nat.{ℕ, suc, max, _+_, _*_, _≤_, _<_}
-use native.Mathlib.Nat.{mul-le-mul-right, suc-mul}
+use native.Mathlib.Nat.{mul-le-mul-right, suc-mul, zero-mul}
 use native.Mathlib.Numerals.{add-one}
 use native.Mathlib.Omega.{arith}
 use lib.ListN.{length, getD, drop}
@@ -19,7 +19,7 @@ use Rattle.stages.specs.Stage.{Ready, StageDone, answerOf, InSlot}
 use Rattle.stages.specs.declared.stage.Limits.{Limits}
 use Rattle.stages.specs.declared.stage.Staged.{Staged}
 use Rattle.stages.specs.declared.stage.Staged.the-variants.{TooManySets, TooManyStates}
-use Rattle.evaluate.specs.Stack.{needs, slotAt, Below, slot-same, slot-below}
+use Rattle.evaluate.specs.Stack.{needs, slotAt, Below, fills, slot-same, slot-below}
 use Rattle.evaluate.specs.Operand.{operandIn, OperandReady, Shelves, Bringing, Brought, copied, written-aside}
 use Rattle.evaluate.specs.declared.Layout.{Layout}
 use Rattle.evaluate.specs.declared.code.Source.{Source}
@@ -67,6 +67,11 @@ lent-kept L a b c d = record {
 -- a slot of the stack ends in it
 pub slot-room : {l : Layout} {m : ℕ} {stack rows table work : List ℕ} → Lent l m stack rows table work → (i : ℕ) → i < tallest → i * l .size + l .size ≤ length stack
 slot-room {l} L i h = omega (arith, L .stackLong, mul-le-mul-right {m = suc i} {n = tallest} (l .size) h, suc-mul i (l .size))
+
+-- the columns are counted
+pub lent-columns : {l : Layout} {m : ℕ} {stack rows table work : List ℕ} → Lent l m stack rows table work → m + 1 ≤ length stack
+lent-columns {l} {m} L =
+    omega (arith, slot-room L 0 (omega arith), L .slot, L .states .0, mul-le-mul-right {m = 1} {n = l .states} (suc m) (omega (arith, L .states .0)), suc-mul 0 (suc m), zero-mul (suc m), zero-mul (l .size))
 
 -- An operation on the machines of two slots of the stack.
 pub record Applying (l : Layout) (m left right : ℕ) (stack rows table work : List ℕ) : Type 0 where
@@ -144,6 +149,11 @@ pub record Besides (l : Layout) (ls first second registers : List ℕ) (x : Sour
 pub double-room : {l : Layout} {m top : ℕ} {stack rows table work : List ℕ} → Doubling l m top stack rows table work → top * l .size + l .size + l .size ≤ length stack
 double-room {l} {m} {top} D = omega (arith, D .lent .stackLong, mul-le-mul-right {m = suc (suc top)} {n = tallest} (l .size) (omega (arith, D .low)), suc-mul top (l .size), suc-mul (suc top) (l .size))
 
+-- what raising the top asks
+pub raise-asks : {l : Layout} {m top : ℕ} {stack rows table work : List ℕ} → Doubling l m top stack rows table work
+    → Slot (l .states) (m + 1) (drop (top * l .size) stack) × ((needs (l .states) (m + 1) ≤ l .size) × (top * l .size + l .size + l .size ≤ length stack))
+raise-asks {l} {m} {top} D = rw (add-one m) (D .slot, (D .lent .slot, double-room D))
+
 -- The slot above holds the top too, and nothing before it is changed.
 pub record Raised (l : Layout) (m top : ℕ) (s t : List ℕ) : Type 0 where
   pub holds : Holds (l .states) (suc m) (drop ((top + 1) * l .size) t) (slotAt (l .states) (suc m) (l .size) s top)
@@ -153,10 +163,10 @@ next-place : (top size : ℕ) → top * size + size ≡ (top + 1) * size
 next-place top size = rw (add-one top) (omega (arith, suc-mul top size))
 
 pub raised : {l : Layout} {m top : ℕ} {s rows table work : List ℕ} → Doubling l m top s rows table work → (t : List ℕ)
-    → Written s t (top * l .size + l .size) (l .size) (λ i. getD s (top * l .size + i) 0) → Raised l m top s t
+    → Written s t (top * l .size + l .size) (fills (l .states) (m + 1) (drop (top * l .size) s)) (λ i. getD s (top * l .size + i) 0) → Raised l m top s t
 raised {l} {m} {top} {s} D t W = record {
   holds = subst (λ p. Holds (l .states) (suc m) (drop p t) (slotAt (l .states) (suc m) (l .size) s top)) (next-place top (l .size))
-      (copied s (top * l .size) s t (top * l .size + l .size) (l .size) (D .lent .slot) (double-room D) (D .slot) W);
+      (copied s (top * l .size) s t (top * l .size + l .size) (omega (arith, double-room D, D .lent .slot)) (D .slot) (rw (add-one m) at W));
   below = subst (λ p. Below p s t) (next-place top (l .size)) (aside-below (written-aside W));
 }
 

@@ -1,7 +1,7 @@
 -- What bringing an operand into a slot asks, and what the slot then holds.
 use mathlib.Core.Path.{_≡_, refl, sym, ap, _∙_, subst}
 use mathlib.Core.Bool.{cond}
-use mathlib.Core.Logic.{_≢_}
+use mathlib.Core.Logic.{_⊎_, inl, inr, _≢_}
 use mathlib.Core.List.{List, _++_}
 use Prim.Native.Nat.{ℕ, zero, suc, _+_, _*_, _-_, _≤_, _<_}
 use native.Mathlib.Omega.{arith}
@@ -18,7 +18,7 @@ use Rattle.automata.specs.Given.{letterMachine, emptyMachine, allMachine, dotMa
 use Rattle.language.specs.Evaluate.{column}
 use Rattle.stages.specs.Slot.{Slot, slotMachine, Holds, Written}
 use Rattle.stages.specs.Keep.{Aside, part-at}
-use Rattle.evaluate.specs.Stack.{needs, slotAt, slot-same}
+use Rattle.evaluate.specs.Stack.{needs, slotAt, fills, fills-most, slot-filled, slot-same}
 use Rattle.evaluate.specs.Codes.{givenOf}
 use Rattle.evaluate.specs.declared.Layout.{Layout}
 use Rattle.evaluate.specs.declared.code.Source.{Source}
@@ -71,10 +71,18 @@ pub record Brought (l : Layout) (ls first second registers s t : List ℕ) (i : 
 pub written-aside : {s t : List ℕ} {at len : ℕ} {f : ℕ → ℕ} → Written s t at len f → Aside at len s t
 written-aside W = record { long = W .long; same = λ j h. W .there j h }
 
--- A slot that is copied holds the same machine.
-pub copied : {most k : ℕ} (src : List ℕ) (from : ℕ) (s t : List ℕ) (at size : ℕ) → needs most k ≤ size → at + size ≤ length s → Slot most k (drop from src)
-    → Written s t at size (λ i. getD src (from + i) 0) → Holds most k (drop at t) (slotMachine most k (drop from src))
-copied src from s t at size h l S W = slot-same src t from at S (omega (arith, W .long)) (λ i b. W .here i (omega arith))
+-- no more than so many entries
+pub written-within : {s t : List ℕ} {at len : ℕ} {f : ℕ → ℕ} (size : ℕ) → len ≤ size → Written s t at len f → Aside at size s t
+written-within {s} {t} {at} {len} size h W = record { long = W .long; same = λ j b. W .there j (out j b) }
+  where
+    out : (j : ℕ) → (j < at) ⊎ (at + size ≤ j) → (j < at) ⊎ (at + len ≤ j)
+    out j (inl b) = inl b
+    out j (inr b) = inr (omega arith)
+
+-- A slot that is copied as far as its machine goes holds the same machine.
+pub copied : {most k : ℕ} (src : List ℕ) (from : ℕ) (s t : List ℕ) (at : ℕ) → at + needs most k ≤ length s → Slot most k (drop from src)
+    → Written s t at (fills most k (drop from src)) (λ i. getD src (from + i) 0) → Holds most k (drop at t) (slotMachine most k (drop from src))
+copied src from s t at l S W = slot-filled src t from at S (omega (arith, fills-most S, W .long)) (λ i b. W .here i b)
 
 -- A slot that is written as a part holds what the part does.
 pub lent : {most k : ℕ} {M : Machine} (ys s t : List ℕ) (at size : ℕ) → needs most k ≤ size → at + size ≤ length s → Holds most k ys M
@@ -125,12 +133,24 @@ module _ {l : Layout} {ls first second registers s : List ℕ} {i : ℕ} {x : So
       → Brought l ls first second registers s (part ys) i x
   brought-given g ys e h H = from-part ys h (subst (λ x. Holds (l .states) k ys (operandIn l ls first second registers x)) (sym e) H)
 
-  -- copied from a slot elsewhere
+  -- the columns are counted
+  pub columns-fit : length ls + 1 ≤ length s
+  columns-fit = omega (arith, few, B .shelves .slot, B .room)
+
+  slot-fits : at + needs (l .states) k ≤ length s
+  slot-fits = omega (arith, B .room, B .shelves .slot)
+
+  -- what copying from a slot elsewhere asks
+  copy-asks : (src : List ℕ) (from : ℕ) → Slot (l .states) k (drop from src) → Slot (l .states) (length ls + 1) (drop from src) × (at + needs (l .states) (length ls + 1) ≤ length s)
+  copy-asks src from S = rw (add-one (length ls)) (S, slot-fits)
+
+  -- and what it leaves
   from-slot : (src : List ℕ) (from : ℕ) (t : List ℕ) → Slot (l .states) k (drop from src) → slotMachine (l .states) k (drop from src) ≡ operandIn l ls first second registers x
-      → Written s t at (l .size) (λ j. getD src (from + j) 0) → Brought l ls first second registers s t i x
-  from-slot src from t S e W =
-      let H = copied src from s t at (l .size) (B .shelves .slot) (B .room) S W in
-      record { holds = record { slot = H .slot; machine = H .machine ∙ e }; aside = written-aside W }
+      → Written s t at (fills (l .states) (length ls + 1) (drop from src)) (λ j. getD src (from + j) 0) → Brought l ls first second registers s t i x
+  from-slot src from t S e W′ =
+      let W : Written s t at (fills (l .states) k (drop from src)) (λ j. getD src (from + j) 0) = rw (add-one (length ls)) at W′ in
+      let H = copied src from s t at slot-fits S W in
+      record { holds = record { slot = H .slot; machine = H .machine ∙ e }; aside = written-within (l .size) (omega (arith, fills-most S, B .shelves .slot)) W }
 
   name-ready : (b : ℕ) → x ≡ Name b → (65 ≤ b) × (b ≤ 90) × Slot (l .states) k (nameSlot (l .size) first second b)
   name-ready b e = subst (OperandReady l k first second registers) e (B .ready)
@@ -145,14 +165,28 @@ module _ {l : Layout} {ls first second registers s : List ℕ} {i : ℕ} {x : So
       let r = name-ready b e .1 in
       (h, omega (arith, mul-le-mul-right {m = suc (b - 78)} {n = 13} (l .size) (omega arith), suc-mul (b - 78) (l .size), B .shelves .secondLong))
 
-  pub brought-low : (b : ℕ) (t : List ℕ) → x ≡ Name b → b ≤ 77 → Written s t at (l .size) (λ j. getD first ((b - 65) * l .size + j) 0) → Brought l ls first second registers s t i x
+  low-slot : (b : ℕ) → x ≡ Name b → b ≤ 77 → Slot (l .states) k (drop ((b - 65) * l .size) first)
+  low-slot b e h = subst (λ z. Slot (l .states) k (choose z (λ _. drop ((b - 65) * l .size) first) (λ _. drop ((b - 78) * l .size) second))) (le-leb b 77 h) (name-ready b e .2)
+
+  high-slot : (b : ℕ) → x ≡ Name b → 77 < b → Slot (l .states) k (drop ((b - 78) * l .size) second)
+  high-slot b e h = subst (λ z. Slot (l .states) k (choose z (λ _. drop ((b - 65) * l .size) first) (λ _. drop ((b - 78) * l .size) second))) (lt-leb b 77 h) (name-ready b e .2)
+
+  pub low-asks : (b : ℕ) → x ≡ Name b → b ≤ 77 → Slot (l .states) (length ls + 1) (drop ((b - 65) * l .size) first) × (at + needs (l .states) (length ls + 1) ≤ length s)
+  low-asks b e h = copy-asks first ((b - 65) * l .size) (low-slot b e h)
+
+  pub high-asks : (b : ℕ) → x ≡ Name b → 77 < b → Slot (l .states) (length ls + 1) (drop ((b - 78) * l .size) second) × (at + needs (l .states) (length ls + 1) ≤ length s)
+  high-asks b e h = copy-asks second ((b - 78) * l .size) (high-slot b e h)
+
+  pub brought-low : (b : ℕ) (t : List ℕ) → x ≡ Name b → b ≤ 77
+      → Written s t at (fills (l .states) (length ls + 1) (drop ((b - 65) * l .size) first)) (λ j. getD first ((b - 65) * l .size + j) 0) → Brought l ls first second registers s t i x
   brought-low b t e h W =
-      from-slot first ((b - 65) * l .size) t (subst (λ z. Slot (l .states) k (choose z (λ _. drop ((b - 65) * l .size) first) (λ _. drop ((b - 78) * l .size) second))) (le-leb b 77 h) (name-ready b e .2))
+      from-slot first ((b - 65) * l .size) t (low-slot b e h)
       (ap (λ z. slotMachine (l .states) k (choose z (λ _. drop ((b - 65) * l .size) first) (λ _. drop ((b - 78) * l .size) second))) (sym (le-leb b 77 h)) ∙ ap (operandIn l ls first second registers) (sym e)) W
 
-  pub brought-high : (b : ℕ) (t : List ℕ) → x ≡ Name b → 77 < b → Written s t at (l .size) (λ j. getD second ((b - 78) * l .size + j) 0) → Brought l ls first second registers s t i x
+  pub brought-high : (b : ℕ) (t : List ℕ) → x ≡ Name b → 77 < b
+      → Written s t at (fills (l .states) (length ls + 1) (drop ((b - 78) * l .size) second)) (λ j. getD second ((b - 78) * l .size + j) 0) → Brought l ls first second registers s t i x
   brought-high b t e h W =
-      from-slot second ((b - 78) * l .size) t (subst (λ z. Slot (l .states) k (choose z (λ _. drop ((b - 65) * l .size) first) (λ _. drop ((b - 78) * l .size) second))) (lt-leb b 77 h) (name-ready b e .2))
+      from-slot second ((b - 78) * l .size) t (high-slot b e h)
       (ap (λ z. slotMachine (l .states) k (choose z (λ _. drop ((b - 65) * l .size) first) (λ _. drop ((b - 78) * l .size) second))) (sym (lt-leb b 77 h)) ∙ ap (operandIn l ls first second registers) (sym e)) W
 
   register-ready : (j : ℕ) → x ≡ Register j → (j < 3) × Slot (l .states) k (drop (j * l .size) registers)
@@ -161,7 +195,11 @@ module _ {l : Layout} {ls first second registers s : List ℕ} {i : ℕ} {x : So
   pub register-room : (j : ℕ) → x ≡ Register j → j * l .size + l .size ≤ length registers
   register-room j e = omega (arith, mul-le-mul-right {m = suc j} {n = 3} (l .size) (register-ready j e .0), suc-mul j (l .size), B .shelves .registersLong)
 
-  pub brought-register : (j : ℕ) (t : List ℕ) → x ≡ Register j → Written s t at (l .size) (λ n. getD registers (j * l .size + n) 0) → Brought l ls first second registers s t i x
+  pub register-asks : (j : ℕ) → x ≡ Register j → Slot (l .states) (length ls + 1) (drop (j * l .size) registers) × (at + needs (l .states) (length ls + 1) ≤ length s)
+  register-asks j e = copy-asks registers (j * l .size) (register-ready j e .1)
+
+  pub brought-register : (j : ℕ) (t : List ℕ) → x ≡ Register j
+      → Written s t at (fills (l .states) (length ls + 1) (drop (j * l .size) registers)) (λ n. getD registers (j * l .size + n) 0) → Brought l ls first second registers s t i x
   brought-register j t e W = from-slot registers (j * l .size) t (register-ready j e .1) (ap (operandIn l ls first second registers) (sym e)) W
 
 -- ---- the place of a letter, looked for from the front

@@ -12,11 +12,26 @@ use Rattle.automata.specs.Basics.{LtCases, lt-cases}
 use Rattle.automata.specs.Machine.{Machine}
 use Rattle.automata.specs.Table.{ClosedTable, tableMachine}
 use Rattle.explore.specs.Rows.{numberAt}
-use Rattle.stages.specs.Slot.{Slot, slotMachine, Holds, table-same}
+use Rattle.stages.specs.Slot.{Slot, slotMachine, Holds, table-same, slot-cells, slot-ends as slot-length, number-drop}
 
 -- the bytes that a slot needs for any machine that is kept
 abbrev pub needs : ℕ → ℕ → ℕ
 needs most k = 2 + (most + most * k)
+
+-- the bytes of a slot that its machine fills
+abbrev pub fills : ℕ → ℕ → List ℕ → ℕ
+fills most k s = 2 + (most + numberAt s 0 * k)
+
+pub fills-most : {most k : ℕ} {s : List ℕ} → Slot most k s → fills most k s ≤ needs most k
+fills-most S = omega (arith, slot-cells S)
+
+-- As code counts them, by the number of states that it reads.
+pub counted : {most k : ℕ} (s : List ℕ) (at n : ℕ) → Slot most k (drop at s) → n ≡ numberAt s at
+    → (2 + (most + n * k) ≡ fills most k (drop at s)) × (2 + (most + n * k) ≤ needs most k) × (at + 2 + (most + n * k) ≤ length s)
+counted {most} {k} s at n S e =
+    let z : n ≡ numberAt (drop at s) 0 = e ∙ number-drop s at in
+    let w : 2 + (most + n * k) ≡ fills most k (drop at s) = ap (λ n. 2 + (most + n * k)) z in
+    (w, omega (arith, fills-most S), slot-length s at S n z)
 
 -- the machine in the slot of a number
 abbrev pub slotAt : ℕ → ℕ → ℕ → List ℕ → ℕ → Machine
@@ -38,23 +53,27 @@ pub record Below (n : ℕ) (s t : List ℕ) : Type 0 where
 
 -- ---- the same bytes hold the same machine
 
-module _ {most k : ℕ} (s t : List ℕ) (a b : ℕ) (S : Slot most k (drop a s)) (room : b + needs most k ≤ length t)
-    (same : (i : ℕ) → i < needs most k → getD t (b + i) 0 ≡ getD s (a + i) 0) where
-  at : (i : ℕ) → i < needs most k → getD (drop b t) i 0 ≡ getD (drop a s) i 0
+module _ {most k : ℕ} (s t : List ℕ) (a b : ℕ) (S : Slot most k (drop a s)) (room : b + fills most k (drop a s) ≤ length t)
+    (same : (i : ℕ) → i < fills most k (drop a s) → getD t (b + i) 0 ≡ getD s (a + i) 0) where
+  at : (i : ℕ) → i < fills most k (drop a s) → getD (drop b t) i 0 ≡ getD (drop a s) i 0
   at i h = getD-drop b t i 0 ∙ same i h ∙ sym (getD-drop a s i 0)
 
   count : numberAt (drop b t) 0 ≡ numberAt (drop a s) 0
   count = ap₂ (λ x y. x + 256 * y) (at 0 (omega arith)) (at 1 (omega arith))
 
-  pub slot-same : Holds most k (drop b t) (slotMachine most k (drop a s))
+  pub slot-filled : Holds most k (drop b t) (slotMachine most k (drop a s))
   unfolding slotMachine
-  slot-same =
+  slot-filled =
       let n = numberAt (drop a s) 0 in
       let C : ClosedTable most n k (drop 2 (drop a s)) = S .closed in
-      let z : n * k ≤ most * k = mul-le-mul-right {m = n} {n = most} k (C .flags) in
       let (c, m) = table-same most n k (drop 2 (drop a s)) (drop 2 (drop b t)) C (omega (arith, length-drop 2 (drop b t), length-drop b t))
       (λ i h. getD-drop 2 (drop a s) i 0 ∙ sym (at (2 + i) (omega arith)) ∙ sym (getD-drop 2 (drop b t) i 0)) in
       record { slot = record { closed = rw count c }; machine = ap (λ n. tableMachine most n k (drop 2 (drop b t))) count ∙ sym m }
+
+-- so do all bytes of a slot
+pub slot-same : {most k : ℕ} (s t : List ℕ) (a b : ℕ) → Slot most k (drop a s) → b + needs most k ≤ length t
+    → ((i : ℕ) → i < needs most k → getD t (b + i) 0 ≡ getD s (a + i) 0) → Holds most k (drop b t) (slotMachine most k (drop a s))
+slot-same s t a b S room same = slot-filled s t a b S (omega (arith, fills-most S)) (λ i h. same i (omega (arith, fills-most S)))
 
 -- ---- what is below a change stays
 

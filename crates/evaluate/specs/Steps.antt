@@ -22,9 +22,9 @@ use Rattle.stages.specs.Slot.{Slot, slotMachine, Holds, Written}
 use Rattle.stages.specs.Keep.{Aside}
 use Rattle.stages.specs.Operate.{operate}
 use Rattle.evaluate.specs.Execute.{Store, Ran, ran, failed, stuck, pushMade, withOne, withTwo, step}
-use Rattle.evaluate.specs.Stack.{needs, slotAt, Slots, machines, slot-same, slots-below, slots-less, slots-more, machines-below}
+use Rattle.evaluate.specs.Stack.{needs, slotAt, Slots, machines, fills, fills-most, slot-same, slots-below, slots-less, slots-more, machines-below}
 use Rattle.evaluate.specs.Codes.{operandOf, stored, stepAs, SourceIn, Sorted}
-use Rattle.evaluate.specs.Operand.{nameSlot, operandIn, OperandReady, Shelves, Bringing, Brought, copied, written-aside}
+use Rattle.evaluate.specs.Operand.{nameSlot, operandIn, OperandReady, Shelves, Bringing, Brought, copied, written-within}
 use Rattle.evaluate.specs.Apply.{formatOf, greatest, tallest, Lent, slot-room, Applying, Makes, Doubling, Besides, aside-below}
 use Rattle.evaluate.specs.declared.Layout.{Layout}
 use Rattle.evaluate.specs.declared.code.Source.{Source}
@@ -316,6 +316,13 @@ module _ {l : Layout} {ls first second registers : List ℕ} {c sp : ℕ} {stack
     pub store-to : (i : ℕ) → r ≡ Storing i → i * l .size + l .size ≤ length registers
     store-to i e = register-ends i (store-in i e .1)
 
+    register-fits : (i : ℕ) → r ≡ Storing i → i * l .size + needs (l .states) k ≤ length registers
+    register-fits i e = omega (arith, store-to i e, S .lent .slot)
+
+    -- what storing the top asks
+    pub store-asks : (i : ℕ) → r ≡ Storing i → 1 ≤ sp → Slot (l .states) (m + 1) (drop ((sp - 1) * l .size) stack) × (i * l .size + needs (l .states) (m + 1) ≤ length registers)
+    store-asks i e h = rw (add-one m) (top-slot h, register-fits i e)
+
     -- another register
     other : (i j : ℕ) → i < 3 → j < 3 → (j < i) ⊎ (i < j) → {regs : List ℕ} → Aside (i * l .size) (l .size) registers regs → Holds (l .states) k (drop (j * l .size) regs) (slotAt (l .states) k (l .size) registers j)
     other i j hi hj w {regs} A =
@@ -325,23 +332,26 @@ module _ {l : Layout} {ls first second registers : List ℕ} {c sp : ℕ} {stack
         away n v (inl b) = inl (omega (arith, mul-le-mul-right {m = suc j} {n = i} (l .size) b, suc-mul j (l .size), S .lent .slot))
         away n v (inr b) = inr (omega (arith, mul-le-mul-right {m = suc i} {n = j} (l .size) b, suc-mul i (l .size)))
 
-    pub store-steps : (i : ℕ) → r ≡ Storing i → 1 ≤ sp → {regs : List ℕ} → Written registers regs (i * l .size) (l .size) (λ j. getD stack ((sp - 1) * l .size + j) 0)
+    pub store-steps : (i : ℕ) → r ≡ Storing i → 1 ≤ sp → {regs : List ℕ} → Written registers regs (i * l .size) (fills (l .states) (m + 1) (drop ((sp - 1) * l .size) stack)) (λ j. getD stack ((sp - 1) * l .size + j) 0)
         → Steps l ls first second c sp registers stack regs stack (Next (sp - 1) 0)
-    store-steps i e h {regs} W = record {
+    store-steps i e h {regs} W′ = record {
       gives = λ env N. ([], refl, E .steps (formatOf l) ls env (bookIn l m registers) s ∙ ap (λ ms. withOne ms λ A rest. ran [] (stored s i A rest)) (one-top sp h) ∙ ap (ran []) (saved i (store-in i e .0) (store-in i e .1) A H));
       stands = (sym (E .behind sp), slots-less (sp - 1) (omega arith) (S .slots));
-      shelved = record { held = record { held = held i (store-in i e .1) A H }; book = other i 0 (store-in i e .1) (omega arith) (inl (omega (arith, store-in i e .0))) A .machine; long = W .long };
+      shelved = record { held = record { held = held i (store-in i e .1) A H }; book = other i 0 (store-in i e .1) (omega arith) (inl (omega (arith, store-in i e .0))) A .machine; long = W′ .long };
       long = refl;
     }
       where
         E : Sorted c (Storing i)
         E = subst (Sorted c) e D
 
+        W : Written registers regs (i * l .size) (fills (l .states) k (drop ((sp - 1) * l .size) stack)) (λ j. getD stack ((sp - 1) * l .size + j) 0)
+        W = rw (add-one m) at W′
+
         A : Aside (i * l .size) (l .size) registers regs
-        A = written-aside W
+        A = written-within (l .size) (omega (arith, fills-most (top-slot h), S .lent .slot)) W
 
         H : Holds (l .states) k (drop (i * l .size) regs) (slotAt (l .states) k (l .size) stack (sp - 1))
-        H = copied stack ((sp - 1) * l .size) registers regs (i * l .size) (l .size) (S .lent .slot) (store-to i e) (top-slot h) W
+        H = copied stack ((sp - 1) * l .size) registers regs (i * l .size) (register-fits i e) (top-slot h) W
 
         held : (i : ℕ) → i < 3 → Aside (i * l .size) (l .size) registers regs → Holds (l .states) k (drop (i * l .size) regs) (slotAt (l .states) k (l .size) stack (sp - 1))
             → (j : ℕ) → j < 3 → Slot (l .states) k (drop (j * l .size) regs)

@@ -89,7 +89,7 @@ pub fn beside(
     ensures { λ r. ⌜ Makes l (length (now (letters .entry))) top (now (stack .entry)) (now (stack .exit)) r (operate (formatOf l) (length (now (letters .entry))) (operationOf op) (operandIn l (now (letters .entry)) (now (first .entry)) (now (second .entry)) (now (registers .entry)) source) (slotAt (l .states) (suc (length (now (letters .entry)))) (l .size) (now (stack .entry)) top)) ⌝ }
 {
     let size = l.size;
-    slots::raise(stack, top * size, size);
+    slots::raise(stack, top * size, size, l.states, letters.len() + 1);
     operand::bring(source, l, letters, first, second, registers, stack, top);
     apply(op, letters.len(), l, top, top + 1, stack, rows, table, work)
 }
@@ -108,7 +108,7 @@ pub fn plus(
     ensures { λ r. ⌜ Makes l m top (now (stack .entry)) (now (stack .exit)) r (thenMade (starStage (formatOf l) (suc m) (slotAt (l .states) (suc m) (l .size) (now (stack .entry)) top)) λ B. concatStage (formatOf l) (suc m) (slotAt (l .states) (suc m) (l .size) (now (stack .entry)) top) B) ⌝ }
 {
     let size = l.size;
-    slots::raise(stack, top * size, size);
+    slots::raise(stack, top * size, size, l.states, m + 1);
     match apply(4, m, l, top + 1, top + 1, stack, rows, table, work) {
         Stepped::Next(_h, n) => match apply(3, m, l, top, top + 1, stack, rows, table, work) {
             Stepped::Next(h, q) => Stepped::Next(h, greater(n, q)),

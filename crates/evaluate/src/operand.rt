@@ -59,6 +59,7 @@ pub fn bring(
     let at = i * size;
     let end = at + size;
     let m = letters.len();
+    let k = m + 1;
     match source {
         Source::Letter(b) => {
             let c = column_of(letters, b);
@@ -66,16 +67,16 @@ pub fn bring(
         }
         Source::Name(b) => {
             if b <= 77 {
-                slots::copy(first, (b - 65) as usize * size, stack, at, size);
+                slots::copy(first, (b - 65) as usize * size, stack, at, most, k);
             } else {
-                slots::copy(second, (b - 78) as usize * size, stack, at, size);
+                slots::copy(second, (b - 78) as usize * size, stack, at, most, k);
             }
         }
         Source::Given(g) => {
             given(g, most, m, &mut stack[at..end]);
         }
         Source::Register(j) => {
-            slots::copy(registers, j * size, stack, at, size);
+            slots::copy(registers, j * size, stack, at, most, k);
         }
     }
 }

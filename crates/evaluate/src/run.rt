@@ -80,7 +80,14 @@ fn step(
             if sp < 1 {
                 return Stepped::Stuck;
             }
-            slots::copy(&stack[..], (sp - 1) * size, registers, i * size, size);
+            slots::copy(
+                &stack[..],
+                (sp - 1) * size,
+                registers,
+                i * size,
+                l.states,
+                letters.len() + 1,
+            );
             Stepped::Next(sp - 1, 0)
         }
         Sort::Unknown => Stepped::Stuck,

@@ -1,6 +1,6 @@
 use mathlib.Core.Path.{refl}
 use native.Mathlib.Omega.{arith}
-use Rattle.evaluate.specs.Apply.{double-room, raised, beside-bring, beside-apply, beside-makes}
+use Rattle.evaluate.specs.Apply.{lent-columns, double-room, raise-asks, raised, beside-bring, beside-apply, beside-makes}
 use borrow.Author.Needs.{needs}
 use Rattle.evaluate.proofs.apply.beside.Statement.{statement}
 use Rattle.evaluate.proofs.apply.beside.Tie as tie
@@ -8,8 +8,11 @@ use Rattle.evaluate.proofs.apply.beside.Tie as tie
 mul-raise : tie.Need-mul-raise
 mul-raise c = omega (arith, double-room (c .before .before .before .before .before .before .before .before .before .pre .doubling))
 
+add-raise : tie.Need-add-raise
+add-raise c = omega (arith, lent-columns (c .before .before .before .before .before .before .before .before .before .pre .doubling .lent))
+
 raise-requires : tie.Need-raise-requires
-raise-requires c κs = double-room (c .before .before .before .before .before .before .before .before .before .pre .doubling)
+raise-requires c κs = raise-asks (c .before .before .before .before .before .before .before .before .before .pre .doubling)
 
 bring-requires : tie.Need-bring-requires
 bring-requires c κs = beside-bring (c .before .before .before .before .before .before .before .before .before .before .before .before .before .pre) (raised (c .before .before .before .before .before .before .before .before .before .before .before .before .before .pre .doubling) _ (c .before .before .before .raise .ensures))
@@ -25,6 +28,7 @@ beside-spec =
     tie.close
     (tie.spec
     mul-raise
+    add-raise
     raise-requires
     bring-requires
     (λ c. search needs)

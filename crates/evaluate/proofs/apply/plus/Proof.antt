@@ -1,6 +1,6 @@
 use mathlib.Core.Path.{_∙_}
 use native.Mathlib.Omega.{arith}
-use Rattle.evaluate.specs.Apply.{double-room, raised, plus-first, plus-second, plus-both, plus-refused, plus-refused-2, plus-stuck, plus-stuck-2}
+use Rattle.evaluate.specs.Apply.{lent-columns, double-room, raise-asks, raised, plus-first, plus-second, plus-both, plus-refused, plus-refused-2, plus-stuck, plus-stuck-2}
 use borrow.Author.Needs.{needs}
 use Rattle.evaluate.proofs.apply.plus.Statement.{statement}
 use Rattle.evaluate.proofs.apply.plus.Tie as tie
@@ -8,8 +8,11 @@ use Rattle.evaluate.proofs.apply.plus.Tie as tie
 mul-raise : tie.Need-mul-raise
 mul-raise c = omega (arith, double-room (c .before .before .before .before .before .pre))
 
+add-raise : tie.Need-add-raise
+add-raise c = omega (arith, lent-columns (c .before .before .before .before .before .pre .lent))
+
 raise-requires : tie.Need-raise-requires
-raise-requires c κs = double-room (c .before .before .before .before .before .pre)
+raise-requires c κs = raise-asks (c .before .before .before .before .before .pre)
 
 apply-requires : tie.Need-apply-requires
 apply-requires c κs = plus-first (c .before .before .before .before .before .before .before .before .before .before .before .before .pre) (raised (c .before .before .before .before .before .before .before .before .before .before .before .before .pre) _ (c .before .before .before .before .before .before .raise .ensures))
@@ -40,6 +43,7 @@ plus-spec =
     tie.close
     (tie.spec
     mul-raise
+    add-raise
     raise-requires
     (λ c. search needs)
     (λ c. search needs)

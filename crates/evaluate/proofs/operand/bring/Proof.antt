@@ -1,8 +1,11 @@
 use native.Mathlib.Omega.{arith}
-use Rattle.evaluate.specs.Operand.{part-long, part-writable, column-most, brought-letter, brought-given, brought-low, brought-high, brought-register, low-room, high-room, register-room}
+use Rattle.evaluate.specs.Operand.{part-long, part-writable, column-most, brought-letter, brought-given, brought-low, brought-high, brought-register, low-room, high-room, register-room, columns-fit, low-asks, high-asks, register-asks}
 use borrow.Author.Needs.{needs}
 use Rattle.evaluate.proofs.operand.bring.Statement.{statement}
 use Rattle.evaluate.proofs.operand.bring.Tie as tie
+
+add-k : tie.Need-add-k
+add-k c = omega (arith, columns-fit (c .before .before .before .before .before .pre))
 
 letter-requires : tie.Need-letter-requires
 letter-requires c κs = ((c .before .before .before .before .before .before .before .before .before .before .pre .shelves .states, part-long (c .before .before .before .before .before .before .before .before .before .before .pre)), column-most (c .before .before .before .before .before .before .before .before .before .before .args .letters .now) (c .before .before .before .source .given .0 .0) _ (c .before .column-of .ensures))
@@ -14,13 +17,13 @@ mul-copy : tie.Need-mul-copy
 mul-copy c = omega (arith, low-room (c .before .before .before .before .before .before .before .before .before .pre) _ (c .before .before .source2 .given .1) (c .if1 .taken))
 
 copy-requires : tie.Need-copy-requires
-copy-requires c κs = (low-room (c .before .before .before .before .before .before .before .before .before .before .pre) _ (c .before .before .before .source2 .given .1) (c .before .if1 .taken) .1, c .before .before .before .before .before .before .before .before .before .before .pre .room)
+copy-requires c κs = low-asks (c .before .before .before .before .before .before .before .before .before .before .pre) _ (c .before .before .before .source2 .given .1) (c .before .if1 .taken)
 
 mul-copy-2 : tie.Need-mul-copy-2
 mul-copy-2 c = omega (arith, high-room (c .before .before .before .before .before .before .before .before .before .pre) _ (c .before .before .source2 .given .1) (c .if1 .left))
 
 copy-requires-2 : tie.Need-copy-requires-2
-copy-requires-2 c κs = (high-room (c .before .before .before .before .before .before .before .before .before .before .pre) _ (c .before .before .before .source2 .given .1) (c .before .if1 .left) .1, c .before .before .before .before .before .before .before .before .before .before .pre .room)
+copy-requires-2 c κs = high-asks (c .before .before .before .before .before .before .before .before .before .before .pre) _ (c .before .before .before .source2 .given .1) (c .before .if1 .left)
 
 given-requires : tie.Need-given-requires
 given-requires c κs = part-writable (c .before .before .before .before .before .before .before .before .before .pre)
@@ -29,7 +32,7 @@ mul-copy-3 : tie.Need-mul-copy-3
 mul-copy-3 c = omega (arith, register-room (c .before .before .before .before .before .before .before .before .pre) _ (c .before .source4 .given .1))
 
 copy-requires-3 : tie.Need-copy-requires-3
-copy-requires-3 c κs = (register-room (c .before .before .before .before .before .before .before .before .before .pre) _ (c .before .before .source4 .given .1), c .before .before .before .before .before .before .before .before .before .pre .room)
+copy-requires-3 c κs = register-asks (c .before .before .before .before .before .before .before .before .before .pre) _ (c .before .before .source4 .given .1)
 
 returns : tie.Need-returns
 returns c = brought-letter (c .before .before .before .before .before .before .before .before .before .before .before .before .before .pre) _ _ _ (c .before .before .before .before .before .before .source .given .1) (c .before .before .before .before .column-of .ensures) (c .before .before .letter .kept .0) (c .before .before .letter .ensures)
@@ -52,6 +55,7 @@ bring-spec =
     (tie.spec
     (λ c. search needs)
     (λ c. search needs)
+    add-k
     (λ c. search needs)
     (λ c κs. search needs)
     (λ c. search needs)

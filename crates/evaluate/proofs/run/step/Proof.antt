@@ -1,5 +1,6 @@
 use native.Mathlib.Omega.{arith}
-use Rattle.evaluate.specs.Steps.{tall, push-bring, push-steps, top-low, top-stuck, top-apply, top-steps, beside-stuck, beside-ready, beside-steps, plus-stuck, plus-ready, plus-steps, unknown-steps, store-stuck, store-from, store-to, store-steps}
+use Rattle.evaluate.specs.Apply.{lent-columns}
+use Rattle.evaluate.specs.Steps.{tall, push-bring, push-steps, top-low, top-stuck, top-apply, top-steps, beside-stuck, beside-ready, beside-steps, plus-stuck, plus-ready, plus-steps, unknown-steps, store-stuck, store-from, store-to, store-asks, store-steps}
 use borrow.Author.Needs.{needs}
 use Rattle.evaluate.proofs.run.step.Statement.{statement}
 use Rattle.evaluate.proofs.run.step.Tie as tie
@@ -40,8 +41,11 @@ mul-copy c = omega (arith, store-from (c .before .before .before .before .before
 mul-copy-2 : tie.Need-mul-copy-2
 mul-copy-2 c = omega (arith, store-to (c .before .before .before .before .before .before .before .before .before .before .before .before .before .before .before .pre) (c .before .before .before .before .before .before .sort-of .ensures) _ (c .before .before .before .before .i .given .1))
 
+add-copy : tie.Need-add-copy
+add-copy c = omega (arith, lent-columns (c .before .before .before .before .before .before .before .before .before .before .before .before .before .before .before .pre .lent))
+
 copy-requires : tie.Need-copy-requires
-copy-requires c κs = (store-from (c .before .before .before .before .before .before .before .before .before .before .before .before .before .before .before .pre) (c .before .before .before .before .before .before .sort-of .ensures) (c .before .before .if4 .left), store-to (c .before .before .before .before .before .before .before .before .before .before .before .before .before .before .before .pre) (c .before .before .before .before .before .before .sort-of .ensures) _ (c .before .before .before .before .i .given .1))
+copy-requires c κs = store-asks (c .before .before .before .before .before .before .before .before .before .before .before .before .before .before .before .pre) (c .before .before .before .before .before .before .sort-of .ensures) _ (c .before .before .before .before .i .given .1) (c .before .before .if4 .left)
 
 returns-5 : tie.Need-returns-5
 returns-5 c = push-steps (c .before .before .before .before .before .before .before .before .before .before .before .before .before .before .before .before .before .pre) (c .before .before .before .before .before .before .before .before .sort-of .ensures) _ (c .before .before .before .before .before .before .source .given .1) (c .before .before .bring .ensures)
@@ -83,6 +87,7 @@ step-spec =
     returns-4
     mul-copy
     mul-copy-2
+    add-copy
     copy-requires
     (λ c. search needs)
     (λ c. search needs)
