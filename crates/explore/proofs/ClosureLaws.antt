@@ -107,7 +107,7 @@ module _ (l : List ℕ) (q : ℕ) (h : q < length l) where
       go (inl p) = inl (p .0)
       go (inr p) = inr (sym (other x (p .0)) ∙ e)
 
-  bits-set : Bits l → Bits (set l q 1)
+  pub bits-set : Bits l → Bits (set l q 1)
   bits-set b x = go (same-cases nat-test x q)
     where
       go : SameCases nat-test x q → getD (set l q 1) x 0 ≡ bit (flagAt (set l q 1) x)

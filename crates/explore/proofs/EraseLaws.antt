@@ -10,11 +10,13 @@ use borrow.Author.Tests.{eq-eqb, ne-eqb}
 use Rattle.explore.specs.Rows.{flagAt, leadsTo, someAccepting, operationOf, erase, eraseRows}
 use Rattle.explore.specs.Steps.{cell}
 use Rattle.explore.specs.Closure.{Closes, Chased, Gains}
+use Rattle.explore.specs.Members.{Lists, ledBy}
 use Rattle.explore.specs.Answer.{leftOf, rowsFor, Fits}
 use Rattle.explore.specs.declared.Shape.{Shape}
 use Rattle.explore.proofs.FlagLaws.{flags-none, flags-row}
 use Rattle.explore.proofs.TableLaws.{leads-step, some-same}
 use Rattle.explore.proofs.ClosureLaws.{gain-one, gain-same, gains-row}
+use Rattle.explore.proofs.MemberLaws.{listed-leads}
 
 module _ (s : Shape) (a b : List ℕ) (F : Fits s a b) (is : operationOf (s .op) ≡ erase) where
   pub erase-width : s .w ≡ s .na
@@ -40,14 +42,14 @@ module _ (s : Shape) (a b : List ℕ) (F : Fits s a b) (is : operationOf (s .op)
         let y : c ≡ s .k - 1 = omega arith in
         rw (is, eq-eqb c (s .k - 1) y) (flags-row {m = s .na} {f = λ t. false} (flags-none e))
 
-    pub erase-letter : (r : List ℕ) → Gains (cell (s .ba) (s .k) (s .k - 1) a) (s .na) (leadsTo (flagAt from) (cell (s .ba) (s .k) c a) (s .na)) r → (c + 1 ≡ s .k → ⊥)
-        → r ≡ rowsFor s a b .step from c
+    pub erase-letter : (members : List ℕ) (held : ℕ) → Lists (flagAt from) (s .na) held members → (r : List ℕ)
+        → Gains (cell (s .ba) (s .k) (s .k - 1) a) (s .na) (ledBy members (cell (s .ba) (s .k) c a) held) r → (c + 1 ≡ s .k → ⊥) → r ≡ rowsFor s a b .step from c
     unfolding eraseRows
-    erase-letter r G h =
+    erase-letter members held L r G h =
         let y : c ≡ s .k - 1 → ⊥ = λ q. h (omega (arith, F .columns)) in
         rw (is, ne-eqb c (s .k - 1) y)
         (gains-row (s .ba) (s .na) (s .k) a (F .left) (s .k - 1) mark r (leadsTo (flagAt from) (λ q. leftOf s a .step q c) (s .na))
-        (gain-same G (leads-step (s .ba) (s .na) (s .k) a (F .left) (flagAt from) c l)))
+        (gain-same G (λ x. listed-leads L (cell (s .ba) (s .k) c a) x ∙ leads-step (s .ba) (s .na) (s .k) a (F .left) (flagAt from) c l x)))
 
   pub erase-accepts : (from : List ℕ) (v : Bool) → v ≡ someAccepting (flagAt from) (flagAt a) (s .na) → v ≡ rowsFor s a b .accepting from
   unfolding eraseRows

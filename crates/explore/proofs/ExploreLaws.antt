@@ -1,5 +1,5 @@
 -- The loop over all transitions: what holds where it begins, on its way and at its end. Assumes nothing.
-use mathlib.Core.Path.{_≡_, sym, ap, _∙_}
+use mathlib.Core.Path.{_≡_, ap, _∙_}
 use mathlib.Core.List.{List}
 use Prim.Native.Nat.{ℕ, _+_, _*_, _-_, _≤_, _<_}
 use native.Mathlib.Nat.{mul-le-mul-right, suc-mul, zero-mul}
@@ -7,9 +7,10 @@ use native.Mathlib.Numerals.{add-one}
 use native.Mathlib.Omega.{arith}
 use lib.ListN.{length, getD, set, replicate, length-set, length-replicate}
 use Rattle.automata.specs.Stage.{MoreThan}
-use Rattle.explore.specs.Rows.{rowAt}
-use Rattle.explore.specs.Steps.{rowHash}
-use Rattle.explore.specs.Answer.{rowsFor, Fits, Room, Explores, Appended, AllRows, Partial, Turning, Turned, Flagging, Flagged}
+use Rattle.explore.specs.Rows.{rowAt, operationOf}
+use Rattle.explore.specs.Members.{Listing}
+use Rattle.explore.specs.Sums.{rowHash}
+use Rattle.explore.specs.Answer.{rowsFor, RowFits, Fits, Room, Explores, Appended, AllRows, Partial, Turning, Turned, Flagging, Flagged}
 use Rattle.explore.specs.declared.Shape.{Shape}
 use Rattle.explore.specs.declared.Explored.{Explored}
 use Rattle.explore.specs.declared.Explored.the-variants.{Sets, TooMany}
@@ -53,6 +54,9 @@ run-start s a b rows row table rows′ row′ table′ heads′ h E e y A x v l 
       (ap length eh ∙ length-set (replicate 1024 0) h 1 ∙ length-replicate {A = ℕ} 1024 0);
 }
 
+pub listing-kept : {s : Shape} {members : List ℕ} → Listing s members → (members′ : List ℕ) → length members′ ≡ length members → Listing s members′
+listing-kept L members′ e = record { left = omega (arith, L .left); right = omega (arith, L .right); small = omega (arith, L .small) }
+
 module _ (s : Shape) (a b rows row table heads : List ℕ) (count p c q : ℕ) (R : Running s a b rows row table heads count p c q) where
   module _ (h : p < count) where
     pub run-turning : Turning s a b rows row table heads count p c q
@@ -62,6 +66,13 @@ module _ (s : Shape) (a b rows row table heads : List ℕ) (count p c q : ℕ) (
       place = record { state = h; column = R .column; cell = R .cell };
       partial = R .partial;
     }
+
+    -- the row whose states are listed
+    pub run-source : (p * s .w + s .w ≤ length rows) × RowFits (operationOf (s .op)) (s .na) (s .nb) (rowAt (s .w) p rows)
+    run-source = (
+      omega (arith, row-within p (s .limit) (s .w) (omega (arith, R .partial .within)), R .room .rowsLong),
+      reach-fits s a b (R .fits) (rowAt (s .w) p rows) (R .partial .reached p h),
+    )
 
     -- fewer transitions than room was made for
     pub run-below : q < s .limit * s .k

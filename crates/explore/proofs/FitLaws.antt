@@ -3,13 +3,16 @@ use mathlib.Core.Path.{_≡_, refl, _∙_}
 use mathlib.Core.List.{List, [], _∷_}
 use Prim.Native.Nat.{ℕ, zero, suc, _+_, _*_, _-_, _/_, _%_, _≤_, _<_}
 use native.Mathlib.Omega.{arith}
-use lib.ListN.{replicate}
+use lib.ListN.{length, take, drop, replicate}
 use Rattle.automata.specs.Automaton.{Automaton, Over, run, Reachable}
 use Rattle.automata.specs.Table.{table-step}
-use Rattle.explore.specs.Rows.{numberAt, Operation, pairing, concatenation, star, erase, operationOf, rowsOf, pairRows, concatRows, starRows, eraseRows}
+use Rattle.explore.specs.Rows.{flagAt, rowWidth, numberAt, Operation, pairing, concatenation, star, erase, operationOf, rowsOf, pairRows, concatRows, starRows, eraseRows}
 use Rattle.explore.specs.Answer.{leftOf, rightOf, rowsFor, RowFits, Fits}
 use Rattle.explore.specs.declared.Shape.{Shape}
+use Rattle.explore.specs.Members.{Lists, Listed}
 use Rattle.explore.proofs.PairLaws.{pair-of}
+use Rattle.explore.proofs.ConcatLaws.{tail-flag}
+use Rattle.explore.proofs.MemberLaws.{lists-same}
 
 pub is-concatenation : (x : ℕ) → x ≡ 3 → operationOf x ≡ concatenation
 is-concatenation x e = rw e
@@ -64,3 +67,31 @@ reach-fits s a b F r (w, o, e) =
     (λ p c h b. rw (table-step (s .ba) (s .na) (s .k) a (F .left) p c h b) (F .left .inside p c h b))
     (λ p c h v. rw (table-step (s .bb) (s .nb) (s .k) b (F .right) p c h v) (F .right .inside p c h v))
     (operationOf (s .op))))
+
+-- ---- the states of a row, listed
+
+pub listed-pair : (x na nb held : ℕ) (r members : List ℕ) → x < 3 → Listed (operationOf x) na nb r held members
+listed-pair x na nb held r members h = rw (pair-of x h .1) tt
+
+-- star and erase have a flag for each state of A
+pub width-flags : (x na nb : ℕ) → 3 ≤ x → (x ≡ 3 → ⊥) → na ≤ rowWidth (operationOf x) na nb
+width-flags zero na nb h o = absurd (omega arith)
+width-flags (suc zero) na nb h o = absurd (omega arith)
+width-flags (suc (suc zero)) na nb h o = absurd (omega arith)
+width-flags (suc (suc (suc zero))) na nb h o = absurd (o refl)
+width-flags (suc (suc (suc (suc zero)))) na nb h o = omega arith
+width-flags (suc (suc (suc (suc (suc x))))) na nb h o = omega arith
+
+pub listed-flags : (x na nb held : ℕ) (r members : List ℕ) → 3 ≤ x → (x ≡ 3 → ⊥) → Lists (flagAt r) na held members → Listed (operationOf x) na nb r held members
+listed-flags zero na nb held r members h o L = absurd (omega arith)
+listed-flags (suc zero) na nb held r members h o L = absurd (omega arith)
+listed-flags (suc (suc zero)) na nb held r members h o L = absurd (omega arith)
+listed-flags (suc (suc (suc zero))) na nb held r members h o L = absurd (o refl)
+listed-flags (suc (suc (suc (suc zero)))) na nb held r members h o L = L
+listed-flags (suc (suc (suc (suc (suc x))))) na nb held r members h o L = L
+
+pub width-concat : (x w na nb : ℕ) → x ≡ 3 → w ≡ rowWidth (operationOf x) na nb → w ≡ 2 + nb
+width-concat x w na nb e h = h ∙ rw e
+
+pub listed-concat : (x na nb held : ℕ) (r members : List ℕ) → x ≡ 3 → Lists (flagAt (take (length r - 2) (drop 2 r))) nb held members → Listed (operationOf x) na nb r held members
+listed-concat x na nb held r members e L = rw e (lists-same (tail-flag r) L)

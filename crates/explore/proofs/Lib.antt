@@ -7,6 +7,8 @@ pub mod PairLaws
 pub mod ConcatLaws
 pub mod StarLaws
 pub mod ClosureLaws
+pub mod SumLaws
+pub mod MemberLaws
 pub mod EraseLaws
 pub mod FitLaws
 pub mod TwinLaws

@@ -1,5 +1,5 @@
 -- The rows of `|`, `&` and `-`: the next pair, and whether it is accepting. Assumes nothing.
-use mathlib.Core.Path.{_≡_, refl, sym, ap₂, _∙_}
+use mathlib.Core.Path.{_≡_, refl, sym, ap, ap₂, _∙_}
 use mathlib.Core.Bool.{Bool, not, _&&_, _||_}
 use mathlib.Core.List.{List, [], _∷_}
 use Prim.Native.Nat.{ℕ, zero, suc, _+_, _*_, _/_, _%_, _<_}
@@ -9,9 +9,11 @@ use Rattle.automata.specs.Table.{table-step, table-accepting}
 use Rattle.automata.specs.Stages.{Pairing, either, both, without, combine}
 use Rattle.explore.specs.Rows.{flagAt, numberAt, pairRow, pairing, operationOf, pairRows}
 use Rattle.explore.specs.Steps.{cell, pairAnswer}
+use Rattle.explore.specs.Sums.{weight, rowSum}
 use Rattle.explore.specs.Answer.{rowsFor, Fits, Source}
 use Rattle.explore.specs.declared.Shape.{Shape}
 use Rattle.explore.proofs.TableLaws.{cell-in, flag-in}
+use Rattle.explore.proofs.SumLaws.{sum-two, sum-nothing}
 
 pub pair-of : (x : ℕ) → x < 3 → (o : Pairing) × (operationOf x ≡ pairing o)
 pair-of zero h = (either, refl)
@@ -48,6 +50,14 @@ four (_ ∷ _ ∷ []) x y z v e = absurd (omega arith)
 four (_ ∷ _ ∷ _ ∷ []) x y z v e = absurd (omega arith)
 four (_ ∷ _ ∷ _ ∷ _ ∷ []) x y z v e = refl
 four (_ ∷ _ ∷ _ ∷ _ ∷ _ ∷ r) x y z v e = absurd (omega arith)
+
+-- the sum of a pair's row
+pub pair-sum : (row r1 r2 : List ℕ) (x y high total : ℕ) → length row ≡ 4 → r1 ≡ set (set row 0 (x % 256)) 1 (x / 256) → r2 ≡ set (set r1 2 (y % 256)) 3 (y / 256)
+    → high ≡ y % 256 * weight 2 + (y / 256 * weight 3 + 0) → total ≡ x % 256 * weight 0 + (x / 256 * weight 1 + high) → total ≡ rowSum 0 r2
+pair-sum row r1 r2 x y high total w e1 e2 h t =
+    let two : high ≡ rowSum 2 (y % 256 ∷ y / 256 ∷ []) = h ∙ ap (λ (v : ℕ). y % 256 * weight 2 + (y / 256 * weight 3 + v)) (sum-nothing 4) ∙ sum-two 2 (y % 256) (y / 256) [] in
+    let all : total ≡ rowSum 0 (x % 256 ∷ x / 256 ∷ y % 256 ∷ y / 256 ∷ []) = t ∙ ap (λ (v : ℕ). x % 256 * weight 0 + (x / 256 * weight 1 + v)) two ∙ sum-two 0 (x % 256) (x / 256) (y % 256 ∷ y / 256 ∷ []) in
+    all ∙ ap (rowSum 0) (sym (e2 ∙ rw e1 (four row (x % 256) (x / 256) (y % 256) (y / 256) w)))
 
 module _ (s : Shape) (a b from : List ℕ) (F : Fits s a b) (S : Source s from) (h : s .op < 3) where
   o : Pairing

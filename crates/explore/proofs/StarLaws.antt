@@ -4,14 +4,16 @@ use mathlib.Core.Bool.{Bool, true, false, _&&_, _||_}
 use mathlib.Core.List.{List}
 use Prim.Native.Nat.{ℕ, suc, _<_}
 use native.Mathlib.Omega.{arith}
-use lib.ListN.{set, replicate}
+use lib.ListN.{length, set, replicate}
 use lib.Dec.{eqb}
 use Rattle.explore.specs.Rows.{flagAt, flagRow, leadsTo, someAccepting, ends, operationOf, star, starRows}
-use Rattle.explore.specs.Steps.{cell, Leads}
-use Rattle.explore.specs.Answer.{leftOf, rowsFor, Fits, Source}
+use Rattle.explore.specs.Steps.{cell}
+use Rattle.explore.specs.Members.{Lists, Pours, ledBy}
+use Rattle.explore.specs.Answer.{leftOf, rowsFor, Fits}
 use Rattle.explore.specs.declared.Shape.{Shape}
 use Rattle.explore.proofs.FlagLaws.{Flags, flags-none, flags-row, row-flags, flags-same, flags-add, flags-at, or-assoc, or-false}
-use Rattle.explore.proofs.TableLaws.{leads-of, leads-step, some-same}
+use Rattle.explore.proofs.TableLaws.{leads-step, some-same}
+use Rattle.explore.proofs.MemberLaws.{listed-leads}
 
 module _ (s : Shape) (a b : List ℕ) (F : Fits s a b) (is : operationOf (s .op) ≡ star) where
   pub star-width : s .w ≡ suc (s .na)
@@ -24,19 +26,25 @@ module _ (s : Shape) (a b : List ℕ) (F : Fits s a b) (is : operationOf (s .op)
       let c : Flags (suc (s .na)) (λ t. false) r = flags-none (rw z at e) in
       rw is (flags-row (flags-add (s .na) (flags-add 0 c (omega arith)) (omega arith)))
 
-  module _ (c : ℕ) (l : c < s .k) (from : List ℕ) (S : Source s from) where
-    pub star-asks : (m : ℕ) → m ≡ s .w → Leads (s .ba) (s .k) c (s .na) m a from
-    star-asks m w = leads-of (s .ba) (s .na) (s .k) a (F .left) c m from l (omega (arith, S .long, star-width)) (omega (arith, star-width))
+  module _ (c : ℕ) (l : c < s .k) (from members : List ℕ) (held : ℕ) (S : Lists (flagAt from) (s .na) held members) where
+    pub star-asks : (row : List ℕ) → length row ≡ s .w → Pours (s .ba) (s .na) (s .k) c held 0 a members row
+    star-asks row w = record {
+      table = F .left;
+      column = l;
+      counted = S .counted;
+      room = omega (arith, star-width);
+      small = omega (arith, star-width, F .leftSmall);
+    }
 
     member : ℕ → Bool
     member = leadsTo (flagAt from) (λ q. leftOf s a .step q c) (s .na)
 
-    module _ (m : ℕ) (r : List ℕ) (w : m ≡ s .w) (e : r ≡ flagRow (leadsTo (flagAt from) (cell (s .ba) (s .k) c a) (s .na)) m) where
+    module _ (m : ℕ) (r : List ℕ) (w : m ≡ s .w) (e : r ≡ flagRow (ledBy members (cell (s .ba) (s .k) c a) held) m) where
       moved : Flags (suc (s .na)) member r
       unfolding member
       moved =
           let z : m ≡ suc (s .na) = w ∙ star-width in
-          flags-same (row-flags (rw z at e)) (λ t h. leads-step (s .ba) (s .na) (s .k) a (F .left) (flagAt from) c l t)
+          flags-same (row-flags (rw z at e)) (λ t h. listed-leads S (cell (s .ba) (s .k) c a) t ∙ leads-step (s .ba) (s .na) (s .k) a (F .left) (flagAt from) c l t)
 
       some : someAccepting (flagAt r) (flagAt a) (s .na) ≡ someAccepting member (leftOf s a .accepting) (s .na)
       some = some-same (s .ba) (s .na) (s .k) a (F .left) (flagAt r) member (λ q h. flags-at moved q (omega arith))

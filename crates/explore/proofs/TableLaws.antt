@@ -2,14 +2,14 @@
 use mathlib.Core.Path.{_≡_, sym, ap₂}
 use mathlib.Core.Bool.{Bool, _&&_}
 use mathlib.Core.List.{List}
-use Prim.Native.Nat.{ℕ, _+_, _*_, _≤_, _<_}
+use Prim.Native.Nat.{ℕ, _+_, _*_, _<_}
 use native.Mathlib.Omega.{arith}
 use lib.ListN.{length}
 use lib.Dec.{eqb}
 use Rattle.automata.specs.Machine.{automaton}
 use Rattle.automata.specs.Table.{ClosedTable, tableMachine, table-step, table-accepting}
 use Rattle.explore.specs.Rows.{flagAt, leadsTo, someAccepting}
-use Rattle.explore.specs.Steps.{cell, Leads}
+use Rattle.explore.specs.Steps.{cell}
 use Rattle.explore.proofs.RowLaws.{cell-within}
 use Rattle.explore.proofs.FlagLaws.{any-ext}
 use mathlib.Core.Path.{ap}
@@ -21,9 +21,6 @@ module _ (base n k : ℕ) (t : List ℕ) (C : ClosedTable base n k t) where
 
   pub flag-in : (p : ℕ) → p < n → p < length t
   flag-in p h = omega (arith, C .long, C .flags)
-
-  pub leads-of : (c m : ℕ) (from : List ℕ) → c < k → n ≤ length from → n ≤ m → Leads base k c n m t from
-  leads-of c m from b l g = record { long = C .long; column = b; flags = l; inside = λ q h. omega (arith, C .inside q c h b) }
 
   pub leads-step : (member : ℕ → Bool) (c : ℕ) → c < k → (x : ℕ) → leadsTo member (cell base k c t) n x ≡ leadsTo member (λ q. automaton (tableMachine base n k t) .step q c) n x
   leads-step member c b x = any-ext (λ q. member q && eqb (cell base k c t q) x) (λ q. member q && eqb (automaton (tableMachine base n k t) .step q c) x) n

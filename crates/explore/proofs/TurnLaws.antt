@@ -1,5 +1,5 @@
 -- One turn of the loop: what its calls ask, and what it leaves; and the flags of the rows. Assumes nothing.
-use mathlib.Core.Path.{_≡_, refl, sym, ap, _∙_}
+use mathlib.Core.Path.{_≡_, refl, ap, _∙_}
 use mathlib.Core.Logic.{inl, inr}
 use mathlib.Core.List.{List}
 use Prim.Native.Nat.{ℕ, _+_, _*_, _-_, _%_, _≤_, _<_}
@@ -11,7 +11,7 @@ use Rattle.automata.specs.Basics.{LtCases, lt-cases}
 use Rattle.automata.specs.Automaton.{Automaton}
 use Rattle.automata.specs.Stage.{MoreThan}
 use Rattle.explore.specs.Rows.{rowAt, bit, operationOf, erase}
-use Rattle.explore.specs.Steps.{rowHash}
+use Rattle.explore.specs.Sums.{rowHash}
 use Rattle.explore.specs.Answer.{rowsFor, RowFits, Source, Step, Twins, Looked, Appended, Earlier, Turning, Turned, Flagging, Flagged}
 use Rattle.explore.specs.declared.Shape.{Shape}
 use Rattle.explore.specs.declared.Explored.the-variants.{Sets}

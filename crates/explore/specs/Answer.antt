@@ -9,7 +9,8 @@ use Rattle.automata.specs.Automaton.{Automaton, Reachable}
 use Rattle.automata.specs.Machine.{automaton}
 use Rattle.automata.specs.Table.{ClosedTable, tableMachine}
 use Rattle.automata.specs.Stage.{MoreThan}
-use Rattle.explore.specs.Steps.{cell, rowHash}
+use Rattle.explore.specs.Steps.{cell}
+use Rattle.explore.specs.Sums.{rowHash}
 use Rattle.explore.specs.Rows.{rowAt, bit, numberAt, Operation, pairing, concatenation, star, erase, operationOf, rowWidth, rowsOf}
 use Rattle.explore.specs.declared.Shape.{Shape}
 use Rattle.explore.specs.declared.Explored.{Explored}

@@ -3,5 +3,7 @@
 pub mod Rows
 pub mod Steps
 pub mod Closure
+pub mod Sums
+pub mod Members
 pub mod Answer
 pub mod AnswerLaws

@@ -1,9 +1,17 @@
 // Rows of flags, a byte for each state: cleared, filled with what the members of another lead to, and tested for an accepting member.
+use crate::sum;
+use crate::table;
 ghost use mathlib.Core.Path.{_≡_};
-ghost use Prim.Native.Nat.{_+_, _*_, _<_, _≤_};
-ghost use lib.ListN.{length, getD, replicate};
-ghost use Rattle.explore.specs.Rows.{flagAt, flagRow, leadsTo, someAccepting};
-ghost use Rattle.explore.specs.Steps.{Leads, cell};
+ghost use Prim.Native.Nat.{_<_, _≤_};
+ghost use lib.ListN.{length, replicate};
+ghost use Rattle.explore.specs.Rows.{flagAt, someAccepting};
+ghost use Rattle.explore.specs.Members.{Lists, Pours, Filled};
+
+// What is seen while a row is filled: its sum, and whether a state in it is accepting.
+pub struct Poured {
+    pub sum: usize,
+    pub accepting: bool,
+}
 
 // No flag is set.
 pub fn clear(row: &mut [u8])
@@ -16,29 +24,74 @@ pub fn clear(row: &mut [u8])
     }
 }
 
-// Sets the flags of the states that the first n states of `from` lead to by the column c.
-fn pour(t: &[u16], base: usize, k: usize, c: usize, from: &[u8], n: usize, row: &mut [u8])
-    requires { ⌜ Leads base k c n (length (now row)) (now t) (now from) ⌝ }
-    requires { ⌜ now row ≡ replicate (length (now row)) 0 ⌝ }
-    ensures { λ _. ⌜ now (row .exit) ≡ flagRow (leadsTo (flagAt (now (from .entry))) (cell base k c (now (t .entry))) n) (length (now (row .entry))) ⌝ }
+// The members among the first n states of a row, listed; how many there are. They are listed once for all columns.
+pub fn gather(from: &[u8], n: usize, members: &mut [u16]) -> usize
+    requires { ⌜ (n ≤ length (now from)) × (n ≤ length (now members)) × (n ≤ 65536) ⌝ }
+    ensures { λ r. ⌜ Lists (flagAt (now (from .entry))) n r (now (members .exit)) ⌝ }
 {
+    let mut count = 0;
     let mut q = 0;
     while q < n {
         if from[q] != 0 {
-            let to = t[base + (q * k + c)] as usize;
-            row[to] = 1;
+            members[count] = q as u16;
+            count += 1;
         }
         q += 1;
     }
+    count
 }
 
-// The flags of the states that the first n states of `from` lead to by the column c.
-pub fn lead(t: &[u16], base: usize, k: usize, c: usize, from: &[u8], n: usize, row: &mut [u8])
-    requires { ⌜ Leads base k c n (length (now row)) (now t) (now from) ⌝ }
-    ensures { λ _. ⌜ now (row .exit) ≡ flagRow (leadsTo (flagAt (now (from .entry))) (cell base k c (now (t .entry))) n) (length (now (row .entry))) ⌝ }
+// Sets the flags of the states that the first `count` members lead to by the column c, of a table of n states.
+fn pour(
+    t: &[u16],
+    base: usize,
+    n: usize,
+    k: usize,
+    c: usize,
+    members: &[u16],
+    count: usize,
+    first: usize,
+    row: &mut [u8],
+) -> Poured
+    requires { ⌜ Pours base n k c count first (now t) (now members) (now row) ⌝ }
+    requires { ⌜ now row ≡ replicate (length (now row)) 0 ⌝ }
+    ensures { λ r. ⌜ Filled base n k c count first (now (t .entry)) (now (members .entry)) (length (now (row .entry))) (now (row .exit)) r ⌝ }
+{
+    let mut sum = 0;
+    let mut accepting = false;
+    let mut i = 0;
+    while i < count {
+        let q = members[i] as usize;
+        let to = table::step(t, base, k, q, c);
+        sum = sum::flag(row, first, to, sum);
+        if table::accepting(t, to) {
+            accepting = true;
+        }
+        i += 1;
+    }
+    Poured {
+        sum: sum,
+        accepting: accepting,
+    }
+}
+
+// The flags of the states that the first `count` members lead to by the column c.
+pub fn lead(
+    t: &[u16],
+    base: usize,
+    n: usize,
+    k: usize,
+    c: usize,
+    members: &[u16],
+    count: usize,
+    first: usize,
+    row: &mut [u8],
+) -> Poured
+    requires { ⌜ Pours base n k c count first (now t) (now members) (now row) ⌝ }
+    ensures { λ r. ⌜ Filled base n k c count first (now (t .entry)) (now (members .entry)) (length (now (row .entry))) (now (row .exit)) r ⌝ }
 {
     clear(row);
-    pour(t, base, k, c, from, n, row);
+    pour(t, base, n, k, c, members, count, first, row)
 }
 
 // Whether one of the first n states of the row is accepting.

@@ -4,36 +4,49 @@ use crate::bits;
 use crate::closure;
 ghost use mathlib.Core.Path.{_≡_};
 ghost use lib.ListN.{length};
-ghost use Rattle.explore.specs.Rows.{operationOf, erase};
+ghost use Rattle.explore.specs.Rows.{flagAt, operationOf, erase};
+ghost use Rattle.explore.specs.Sums.{rowSum};
+ghost use Rattle.explore.specs.Members.{Lists};
 ghost use Rattle.explore.specs.Answer.{rowsFor, Fits, Step, Source};
 
-// The first row: A's 0, and what it gains.
-pub fn start(a: &[u16], b: &[u16], s: Shape, row: &mut [u8])
+// The first row: A's 0, and what it gains. Its sum.
+pub fn start(a: &[u16], b: &[u16], s: Shape, row: &mut [u8]) -> usize
     requires { ⌜ Fits s (now a) (now b) ⌝ }
     requires { ⌜ length (now row) ≡ s .w ⌝ }
     requires { ⌜ operationOf (s .op) ≡ erase ⌝ }
-    ensures { λ _. ⌜ now (row .exit) ≡ rowsFor s (now (a .entry)) (now (b .entry)) .start ⌝ }
+    ensures { λ r. ⌜ (now (row .exit) ≡ rowsFor s (now (a .entry)) (now (b .entry)) .start) × (r ≡ rowSum 0 (now (row .exit))) ⌝ }
 {
     let k = s.k;
     let ba = s.ba;
     let na = s.na;
     bits::clear(row);
-    closure::chase(a, ba, k, na, 0, row);
+    closure::chase(a, ba, k, na, 0, 0, row)
 }
 
-// The row that `from` leads to by the column c: by the mark, the empty one.
-pub fn next(a: &[u16], b: &[u16], s: Shape, c: usize, from: &[u8], row: &mut [u8])
+// The row that `from` leads to by the column c, where its members are listed: by the mark, the empty one. Its sum.
+pub fn next(
+    a: &[u16],
+    b: &[u16],
+    s: Shape,
+    c: usize,
+    from: &[u8],
+    members: &[u16],
+    held: usize,
+    row: &mut [u8],
+) -> usize
     requires { ⌜ Step s (now a) (now b) c (now from) (now row) ⌝ }
     requires { ⌜ operationOf (s .op) ≡ erase ⌝ }
-    ensures { λ _. ⌜ now (row .exit) ≡ rowsFor s (now (a .entry)) (now (b .entry)) .step (now (from .entry)) c ⌝ }
+    requires { ⌜ Lists (flagAt (now from)) (s .na) held (now members) ⌝ }
+    ensures { λ r. ⌜ (now (row .exit) ≡ rowsFor s (now (a .entry)) (now (b .entry)) .step (now (from .entry)) c) × (r ≡ rowSum 0 (now (row .exit))) ⌝ }
 {
     let k = s.k;
     let ba = s.ba;
     let na = s.na;
     bits::clear(row);
     if c + 1 != k {
-        closure::lead(a, ba, k, c, from, na, row);
+        return closure::lead(a, ba, k, c, members, held, na, row);
     }
+    0
 }
 
 // Whether a state in the row is accepting.

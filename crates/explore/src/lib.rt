@@ -9,15 +9,17 @@ mod number;
 mod pairs;
 mod rows;
 mod star;
+mod sum;
 mod table;
 
 ghost use mathlib.Core.Bool.{true};
 ghost use mathlib.Core.Path.{_≡_};
-ghost use Prim.Native.Nat.{_-_, _<_, _≤_};
-ghost use lib.ListN.{length, replicate};
-ghost use Rattle.explore.specs.Rows.{bit, operationOf, erase};
-ghost use Rattle.explore.specs.Steps.{Weighted};
-ghost use Rattle.explore.specs.Answer.{rowsFor, Fits, Room, Source, Step, Twins, Turning, Turned, Flagging, Flagged, Explores, Answers};
+ghost use Prim.Native.Nat.{_+_, _*_, _-_, _<_, _≤_};
+ghost use lib.ListN.{length};
+ghost use Rattle.explore.specs.Rows.{bit, rowAt, rowWidth, operationOf, erase};
+ghost use Rattle.explore.specs.Sums.{rowSum};
+ghost use Rattle.explore.specs.Members.{Listed, Listing};
+ghost use Rattle.explore.specs.Answer.{rowsFor, RowFits, Fits, Room, Source, Step, Twins, Turning, Turned, Flagging, Flagged, Explores, Answers};
 
 // The operation's code (0 `|`, 1 `&`, 2 `-`, 3 concatenation, 4 star, 5 erase), the number of columns, for each operand its number of states and
 // where its transitions begin, the bytes of a row, and the most sets. Star and erase take their one operand twice.
@@ -38,39 +40,92 @@ pub enum Explored {
     TooMany,
 }
 
-// The first row.
-fn start_row(a: &[u16], b: &[u16], s: Shape, row: &mut [u8])
+// The first row; its sum.
+fn start_row(a: &[u16], b: &[u16], s: Shape, row: &mut [u8]) -> usize
     requires { ⌜ Fits s (now a) (now b) ⌝ }
     requires { ⌜ length (now row) ≡ s .w ⌝ }
-    ensures { λ _. ⌜ now (row .exit) ≡ rowsFor s (now (a .entry)) (now (b .entry)) .start ⌝ }
+    ensures { λ r. ⌜ (now (row .exit) ≡ rowsFor s (now (a .entry)) (now (b .entry)) .start) × (r ≡ rowSum 0 (now (row .exit))) ⌝ }
 {
     let op = s.op;
     if op < 3 {
         bits::clear(row);
-    } else if op == 3 {
-        concatenation::start(a, b, s, row);
-    } else if op == 4 {
-        star::start(a, b, s, row);
-    } else {
-        erase::start(a, b, s, row);
+        return 0;
     }
+    if op == 3 {
+        return concatenation::start(a, b, s, row);
+    }
+    if op == 4 {
+        return star::start(a, b, s, row);
+    }
+    erase::start(a, b, s, row)
 }
 
-// The row that `from` leads to by the column c.
-fn next_row(a: &[u16], b: &[u16], s: Shape, c: usize, from: &[u8], row: &mut [u8])
-    requires { ⌜ Step s (now a) (now b) c (now from) (now row) ⌝ }
-    ensures { λ _. ⌜ now (row .exit) ≡ rowsFor s (now (a .entry)) (now (b .entry)) .step (now (from .entry)) c ⌝ }
+// The states of a row, listed; how many there are. A pair's are read where they stand.
+fn gather(s: Shape, from: &[u8], members: &mut [u16]) -> usize
+    requires { ⌜ s .w ≡ rowWidth (operationOf (s .op)) (s .na) (s .nb) ⌝ }
+    requires { ⌜ Source s (now from) ⌝ }
+    requires { ⌜ Listing s (now members) ⌝ }
+    ensures { λ r. ⌜ Listed (operationOf (s .op)) (s .na) (s .nb) (now (from .entry)) r (now (members .exit)) ⌝ }
 {
     let op = s.op;
     if op < 3 {
-        pairs::next(a, b, s, c, from, row);
-    } else if op == 3 {
-        concatenation::next(a, b, s, c, from, row);
-    } else if op == 4 {
-        star::next(a, b, s, c, from, row);
-    } else {
-        erase::next(a, b, s, c, from, row);
+        return 0;
     }
+    if op == 3 {
+        return bits::gather(&from[2..], s.nb, members);
+    }
+    bits::gather(from, s.na, members)
+}
+
+// The same for the row `state`, where it is not done for an earlier column.
+fn list(
+    s: Shape,
+    rows: &[u8],
+    state: usize,
+    column: usize,
+    held: usize,
+    members: &mut [u16],
+) -> usize
+    requires { ⌜ s .w ≡ rowWidth (operationOf (s .op)) (s .na) (s .nb) ⌝ }
+    requires { ⌜ (state * s .w + s .w ≤ length (now rows)) × RowFits (operationOf (s .op)) (s .na) (s .nb) (rowAt (s .w) state (now rows)) ⌝ }
+    requires { ⌜ Listing s (now members) ⌝ }
+    requires { ⌜ (0 < column → Listed (operationOf (s .op)) (s .na) (s .nb) (rowAt (s .w) state (now rows)) held (now members)) ⌝ }
+    ensures { λ r. ⌜ Listed (operationOf (s .op)) (s .na) (s .nb) (rowAt (s .w) state (now (rows .entry))) r (now (members .exit)) ⌝ }
+{
+    if 0 < column {
+        return held;
+    }
+    let w = s.w;
+    let at = state * w;
+    gather(s, &rows[at..at + w], members)
+}
+
+// The row that `from` leads to by the column c, where its states are listed; its sum.
+fn next_row(
+    a: &[u16],
+    b: &[u16],
+    s: Shape,
+    c: usize,
+    from: &[u8],
+    members: &[u16],
+    held: usize,
+    row: &mut [u8],
+) -> usize
+    requires { ⌜ Step s (now a) (now b) c (now from) (now row) ⌝ }
+    requires { ⌜ Listed (operationOf (s .op)) (s .na) (s .nb) (now from) held (now members) ⌝ }
+    ensures { λ r. ⌜ (now (row .exit) ≡ rowsFor s (now (a .entry)) (now (b .entry)) .step (now (from .entry)) c) × (r ≡ rowSum 0 (now (row .exit))) ⌝ }
+{
+    let op = s.op;
+    if op < 3 {
+        return pairs::next(a, b, s, c, from, row);
+    }
+    if op == 3 {
+        return concatenation::next(a, b, s, c, from, members, held, row);
+    }
+    if op == 4 {
+        return star::next(a, b, s, c, from, members, held, row);
+    }
+    erase::next(a, b, s, c, from, members, held, row)
 }
 
 // Whether a row is accepting.
@@ -127,21 +182,22 @@ fn turn(
     row: &mut [u8],
     table: &mut [u16],
     heads: &mut [u16; 1024],
-    weights: &[u16; 128],
+    members: &[u16],
+    held: usize,
     count: usize,
     state: usize,
     column: usize,
     q: usize,
 ) -> Explored
     requires { ⌜ Turning s (now a) (now b) (now rows) (now row) (now table) (now heads) count state column q ⌝ }
-    requires { ⌜ Weighted (s .w) (now weights) ⌝ }
-    ensures { λ r. ⌜ Turned (rowsFor s (now (a .entry)) (now (b .entry))) (s .k) (s .w) (s .limit) count state column (now (rows .exit)) (now (table .exit)) (now (heads .exit)) r ⌝ }
+    requires { ⌜ Listed (operationOf (s .op)) (s .na) (s .nb) (rowAt (s .w) state (now rows)) held (now members) ⌝ }
+    ensures { λ r. ⌜ Turned (rowsFor s (now (a .entry)) (now (b .entry))) (s .k) (s .w) (s .limit) count state column (now (rows .exit)) (now (table .exit)) (now (heads .exit)) r × (rowAt (s .w) state (now (rows .exit)) ≡ rowAt (s .w) state (now (rows .entry))) ⌝ }
 {
     let w = s.w;
     let limit = s.limit;
     let at = state * w;
-    next_row(a, b, s, column, &rows[at..at + w], row);
-    let h = rows::hash(&row[..], weights);
+    let sum = next_row(a, b, s, column, &rows[at..at + w], members, held, row);
+    let h = rows::hash(sum);
     match rows::find(&rows[..], &table[..], heads, w, count, &row[..], h) {
         rows::Found::At(j) => {
             table[limit + q] = (j % 65536) as u16;
@@ -186,7 +242,8 @@ fn advance(
     row: &mut [u8],
     table: &mut [u16],
     heads: &mut [u16; 1024],
-    weights: &[u16; 128],
+    members: &[u16],
+    held: usize,
     count: usize,
     state: usize,
     column: usize,
@@ -194,9 +251,9 @@ fn advance(
     q: usize,
 ) -> Explored
     requires { ⌜ Turning s (now a) (now b) (now rows) (now row) (now table) (now heads) count state column q ⌝ }
-    requires { ⌜ Weighted (s .w) (now weights) ⌝ }
+    requires { ⌜ Listed (operationOf (s .op)) (s .na) (s .nb) (rowAt (s .w) state (now rows)) held (now members) ⌝ }
     requires { ⌜ (twin < column → Twins s (now a) (now b) twin column) ⌝ }
-    ensures { λ r. ⌜ Turned (rowsFor s (now (a .entry)) (now (b .entry))) (s .k) (s .w) (s .limit) count state column (now (rows .exit)) (now (table .exit)) (now (heads .exit)) r ⌝ }
+    ensures { λ r. ⌜ Turned (rowsFor s (now (a .entry)) (now (b .entry))) (s .k) (s .w) (s .limit) count state column (now (rows .exit)) (now (table .exit)) (now (heads .exit)) r × (rowAt (s .w) state (now (rows .exit)) ≡ rowAt (s .w) state (now (rows .entry))) ⌝ }
 {
     let limit = s.limit;
     if twin < column {
@@ -217,7 +274,8 @@ fn advance(
         row,
         table,
         heads,
-        weights,
+        members,
+        held,
         count,
         state,
         column,
@@ -232,25 +290,28 @@ pub fn explore(
     s: Shape,
     rows: &mut [u8],
     row: &mut [u8],
+    members: &mut [u16],
     table: &mut [u16],
 ) -> Explored
     requires { ⌜ Explores s (now a) (now b) (now rows) (now row) (now table) ⌝ }
+    requires { ⌜ Listing s (now members) ⌝ }
     ensures { λ r. ⌜ Answers (rowsFor s (now (a .entry)) (now (b .entry))) (s .k) (s .w) (s .limit) (now (rows .exit)) (now (table .exit)) r ⌝ }
 {
     let k = s.k;
     let w = s.w;
     let twins = columns::twins(a, b, s);
-    let weights = rows::weights(w);
     let mut heads = [0; 1024];
-    start_row(a, b, s, row);
+    let sum = start_row(a, b, s, row);
     rows::append(rows, w, 0, &row[..]);
-    let h = rows::hash(&row[..], &weights);
+    let h = rows::hash(sum);
     rows::chain(table, &mut heads, 0, h);
     let mut count = 1;
     let mut state = 0;
     let mut column = 0;
     let mut q = 0;
+    let mut held = 0;
     while state < count {
+        held = list(s, &rows[..], state, column, held, members);
         let twin = columns::twin(&twins, column);
         let Explored::Sets(n) = advance(
             a,
@@ -260,7 +321,8 @@ pub fn explore(
             row,
             table,
             &mut heads,
-            &weights,
+            &members[..],
+            held,
             count,
             state,
             column,
@@ -279,15 +341,4 @@ pub fn explore(
     }
     flag_rows(a, b, s, &rows[..], table, count);
     Explored::Sets(count)
-}
-
-// The same with a row of its own, where rows have at most 512 bytes.
-pub fn sets(a: &[u16], b: &[u16], s: Shape, rows: &mut [u8], table: &mut [u16]) -> Explored
-    requires { ⌜ Explores s (now a) (now b) (now rows) (replicate (s .w) 0) (now table) ⌝ }
-    requires { ⌜ s .w ≤ 512 ⌝ }
-    ensures { λ r. ⌜ Answers (rowsFor s (now (a .entry)) (now (b .entry))) (s .k) (s .w) (s .limit) (now (rows .exit)) (now (table .exit)) r ⌝ }
-{
-    let w = s.w;
-    let mut row = [0; 512];
-    explore(a, b, s, rows, &mut row[..w], table)
 }

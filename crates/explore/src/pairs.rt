@@ -1,18 +1,20 @@
 // The rows of `|`, `&` and `-`: a state of each operand, by its number.
 use crate::Shape;
 use crate::number;
+use crate::sum;
 use crate::table;
 ghost use mathlib.Core.Path.{_≡_};
 ghost use Prim.Native.Nat.{_<_};
 ghost use lib.ListN.{length};
 ghost use Rattle.explore.specs.Steps.{pairAnswer};
+ghost use Rattle.explore.specs.Sums.{rowSum};
 ghost use Rattle.explore.specs.Answer.{rowsFor, Fits, Step, Source};
 
-// The pair that `from` leads to by the column c.
-pub fn next(a: &[u16], b: &[u16], s: Shape, c: usize, from: &[u8], row: &mut [u8])
+// The pair that `from` leads to by the column c; its row's sum.
+pub fn next(a: &[u16], b: &[u16], s: Shape, c: usize, from: &[u8], row: &mut [u8]) -> usize
     requires { ⌜ Step s (now a) (now b) c (now from) (now row) ⌝ }
     requires { ⌜ s .op < 3 ⌝ }
-    ensures { λ _. ⌜ now (row .exit) ≡ rowsFor s (now (a .entry)) (now (b .entry)) .step (now (from .entry)) c ⌝ }
+    ensures { λ r. ⌜ (now (row .exit) ≡ rowsFor s (now (a .entry)) (now (b .entry)) .step (now (from .entry)) c) × (r ≡ rowSum 0 (now (row .exit))) ⌝ }
 {
     let k = s.k;
     let ba = s.ba;
@@ -23,6 +25,8 @@ pub fn next(a: &[u16], b: &[u16], s: Shape, c: usize, from: &[u8], row: &mut [u8
     let y = table::step(b, bb, k, q, c);
     number::write(row, 0, x);
     number::write(row, 2, y);
+    let sum = sum::with_number(y, 2, 0);
+    sum::with_number(x, 0, sum)
 }
 
 // The answer of the operation from its operands' answers.

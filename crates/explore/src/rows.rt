@@ -3,9 +3,9 @@
 use crate::number;
 ghost use mathlib.Core.Bool.{true};
 ghost use mathlib.Core.Path.{_≡_};
-ghost use Prim.Native.Nat.{_+_, _*_, _<_, _≤_};
+ghost use Prim.Native.Nat.{_+_, _*_, _/_, _%_, _<_, _≤_};
 ghost use lib.ListN.{length, getD, set};
-ghost use Rattle.explore.specs.Steps.{Weighted, rowHash};
+ghost use Rattle.explore.specs.Sums.{rowHash};
 ghost use Rattle.explore.specs.Answer.{Chained, Looked, Appended};
 
 pub enum Found {
@@ -13,57 +13,11 @@ pub enum Found {
     Nothing,
 }
 
-// The weights of the first w places: odd numbers without a simple pattern, so that few rows share a hash.
-pub fn weights(w: usize) -> [u16; 128]
-    ensures { λ r. ⌜ Weighted w r ⌝ }
+// The hash of a row whose sum is given.
+pub fn hash(sum: usize) -> usize
+    ensures { λ r. ⌜ (r ≡ sum / 64 % 1024) × (r < 1024) ⌝ }
 {
-    let mut table = [0; 128];
-    let mut i = 0;
-    while i < 128 {
-        if w <= i {
-            return table;
-        }
-        table[i] = (((i * 40503 + 12347) * i + 30011) % 65536) as u16;
-        i += 1;
-    }
-    table
-}
-
-fn wide(x: u8) -> u32
-    ensures { λ r. ⌜ (r ≡ x) × (r < 256) ⌝ }
-{
-    x as u32
-}
-
-// The hash of a pair of states, from the two numbers: they are read as they were written, two bytes at a time.
-fn hash_pair(row: &[u8]) -> usize
-    requires { ⌜ length (now row) ≡ 4 ⌝ }
-    ensures { λ r. ⌜ (r ≡ rowHash (now (row .entry))) × (r < 1024) ⌝ }
-{
-    let p = number::read(row, 0);
-    let q = number::read(row, 2);
-    (p * 30011 + q * 20109) / 64 % 1024
-}
-
-// A number that equal rows share. The products are independent of each other, so that the sum is quick.
-pub fn hash(row: &[u8], weights: &[u16; 128]) -> usize
-    requires { ⌜ Weighted (length (now row)) (now weights) ⌝ }
-    ensures { λ r. ⌜ (r ≡ rowHash (now (row .entry))) × (r < 1024) ⌝ }
-{
-    if row.len() == 4 {
-        return hash_pair(row);
-    }
-    let mut end = row.len();
-    if 128 < end {
-        end = 128;
-    }
-    let mut sum = 0;
-    let mut i = 0;
-    while i < end {
-        sum += wide(row[i]) * weights[i] as u32;
-        i += 1;
-    }
-    (sum / 64 % 1024) as usize
+    sum / 64 % 1024
 }
 
 // Whether two long rows are equal. It looks at all bytes, so that several are compared at once.

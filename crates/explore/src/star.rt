@@ -1,39 +1,52 @@
 // The rows of a star: a flag for each state of A, and one for the extra state, which has no moves.
 use crate::Shape;
 use crate::bits;
+use crate::sum;
 ghost use mathlib.Core.Path.{_≡_};
-ghost use Prim.Native.Nat.{_<_};
-ghost use lib.ListN.{length, set};
-ghost use Rattle.explore.specs.Rows.{operationOf, star};
+ghost use lib.ListN.{length};
+ghost use Rattle.explore.specs.Rows.{flagAt, operationOf, star};
+ghost use Rattle.explore.specs.Sums.{rowSum};
+ghost use Rattle.explore.specs.Members.{Lists};
 ghost use Rattle.explore.specs.Answer.{rowsFor, Fits, Step, Source};
 
-// The first row: A's 0 and the extra state.
-pub fn start(a: &[u16], b: &[u16], s: Shape, row: &mut [u8])
+// The first row: A's 0 and the extra state. Its sum.
+pub fn start(a: &[u16], b: &[u16], s: Shape, row: &mut [u8]) -> usize
     requires { ⌜ Fits s (now a) (now b) ⌝ }
     requires { ⌜ length (now row) ≡ s .w ⌝ }
     requires { ⌜ operationOf (s .op) ≡ star ⌝ }
-    ensures { λ _. ⌜ now (row .exit) ≡ rowsFor s (now (a .entry)) (now (b .entry)) .start ⌝ }
+    ensures { λ r. ⌜ (now (row .exit) ≡ rowsFor s (now (a .entry)) (now (b .entry)) .start) × (r ≡ rowSum 0 (now (row .exit))) ⌝ }
 {
     let extra = s.na;
     bits::clear(row);
-    row[0] = 1;
-    row[extra] = 1;
+    let one = sum::flag(row, 0, 0, 0);
+    sum::flag(row, 0, extra, one)
 }
 
-// The row that `from` leads to by the column c.
-pub fn next(a: &[u16], b: &[u16], s: Shape, c: usize, from: &[u8], row: &mut [u8])
+// The row that `from` leads to by the column c, where its members are listed; its sum.
+pub fn next(
+    a: &[u16],
+    b: &[u16],
+    s: Shape,
+    c: usize,
+    from: &[u8],
+    members: &[u16],
+    held: usize,
+    row: &mut [u8],
+) -> usize
     requires { ⌜ Step s (now a) (now b) c (now from) (now row) ⌝ }
     requires { ⌜ operationOf (s .op) ≡ star ⌝ }
-    ensures { λ _. ⌜ now (row .exit) ≡ rowsFor s (now (a .entry)) (now (b .entry)) .step (now (from .entry)) c ⌝ }
+    requires { ⌜ Lists (flagAt (now from)) (s .na) held (now members) ⌝ }
+    ensures { λ r. ⌜ (now (row .exit) ≡ rowsFor s (now (a .entry)) (now (b .entry)) .step (now (from .entry)) c) × (r ≡ rowSum 0 (now (row .exit))) ⌝ }
 {
     let k = s.k;
     let ba = s.ba;
     let na = s.na;
-    bits::lead(a, ba, k, c, from, na, row);
-    if bits::some_accepting(a, &row[..], na) {
-        row[0] = 1;
-        row[na] = 1;
+    let poured = bits::lead(a, ba, na, k, c, members, held, 0, row);
+    if poured.accepting {
+        let one = sum::flag(row, 0, 0, poured.sum);
+        return sum::flag(row, 0, na, one);
     }
+    poured.sum
 }
 
 // Whether the row has the extra state.

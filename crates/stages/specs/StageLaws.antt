@@ -14,6 +14,7 @@ use Rattle.automata.specs.Format.{Format}
 use Rattle.automata.specs.Stage.{Made as Answer, made, refused, StageResult}
 use Rattle.explore.specs.Rows.{operationOf, rowWidth, rowsOf, numberAt}
 use Rattle.explore.specs.Answer.{Answers, Explores, rowsFor}
+use Rattle.explore.specs.Members.{Listing}
 use Rattle.explore.specs.AnswerLaws.{explored-closed}
 use Rattle.explore.specs.declared.Shape.{Shape}
 use Rattle.explore.specs.declared.Explored.{Explored}
@@ -65,6 +66,13 @@ module _ {k : ℕ} {l : Limits} {r : Sizes} {t rows table : List ℕ} (R : Reach
       tableLong = R .tableLong;
     };
   })
+
+  pub reach-lists : (op w : ℕ) (members : List ℕ) → length members ≡ 256 → Listing (shapeOf op k l r w) members
+  reach-lists op w members e = record {
+    left = omega (arith, R .left .flags, R .states .1);
+    right = omega (arith, R .right .flags, R .states .1);
+    small = omega arith;
+  }
 
   pub reach-found : (op w : ℕ) (rows′ table′ : List ℕ) (x : Explored)
       → Answers (rowsFor (shapeOf op k l r w) t (take (length t - half) (drop half t))) k w (l .sets) rows′ table′ x → Reached op k l r t rows′ table′ x

@@ -68,7 +68,16 @@ fn reach(
         limit: limits.sets,
     };
     let mut row = [0u8; 258];
-    explore::explore(operands, &operands[half..], s, rows, &mut row[..w], table)
+    let mut members = [0u16; 256];
+    explore::explore(
+        operands,
+        &operands[half..],
+        s,
+        rows,
+        &mut row[..w],
+        &mut members[..],
+        table,
+    )
 }
 
 // The stage of the operation (0 `|`, 1 `&`, 2 `-`, 3 concatenation, 4 star, 5 erase) on the machines in two slots, over m letters and the mark. Its

@@ -1,77 +1,58 @@
--- `pour` meets its contract: the flags set so far are those that the members before q lead to. Assumes nothing.
-use Prim.Native.Nat.{_+_, _*_, _-_, _≤_}
-use Rattle.explore.proofs.FlagLaws.{Flags, flags-row, flags-none, flag-set, flag-clear, lead-out, lead-in}
-use Rattle.explore.proofs.RowLaws.{cell-within}
-use Rattle.explore.specs.Rows.{flagAt, leadsTo}
-use Rattle.explore.specs.Steps.{cell}
-use borrow.Author.Needs.{needs}
-use lib.ListN.{length, length-set}
+-- `pour` meets its contract: the flags set so far are those that the members before i lead to. Assumes nothing.
+use mathlib.Core.Bool.{true}
 use mathlib.Core.Logic.{⊎-elim}
-use mathlib.Core.Path.{_≡_, refl, ap, _∙_}
+use mathlib.Core.Path.{_≡_, refl, sym, _∙_}
+use Prim.Native.Nat.{_+_, _-_, _≤_, _<_}
 use native.Mathlib.Omega.{arith}
+use lib.ListN.{getD, length}
+use borrow.Author.Needs.{needs}
+use Rattle.explore.specs.Members.{ledBy}
+use Rattle.explore.specs.Rows.{flagAt, someAccepting}
+use Rattle.explore.specs.Steps.{cell}
+use Rattle.explore.specs.Sums.{Summed}
+use Rattle.explore.proofs.FlagLaws.{Flags, flags-none, flags-row, lead-in}
+use Rattle.explore.proofs.MemberLaws.{some-none, some-yes, some-no}
+use Rattle.explore.proofs.SumLaws.{summed-none}
+use Rattle.explore.proofs.TableLaws.{cell-in, flag-in}
 use Rattle.explore.proofs.bits.pour.Statement.{statement}
 use Rattle.explore.proofs.bits.pour.Tie as tie
 
 abbrev Inv-loop : tie.InvT-loop
-Inv-loop t base k c from n row₀ q₀ row q = (q ≤ n) × Flags (length row₀) (leadsTo (flagAt from) (cell base k c t) q) row × (length row ≡ length row₀)
+Inv-loop t base n k c members count first row₀ sum₀ accepting₀ i₀ row sum accepting i = (i ≤ count) × Flags (length row₀) (ledBy members (cell base k c t) i) row × Summed first row sum × (accepting ≡ someAccepting (flagAt row) (flagAt t) n)
 
 abbrev μ-loop : tie.MeasureT-loop
-μ-loop t base k c from n row₀ q₀ row q = n - q
+μ-loop t base n k c members count first row₀ sum₀ accepting₀ i₀ row sum accepting i = count - i
 
 loop-holds : tie.Need-loop-holds Inv-loop μ-loop
-loop-holds c = (omega arith, flags-none (c .pre .1), refl)
+loop-holds c = let F = flags-none (c .before .before .before .pre .1) in (omega arith, F, summed-none (c .before .before .before .args .first) (length (c .before .before .before .args .row .now)) (c .before .before .before .args .row .now) (c .before .before .before .pre .1) (c .before .before .before .pre .0 .small), some-none (c .before .before .before .args .t .now) (c .before .before .before .args .n) F (c .before .before .before .pre .0 .room))
 
-mul-to : tie.Need-mul-to Inv-loop μ-loop
-mul-to c =
-    let args = c .before .before .before .before .args in
-    omega (arith, cell-within (c .before .before .before .loop .q) (args .n) (args .k) (args .c) (c .before .before .loop-test .taken) (c .before .before .before .before .pre .0 .column))
+cast-q : tie.Need-cast-q Inv-loop μ-loop
+cast-q c = omega (arith, c .shared-slice-known3 .given (c .before .before .loop .i))
 
-add-to : tie.Need-add-to Inv-loop μ-loop
-add-to c =
-    let args = c .before .before .before .before .args in
-    omega (arith, cell-within (c .before .before .before .loop .q) (args .n) (args .k) (args .c) (c .before .before .loop-test .taken) (c .before .before .before .before .pre .0 .column))
+step-requires : tie.Need-step-requires Inv-loop μ-loop
+step-requires c κs = cell-in (c .before .before .before .before .before .before .args .base) (c .before .before .before .before .before .before .args .n) (c .before .before .before .before .before .before .args .k) (c .before .before .before .before .before .before .args .t .now) (c .before .before .before .before .before .before .pre .0 .table) _ (c .before .before .before .before .before .before .args .c) (c .before .before .before .before .before .before .pre .0 .counted .state (c .before .before .loop .i) (c .before .loop-test .taken)) (c .before .before .before .before .before .before .pre .0 .column)
 
-add-to-2 : tie.Need-add-to-2 Inv-loop μ-loop
-add-to-2 c =
-    let args = c .before .before .before .before .args in
-    omega (arith, cell-within (c .before .before .before .loop .q) (args .n) (args .k) (args .c) (c .before .before .loop-test .taken) (c .before .before .before .before .pre .0 .column))
+flag-requires : tie.Need-flag-requires Inv-loop μ-loop
+flag-requires c κs = (c .before .before .before .before .loop .inv .2, rw (c .before .step .ensures) (omega (arith, c .before .before .before .before .before .before .before .before .pre .0 .table .inside _ (c .before .before .before .before .before .before .before .before .args .c) (c .before .before .before .before .before .before .before .before .pre .0 .counted .state (c .before .before .before .before .loop .i) (c .before .before .before .loop-test .taken)) (c .before .before .before .before .before .before .before .before .pre .0 .column), c .before .before .before .before .before .before .before .before .pre .0 .room, c .before .before .before .before .loop .inv .1 .long)))
 
-mul-to-2 : tie.Need-mul-to-2 Inv-loop μ-loop
-mul-to-2 c =
-    let args = c .before .before .before .before .args in
-    omega (arith, cell-within (c .before .before .before .loop .q) (args .n) (args .k) (args .c) (c .before .before .loop-test .taken) (c .before .before .before .before .pre .0 .column))
-
-shared-slice-read-to : tie.Need-shared-slice-read-to Inv-loop μ-loop
-shared-slice-read-to c =
-    let args = c .before .before .before .before .before .args in
-    omega (arith, cell-within (c .before .before .before .before .loop .q) (args .n) (args .k) (args .c) (c .before .before .before .loop-test .taken) (c .before .before .before .before .before .pre .0 .column))
-
-cast-to : tie.Need-cast-to Inv-loop μ-loop
-cast-to c =
-    let args = c .before .before .before .before .before .args in
-    omega (arith, c .shared-slice-known2 .given (args .base + (c .before .before .before .before .loop .q * args .k + args .c)))
-
-slice-write-row : tie.Need-slice-write-row Inv-loop μ-loop
-slice-write-row c = omega (arith, c .before .before .before .before .before .pre .0 .inside (c .before .before .before .before .loop .q) (c .before .before .before .loop-test .taken))
+accepting-requires : tie.Need-accepting-requires Inv-loop μ-loop
+accepting-requires c κs = rw (c .before .before .before .before .step .ensures) (flag-in (c .before .before .before .before .before .before .before .before .before .before .before .args .base) (c .before .before .before .before .before .before .before .before .before .before .before .args .n) (c .before .before .before .before .before .before .before .before .before .before .before .args .k) (c .before .before .before .before .before .before .before .before .before .before .before .args .t .now) (c .before .before .before .before .before .before .before .before .before .before .before .pre .0 .table) _ (c .before .before .before .before .before .before .before .before .before .before .before .pre .0 .table .inside _ (c .before .before .before .before .before .before .before .before .before .before .before .args .c) (c .before .before .before .before .before .before .before .before .before .before .before .pre .0 .counted .state (c .before .before .before .before .before .before .before .loop .i) (c .before .before .before .before .before .before .loop-test .taken)) (c .before .before .before .before .before .before .before .before .before .before .before .pre .0 .column)))
 
 loop-again : tie.Need-loop-again Inv-loop μ-loop
 loop-again c =
-    let loop = c .before .before .before .loop in
-    let a = c .before .before .before .before .args in
-    let q = loop .q in
-    let v = loop .inv in
-    let next = cell (a .base) (a .k) (a .c) (a .t .now) in
+    let a = c .before .before .before .before .before .before .before .before .before .before .before .before .before .args in
+    let v = c .before .before .before .before .before .before .before .before .before .loop .inv in
+    let i = c .before .before .before .before .before .before .before .before .before .loop .i in
+    let inside = c .before .before .before .before .before .before .before .before .before .before .before .before .before .pre .0 .table .inside _ (a .c) (c .before .before .before .before .before .before .before .before .before .before .before .before .before .pre .0 .counted .state i (c .before .before .before .before .before .before .before .before .loop-test .taken)) (c .before .before .before .before .before .before .before .before .before .before .before .before .before .pre .0 .column) in
+    let low : c .before .before .before .before .before .before .step .result < a .n = rw (c .before .before .before .before .before .before .step .ensures) inside in
+    let flags : Flags (length (a .row .now)) (ledBy (a .members .now) (cell (a .base) (a .k) (a .c) (a .t .now)) (i + 1)) (c .before .before .before .before .flag .last .0) = rw (c .before .before .before .before .flag .ensures .0, c .before .before .before .before .before .before .step .ensures) (lead-in (λ i. true) (λ i. cell (a .base) (a .k) (a .c) (a .t .now) (getD (a .members .now) i 0)) (length (a .row .now)) i (v .1) refl (omega (arith, inside, c .before .before .before .before .before .before .before .before .before .before .before .before .before .pre .0 .room))) in
     ⊎-elim
-    (λ w. (omega arith, rw (w .2) (lead-in (flagAt (a .from .now)) next (length (a .row .now)) q (v .1) (flag-set (a .from .now) q (w .0 .taken)) (c .before .before .before .before .pre .0 .inside q (c .before .before .loop-test .taken))), ap length (w .2) ∙ simp length-set (v .2)))
-    (λ w. (omega arith, rw (w .1) (lead-out (flagAt (a .from .now)) next (length (a .row .now)) q (v .1) (flag-clear (a .from .now) q (w .0 .left))), ap length (w .1) ∙ v .2))
+    (λ w. (omega arith, flags, c .before .before .before .before .flag .ensures .1, w .1 ∙ rw (c .before .before .before .before .flag .ensures .0) (some-yes (c .before .before .before .before .before .before .before .before .before .loop .row) (a .t .now) (a .n) (c .before .before .before .before .before .before .step .result) low (omega (arith, low, c .before .before .before .before .before .before .before .before .before .before .before .before .before .pre .0 .room, v .1 .long)) (sym (c .before .accepting .ensures) ∙ w .0 .taken))))
+    (λ w. (omega arith, flags, c .before .before .before .before .flag .ensures .1, w .1 ∙ v .3 ∙ rw (c .before .before .before .before .flag .ensures .0) (some-no (c .before .before .before .before .before .before .before .before .before .loop .row) (a .t .now) (a .n) (c .before .before .before .before .before .before .step .result) (sym (c .before .accepting .ensures) ∙ w .0 .left))))
     (c .if1 .came)
 
 returns : tie.Need-returns Inv-loop μ-loop
-returns c =
-    let loop = c .before .loop in
-    let v = loop .inv in
-    let e : loop .q ≡ c .before .before .args .n = omega arith in
-    flags-row (rw e at (v .1))
+returns c = let e : c .before .loop .i ≡ c .before .before .before .before .before .args .count = omega arith in record { is = flags-row (rw e at (c .before .loop .inv .1)); summed = c .before .loop .inv .2; accepting = c .before .loop .inv .3 }
 
 pub pour-spec : {M : Type 1} → statement M
 pour-spec =
@@ -81,13 +62,11 @@ pour-spec =
     μ-loop
     loop-holds
     (λ c. search needs)
-    mul-to
-    add-to
-    add-to-2
-    mul-to-2
-    shared-slice-read-to
-    cast-to
-    slice-write-row
+    (λ c. search needs)
+    cast-q
+    step-requires
+    flag-requires
+    accepting-requires
     (λ c. search needs)
     (λ c. search needs)
     loop-again

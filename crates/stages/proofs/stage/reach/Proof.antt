@@ -1,10 +1,11 @@
 -- `stages::stage::reach` meets its contract. Assumes nothing.
 use mathlib.Core.Path.{sym}
-use Prim.Native.Nat.{_≤_}
+use Prim.Native.Nat.{ℕ, _≤_}
 use native.Mathlib.Omega.{arith}
+use lib.ListN.{length-replicate}
 use lib.Seq.{length-take-le}
-use Rattle.stages.specs.StageLaws.{reach-half, reach-width, reach-asks, reach-found}
 use borrow.Author.Needs.{needs}
+use Rattle.stages.specs.StageLaws.{reach-half, reach-width, reach-asks, reach-lists, reach-found}
 use Rattle.stages.proofs.stage.reach.Statement.{statement}
 use Rattle.stages.proofs.stage.reach.Tie as tie
 
@@ -33,11 +34,11 @@ slice-aggregate-explore c =
 
 explore-requires : tie.Need-explore-requires
 explore-requires c κs =
-    let h : c .before .before .before .before .width .result ≤ 258 = omega (arith, reach-width (c .before .before .before .before .before .before .before .before .pre) (c .before .before .before .before .before .before .before .before .args .op) _ (c .before .before .before .before .width .ensures), c .before .before .before .before .before .before .before .before .pre .states .1) in
-    reach-asks (c .before .before .before .before .before .before .before .before .pre) (c .before .before .before .before .before .before .before .before .args .op) (c .before .before .before .before .width .result) _ (c .before .before .before .before .width .ensures) (length-take-le _ _ h)
+    let h : c .before .before .before .before .before .width .result ≤ 258 = omega (arith, reach-width (c .before .before .before .before .before .before .before .before .before .pre) (c .before .before .before .before .before .before .before .before .before .args .op) _ (c .before .before .before .before .before .width .ensures), c .before .before .before .before .before .before .before .before .before .pre .states .1) in
+    (reach-asks (c .before .before .before .before .before .before .before .before .before .pre) (c .before .before .before .before .before .before .before .before .before .args .op) (c .before .before .before .before .before .width .result) _ (c .before .before .before .before .before .width .ensures) (length-take-le _ _ h), reach-lists (c .before .before .before .before .before .before .before .before .before .pre) (c .before .before .before .before .before .before .before .before .before .args .op) (c .before .before .before .before .before .width .result) _ (length-replicate {A = ℕ} 256 0))
 
 returns : tie.Need-returns
-returns c = reach-found (c .before .before .before .before .before .before .before .before .before .before .before .before .before .before .pre) (c .before .before .before .before .before .before .before .before .before .before .before .before .before .before .args .op) (c .before .before .before .before .before .before .before .before .before .before .width .result) _ _ _ (c .before .before .before .before .before .explore .ensures)
+returns c = reach-found (c .before .before .before .before .before .before .before .before .before .before .before .before .before .before .before .before .pre) (c .before .before .before .before .before .before .before .before .before .before .before .before .before .before .before .before .args .op) (c .before .before .before .before .before .before .before .before .before .before .before .before .width .result) _ _ _ (c .before .before .before .before .before .before .explore .ensures)
 
 pub reach-spec : {M : Type 1} → statement M
 reach-spec =
@@ -52,6 +53,7 @@ reach-spec =
     (λ c. search needs)
     array-borrow-prefix-row
     slice-aggregate-explore
+    (λ c. search needs)
     explore-requires
     (λ c. search needs)
     (λ c. search needs)
