@@ -15,7 +15,7 @@ use Rattle.board.proofs.ClassLaws.{reach-on, owned-yes, owned-no, owned
 abbrev pub at : List ℕ → ℕ → ℕ
 at l i = getD l i 0
 
--- The states below p are done. A link leads from a state that names a class to the next that names a part of the same old class.
+-- The states below p are done, those from p on are as they were. A link leads from a state that names a class to the next that names a part of the same old class.
 pub record SplitUpto (most : ℕ) (ks cs ns ls : List ℕ) (k p : ℕ) : Type 0 where
   pub long : length ns ≡ most
   pub wide : length ls ≡ most
@@ -28,11 +28,12 @@ pub record SplitUpto (most : ℕ) (ks cs ns ls : List ℕ) (k p : ℕ) : Type 0 
   pub one : (r q : ℕ) → r < p → q < p → at ns r ≡ r → at ns q ≡ q → at cs r ≡ at cs q → at ks r ≡ at ks q → r ≡ q
   pub chain : (r : ℕ) → r < p → at ns r ≡ r → Reach ls (at cs r) r
   pub onward : (r : ℕ) → r < p → at ls r ≢ 0 → (at ns (at ls r) ≡ at ls r) × (at cs (at ls r) ≡ at cs r)
+  pub rest : (q : ℕ) → p ≤ q → at ns q ≡ at cs q
   pub count : k ≡ owned ns p
 
-pub split-start : (most : ℕ) (ks cs ns ls : List ℕ) → length ns ≡ most → length ls ≡ most → ((r : ℕ) → at ls r ≡ 0) → SplitUpto most ks cs ns ls 0 0
+pub split-start : (most : ℕ) (ks cs ls : List ℕ) → length cs ≡ most → length ls ≡ most → ((r : ℕ) → at ls r ≡ 0) → SplitUpto most ks cs cs ls 0 0
 unfolding owned
-split-start most ks cs ns ls e f z = record {
+split-start most ks cs ls e f z = record {
   long = e;
   wide = f;
   rises = λ r h. absurd (not-suc-le-zero h);
@@ -44,6 +45,7 @@ split-start most ks cs ns ls e f z = record {
   one = λ r q h. absurd (not-suc-le-zero h);
   chain = λ r h. absurd (not-suc-le-zero h);
   onward = λ r h. absurd (not-suc-le-zero h);
+  rest = λ q h. refl;
   count = refl;
 }
 
@@ -89,7 +91,10 @@ module _ (most n : ℕ) (ks cs ns ls : List ℕ) (count p : ℕ) (room : n ≤ m
       let k : at cs (at ns s) ≤ at ns s = named .low (at ns s) (omega arith) in
       omega (arith, u .class s b)
 
-  module _ (r : ℕ) (f : Found ks ls (at cs p) (at ks p) p r) where
+  module _ (r : ℕ) (g : Found ks ls (at ns p) (at ks p) p r) where
+    f : Found ks ls (at cs p) (at ks p) p r
+    f = rw (u .rest p (le-refl p)) at g
+
     -- where the search ends before p, the old class has an earlier state, and r names a part of it
     names : r ≢ p → (r < p) × (at ns r ≡ r) × (at cs r ≡ at cs p)
     names d = go (lt-cases (at cs p) p)
@@ -138,6 +143,7 @@ module _ (most n : ℕ) (ks cs ns ls : List ℕ) (count p : ℕ) (room : n ≤ m
         one = λ a b x y. one a b (below p a x) (below p b y);
         chain = λ q b. chain q (below p q b);
         onward = onward;
+        rest = λ q b. getD-set-other ns p q v 0 (λ e. omega arith) ∙ u .rest q (omega arith);
         count = count;
       }
         where
