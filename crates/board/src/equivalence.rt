@@ -26,7 +26,8 @@ fn find(keys: &[u8; 120], link: &[u8; 120], start: usize, key: u8, n: usize) -> 
     }
 }
 
-// Splits each class by the keys of its states, in place: the new class of a state is stored over its old one. How many there are then.
+// Splits each class by the keys of its states, in place: the new class of a state is stored over its old one, and the least state of a class stays.
+// How many classes there are then.
 fn split(n: usize, keys: &[u8; 120], classes: &mut [u8; 120]) -> usize
     requires { ⌜ (n ≤ 120) × (length (now classes) ≡ 120) × Named (now classes) n ⌝ }
     ensures { λ r. ⌜ Split n (now (keys .entry)) (now (classes .entry)) (now (classes .exit)) r ⌝ }
@@ -38,17 +39,18 @@ fn split(n: usize, keys: &[u8; 120], classes: &mut [u8; 120]) -> usize
         let q = p;
         p += 1;
         let start = classes[q] as usize;
-        let key = keys[q];
-        let r = find(keys, &link, start, key, q);
-        if r == q {
-            classes[q] = q as u8;
+        if start == q {
             count += 1;
-        } else if keys[r] == key {
-            classes[q] = r as u8;
         } else {
-            link[r] = q as u8;
-            classes[q] = q as u8;
-            count += 1;
+            let key = keys[q];
+            let found = find(keys, &link, start, key, q);
+            if keys[found] == key {
+                classes[q] = found as u8;
+            } else {
+                link[found] = q as u8;
+                classes[q] = q as u8;
+                count += 1;
+            }
         }
     }
     count

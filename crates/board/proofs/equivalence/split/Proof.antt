@@ -22,32 +22,32 @@ loop-holds c = (search needs, split-start _ _ _ _ (c .pre .1) (search needs) (λ
 cast-start : tie.Need-cast-start Inv-loop μ-loop
 cast-start c = omega (arith, c .before .before .before .pre .2 .low (c .before .before .loop .p) (c .before .loop-test .taken), c .before .before .loop .inv .1 .rest (c .before .before .loop .p) (le-refl (c .before .before .loop .p)))
 
-find-requires : tie.Need-find-requires Inv-loop μ-loop
-find-requires c κs = (split-links 120 _ _ _ _ _ _ _ (c .before .before .before .before .before .pre .0) (c .before .before .before .before .before .pre .2) (c .before .before .before .loop-test .taken) (c .before .before .before .before .loop .inv .1), (omega (arith, c .before .before .before .before .before .pre .2 .low (c .before .before .before .before .loop .p) (c .before .before .before .loop-test .taken), c .before .before .before .before .loop .inv .1 .rest (c .before .before .before .before .loop .p) (le-refl (c .before .before .before .before .loop .p))), omega arith))
-
 add-count : tie.Need-add-count Inv-loop μ-loop
-add-count c = omega (arith, c .before .before .before .before .before .before .loop .inv .1 .count, owned-le (c .before .before .before .before .before .before .loop .classes) (c .before .before .before .before .before .before .loop .p))
+add-count c = omega (arith, c .before .before .before .loop .inv .1 .count, owned-le (c .before .before .before .loop .classes) (c .before .before .before .loop .p))
 
 loop-again : tie.Need-loop-again Inv-loop μ-loop
-loop-again c = (omega arith, split-least 120 _ _ _ _ _ _ _ (c .before .before .before .before .before .before .before .pre .0) (c .before .before .before .before .before .before .before .pre .2) (c .before .before .before .before .before .loop-test .taken) (c .before .before .before .before .before .before .loop .inv .1) _ (c .before .find .ensures) (c .if1 .taken))
+loop-again c = (omega arith, split-least 120 _ _ _ _ _ _ _ (c .before .before .before .before .pre .0) (c .before .before .before .before .pre .2) (c .before .before .loop-test .taken) (c .before .before .before .loop .inv .1) (c .if1 .taken))
+
+find-requires : tie.Need-find-requires Inv-loop μ-loop
+find-requires c κs = (split-links 120 _ _ _ _ _ _ _ (c .before .before .before .before .before .before .pre .0) (c .before .before .before .before .before .before .pre .2) (c .before .before .before .before .loop-test .taken) (c .before .before .before .before .before .loop .inv .1), (omega (arith, c .before .before .before .before .before .before .pre .2 .low (c .before .before .before .before .before .loop .p) (c .before .before .before .before .loop-test .taken), c .before .before .before .before .before .loop .inv .1 .rest (c .before .before .before .before .before .loop .p) (le-refl (c .before .before .before .before .before .loop .p))), omega arith))
 
 element-copy-out-if2 : tie.Need-element-copy-out-if2 Inv-loop μ-loop
-element-copy-out-if2 c = omega (arith, c .before .find .ensures .low)
+element-copy-out-if2 c = omega (arith, c .find .ensures .low)
 
-cast-classes-2 : tie.Need-cast-classes-2 Inv-loop μ-loop
-cast-classes-2 c = omega (arith, c .before .before .before .find .ensures .low)
+cast-classes : tie.Need-cast-classes Inv-loop μ-loop
+cast-classes c = omega (arith, c .before .before .find .ensures .low)
 
 loop-again-2 : tie.Need-loop-again-2 Inv-loop μ-loop
-loop-again-2 c = (omega arith, split-joins 120 _ _ _ _ _ _ _ (c .before .before .before .before .before .before .before .before .before .pre .0) (c .before .before .before .before .before .before .before .before .before .pre .2) (c .before .before .before .before .before .before .before .loop-test .taken) (c .before .before .before .before .before .before .before .before .loop .inv .1) _ (c .before .before .before .find .ensures) (c .before .before .if1 .left) (c .if2 .taken))
+loop-again-2 c = (omega arith, split-joins 120 _ _ _ _ _ _ _ (c .before .before .before .before .before .before .before .before .before .pre .0) (c .before .before .before .before .before .before .before .before .before .pre .2) (c .before .before .before .before .before .before .before .loop-test .taken) (c .before .before .before .before .before .before .before .before .loop .inv .1) _ (c .before .before .find .ensures) (c .before .before .before .before .before .if1 .left) (c .if2 .taken))
 
 array-write-link : tie.Need-array-write-link Inv-loop μ-loop
-array-write-link c = omega (arith, c .before .before .before .find .ensures .low)
+array-write-link c = omega (arith, c .before .before .find .ensures .low)
 
 add-count-2 : tie.Need-add-count-2 Inv-loop μ-loop
 add-count-2 c = omega (arith, c .before .before .before .before .before .before .before .before .loop .inv .1 .count, owned-le (c .before .before .before .before .before .before .before .before .loop .classes) (c .before .before .before .before .before .before .before .before .loop .p))
 
 loop-again-3 : tie.Need-loop-again-3 Inv-loop μ-loop
-loop-again-3 c = (omega arith, split-new 120 _ _ _ _ _ _ _ (c .before .before .before .before .before .before .before .before .before .pre .0) (c .before .before .before .before .before .before .before .before .before .pre .2) (c .before .before .before .before .before .before .before .loop-test .taken) (c .before .before .before .before .before .before .before .before .loop .inv .1) _ (c .before .before .before .find .ensures) (c .before .before .if1 .left) (c .if2 .left))
+loop-again-3 c = (omega arith, split-new 120 _ _ _ _ _ _ _ (c .before .before .before .before .before .before .before .before .before .pre .0) (c .before .before .before .before .before .before .before .before .before .pre .2) (c .before .before .before .before .before .before .before .loop-test .taken) (c .before .before .before .before .before .before .before .before .loop .inv .1) _ (c .before .before .find .ensures) (c .before .before .before .before .before .if1 .left) (c .if2 .left))
 
 returns : tie.Need-returns Inv-loop μ-loop
 returns c = split-done _ _ _ _ _ _ _ (c .before .loop .inv .1) (omega arith)
@@ -62,15 +62,13 @@ split-spec =
     (λ c. search needs)
     (λ c. search needs)
     cast-start
-    (λ c. search needs)
-    find-requires
-    (λ c. search needs)
-    (λ c. search needs)
     add-count
     (λ c. search needs)
     loop-again
+    (λ c. search needs)
+    find-requires
     element-copy-out-if2
-    cast-classes-2
+    cast-classes
     (λ c. search needs)
     (λ c. search needs)
     loop-again-2
