@@ -24,29 +24,21 @@ below p q h = go (lt-cases q p)
 
 -- ---- keys of the states below p
 
--- The keys below p are those of f, and those from p on are 0.
+-- The keys below p are those of f.
 pub record KeysUpto (most : ℕ) (f : ℕ → ℕ) (ks : List ℕ) (p : ℕ) : Type 0 where
   pub long : length ks ≡ most
   pub key : (q : ℕ) → q < p → getD ks q 0 ≡ f q
-  pub rest : (q : ℕ) → p ≤ q → getD ks q 0 ≡ 0
 
-pub keys-start : (most : ℕ) (f : ℕ → ℕ) (ks : List ℕ) → length ks ≡ most → ((q : ℕ) → getD ks q 0 ≡ 0) → KeysUpto most f ks 0
-keys-start most f ks e z = record { long = e; key = λ q h. absurd (not-suc-le-zero h); rest = λ q _. z q }
+pub keys-start : (most : ℕ) (f : ℕ → ℕ) (ks : List ℕ) → length ks ≡ most → KeysUpto most f ks 0
+keys-start most f ks e = record { long = e; key = λ q h. absurd (not-suc-le-zero h) }
 
 module _ (most : ℕ) (f : ℕ → ℕ) (ks : List ℕ) (p : ℕ) (b : p < most) (u : KeysUpto most f ks p) where
   pub keys-set : (v : ℕ) → v ≡ f p → KeysUpto most f (set ks p v) (p + 1)
-  keys-set v e = record { long = length-set ks p v ∙ u .long; key = λ q h. go q (below p q h); rest = λ q h. getD-set-other ks p q v 0 (λ z. omega arith) ∙ u .rest q (omega arith) }
+  keys-set v e = record { long = length-set ks p v ∙ u .long; key = λ q h. go q (below p q h) }
     where
       go : (q : ℕ) → (q < p) ⊎ (q ≡ p) → getD (set ks p v) q 0 ≡ f q
       go q (inl x) = getD-set-other ks p q v 0 (λ z. omega arith) ∙ u .key q x
       go q (inr x) = rw x (getD-set-same ks p v 0 (omega (arith, u .long)) ∙ e)
-
-  pub keys-zero : f p ≡ 0 → KeysUpto most f ks (p + 1)
-  keys-zero e = record { long = u .long; key = λ q h. go q (below p q h); rest = λ q h. u .rest q (omega arith) }
-    where
-      go : (q : ℕ) → (q < p) ⊎ (q ≡ p) → getD ks q 0 ≡ f q
-      go q (inl x) = u .key q x
-      go q (inr x) = rw x (u .rest p (omega arith) ∙ sym e)
 
 -- ---- acceptance
 
@@ -56,7 +48,7 @@ acceptKey ms q = bit (eqb 1 (getD ms q 0))
 pub accept-yes : (ms : List ℕ) (q : ℕ) → getD ms q 0 ≡ 1 → 1 ≡ acceptKey ms q
 accept-yes ms q e = rw e
 
-pub accept-no : (ms : List ℕ) (q : ℕ) → getD ms q 0 ≢ 1 → acceptKey ms q ≡ 0
+pub accept-no : (ms : List ℕ) (q : ℕ) → getD ms q 0 ≢ 1 → 0 ≡ acceptKey ms q
 accept-no ms q d = let t : eqb 1 (getD ms q 0) ≡ false = not-true (eqb 1 (getD ms q 0)) (λ e. d (sym (nat-test .sound 1 (getD ms q 0) e))) in rw t
 
 pub accept-done : (most : ℕ) (ms ks : List ℕ) (p : ℕ) → length ms ≤ p → KeysUpto most (acceptKey ms) ks p → AcceptKeys ms ks

@@ -1,5 +1,6 @@
 // Test 26: no two states are equivalent. Partition refinement (Moore's, one column at a time): a state's class is named by the least state in it, so
-// that a class is split by linking the classes that it falls into, least states first. No table of pairs.
+// that a class is split by linking the classes that it falls into, least states first. No table of pairs. The arrays are filled where they stand:
+// one that is handed back is copied, which takes longer than the whole test of a small card.
 ghost use mathlib.Core.Path.{_≡_};
 ghost use Prim.Native.Nat.{_≤_, _<_};
 ghost use lib.ListN.{length};
@@ -25,10 +26,11 @@ fn find(keys: &[u8; 120], link: &[u8; 120], start: usize, key: u8, n: usize) -> 
     }
 }
 
-// Splits each class by the keys of its states: the new classes, and how many they are.
-fn split(n: usize, keys: &[u8; 120], old: &[u8; 120], new: &mut [u8; 120]) -> usize
-    requires { ⌜ (n ≤ 120) × (length (now new) ≡ 120) × Named (now old) n ⌝ }
-    ensures { λ r. ⌜ Split n (now (keys .entry)) (now (old .entry)) (now (new .exit)) r ⌝ }
+// Splits each class by the keys of its states, in place: the new class of a state is stored over its old one, and the least state of a class stays.
+// How many classes there are then.
+fn split(n: usize, keys: &[u8; 120], classes: &mut [u8; 120]) -> usize
+    requires { ⌜ (n ≤ 120) × (length (now classes) ≡ 120) × Named (now classes) n ⌝ }
+    ensures { λ r. ⌜ Split n (now (keys .entry)) (now (classes .entry)) (now (classes .exit)) r ⌝ }
 {
     let mut link = [0u8; 120];
     let mut count = 0;
@@ -36,46 +38,53 @@ fn split(n: usize, keys: &[u8; 120], old: &[u8; 120], new: &mut [u8; 120]) -> us
     while p < n {
         let q = p;
         p += 1;
-        let start = old[q] as usize;
-        let key = keys[q];
-        let r = find(keys, &link, start, key, q);
-        if r == q {
-            new[q] = q as u8;
+        let start = classes[q] as usize;
+        if start == q {
             count += 1;
-        } else if keys[r] == key {
-            new[q] = r as u8;
         } else {
-            link[r] = q as u8;
-            new[q] = q as u8;
-            count += 1;
+            let key = keys[q];
+            let found = find(keys, &link, start, key, q);
+            if keys[found] == key {
+                classes[q] = found as u8;
+            } else {
+                link[found] = q as u8;
+                classes[q] = q as u8;
+                count += 1;
+            }
         }
     }
     count
 }
 
 // Of each state whether it accepts.
-fn accept_keys(marks: &[u8]) -> [u8; 120]
-    requires { ⌜ length (now marks) ≤ 120 ⌝ }
-    ensures { λ r. ⌜ AcceptKeys (now (marks .entry)) r ⌝ }
+fn accept_keys(marks: &[u8], keys: &mut [u8; 120])
+    requires { ⌜ (length (now marks) ≤ 120) × (length (now keys) ≡ 120) ⌝ }
+    ensures { λ _. ⌜ AcceptKeys (now (marks .entry)) (now (keys .exit)) ⌝ }
 {
-    let mut keys = [0u8; 120];
     let mut p = 0;
     while p < marks.len() {
         let q = p;
         p += 1;
         if marks[q] == 1 {
             keys[q] = 1;
+        } else {
+            keys[q] = 0;
         }
     }
-    keys
 }
 
 // Of each state the class that column c leads to.
-fn column_keys(moves: &[u8], m: usize, n: usize, c: usize, classes: &[u8; 120]) -> [u8; 120]
-    requires { ⌜ Columns m n c (now moves) ⌝ }
-    ensures { λ r. ⌜ ColumnKeys m (now (moves .entry)) n c (now (classes .entry)) r ⌝ }
+fn column_keys(
+    moves: &[u8],
+    m: usize,
+    n: usize,
+    c: usize,
+    classes: &[u8; 120],
+    keys: &mut [u8; 120],
+)
+    requires { ⌜ Columns m n c (now moves) × (length (now keys) ≡ 120) ⌝ }
+    ensures { λ _. ⌜ ColumnKeys m (now (moves .entry)) n c (now (classes .entry)) (now (keys .exit)) ⌝ }
 {
-    let mut keys = [0u8; 120];
     let mut at = c;
     let mut p = 0;
     while p < n {
@@ -84,19 +93,16 @@ fn column_keys(moves: &[u8], m: usize, n: usize, c: usize, classes: &[u8; 120]) 
         at += m;
         p += 1;
     }
-    keys
 }
 
 // Splits each class by where column c leads.
 fn refine(moves: &[u8], m: usize, n: usize, c: usize, classes: &mut [u8; 120]) -> usize
-    requires { ⌜ Columns m n c (now moves) × Named (now classes) n ⌝ }
+    requires { ⌜ Columns m n c (now moves) × (length (now classes) ≡ 120) × Named (now classes) n ⌝ }
     ensures { λ r. ⌜ Refined m (now (moves .entry)) n c (now (classes .entry)) (now (classes .exit)) r ⌝ }
 {
-    let keys = column_keys(moves, m, n, c, classes);
-    let mut next = [0u8; 120];
-    let count = split(n, &keys, classes, &mut next);
-    *classes = next;
-    count
+    let mut keys = [0u8; 120];
+    column_keys(moves, m, n, c, classes, &mut keys);
+    split(n, &keys, classes)
 }
 
 // First the classes by acceptance, then column by column, each as long as it splits one, until each state is alone in its class, or a pass over all
@@ -106,10 +112,10 @@ pub fn reduced(marks: &[u8], moves: &[u8], m: usize) -> bool
     ensures { λ r. ⌜ ReducedExactly m (now (marks .entry)) (now (moves .entry)) r ⌝ }
 {
     let n = marks.len();
-    let keys = accept_keys(marks);
-    let one = [0u8; 120];
+    let mut keys = [0u8; 120];
+    accept_keys(marks, &mut keys);
     let mut classes = [0u8; 120];
-    let mut count = split(n, &keys, &one, &mut classes);
+    let mut count = split(n, &keys, &mut classes);
     let mut before = count;
     let mut c = 0;
     while count < n {

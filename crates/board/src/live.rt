@@ -46,33 +46,31 @@ fn round(marks: &[u8], moves: &[u8], m: usize, flags: &mut [bool; 120]) -> bool
 }
 
 // The flags of the accepting states, whose marks byte is 1.
-fn accepting(marks: &[u8]) -> [bool; 120]
-    requires { ⌜ length (now marks) ≤ 120 ⌝ }
-    ensures { λ r. ⌜ FlagsOf 120 (now (marks .entry)) r ⌝ }
+fn accepting(marks: &[u8], flags: &mut [bool; 120])
+    requires { ⌜ (length (now marks) ≤ 120) × (length (now flags) ≡ 120) ⌝ }
+    ensures { λ _. ⌜ FlagsOf 120 (now (marks .entry)) (now (flags .exit)) ⌝ }
 {
-    let mut flags = [false; 120];
     let mut p = 0;
     while p < marks.len() {
         flags[p] = marks[p] == 1;
         p += 1;
     }
-    flags
 }
 
 // The flags of the live states: as many rounds as there are states, or fewer when one changes nothing.
-fn live(marks: &[u8], moves: &[u8], m: usize) -> [bool; 120]
+fn live(marks: &[u8], moves: &[u8], m: usize, flags: &mut [bool; 120])
     requires { ⌜ Table 120 m (now marks) (now moves) ⌝ }
-    ensures { λ r. ⌜ LiveExactly m (now (marks .entry)) (now (moves .entry)) r ⌝ }
+    requires { ⌜ length (now flags) ≡ 120 ⌝ }
+    ensures { λ _. ⌜ LiveExactly m (now (marks .entry)) (now (moves .entry)) (now (flags .exit)) ⌝ }
 {
-    let mut flags = accepting(marks);
+    accepting(marks, flags);
     let mut j = 0;
     while j < marks.len() {
-        if !round(marks, moves, m, &mut flags) {
-            return flags;
+        if !round(marks, moves, m, flags) {
+            return;
         }
         j += 1;
     }
-    flags
 }
 
 // Each marks byte is 1 for an accepting state, 2 for a dead one, else 0.
@@ -80,7 +78,8 @@ pub fn marked(marks: &[u8], moves: &[u8], m: usize) -> bool
     requires { ⌜ Table 120 m (now marks) (now moves) ⌝ }
     ensures { λ r. ⌜ MarksExactly m (now (marks .entry)) (now (moves .entry)) r ⌝ }
 {
-    let flags = live(marks, moves, m);
+    let mut flags = [false; 120];
+    live(marks, moves, m, &mut flags);
     let mut p = 0;
     while p < marks.len() {
         let b = marks[p];

@@ -1,5 +1,6 @@
 -- Laws of reading with any fuel that is enough: one step of the definitions' reader for one step of the code.
 use mathlib.Core.Path.{_≡_, refl, sym, ap, _∙_, subst}
+use mathlib.Core.Bool.{Bool, true, false}
 use mathlib.Core.List.{List, [], _∷_, _++_, append-assoc}
 use Prim.Native.Nat.{ℕ, zero, suc, _+_, _*_, _-_, _<_, _≤_}
 use native.Mathlib.Omega.{arith}
@@ -9,11 +10,9 @@ use Rattle.book.specs.Reader.{Read, got, bad, andThen}
 use Rattle.book.specs.Program.{postfix}
 use Rattle.choice.specs.Buffer.{Grown}
 use Rattle.choice.specs.BufferLaws.{grown-none, grown-before, grown-more}
-use Rattle.choice.specs.Reading.{Part, a-choice, a-blend, a-chain, an-item, an-atom, more-choices, more-blends, more-chains, read, rank, Is, left, To, Reads}
-use Rattle.choice.specs.ReadingLaws.{read-to, read-not}
-use Rattle.choice.specs.Steps.{Put}
+use Rattle.choice.specs.Reading.{Part, a-choice, a-blend, a-chain, an-item, an-atom, more-choices, more-blends, more-chains, read, rank, Is, left, To, Not, Reads}
+use Rattle.choice.specs.Steps.{Put, PutIf}
 use Rattle.choice.specs.declared.Spot.{Spot}
-use Rattle.choice.specs.declared.Made.{Made}
 use Rattle.choice.specs.declared.Made.the-variants.{Done, Refused}
 
 rank-positive : (p : Part) → 0 < rank p
@@ -82,7 +81,7 @@ pub record Goes (m : Expr → Part) (s o : List ℕ) (c : Spot) (o′ : List ℕ
   pub room : n .pos + 2 * (length s - n .at) ≤ c .pos + 2 * (length s - c .at)
   pub same-length : length o′ ≡ length o
 
-pub goes-start : (m : Expr → Part) (s o : List ℕ) (c : Spot) → Goes m s o c o c
+goes-start : (m : Expr → Part) (s o : List ℕ) (c : Spot) → Goes m s o c o c
 goes-start m s o c = record {
   goes = λ before e q. record { expr = e; code-is = q; goes = λ X i. i };
   grown = grown-none o (c .pos);
@@ -92,54 +91,12 @@ goes-start m s o c = record {
   same-length = refl;
 }
 
-module _ {l p : Part} {m : Expr → Part} {r : ℕ} (w : Row l p m r) where
-  -- the first part is refused
-  pub first-not : {s o o′ : List ℕ} {c : Spot} {a : Made} → Reads p s o c o′ a → a ≡ Refused → Reads l s o c o′ Refused
-  first-not {s} {o} {o′} {c} d q =
-      let y = read-not d q in
-      record { says = record { reads = seq (λ f e us. read f (m e) us) (y .reads) (λ f. w .first f _) (omega (arith, w .part-less)) (λ f g. refl); before = y .before } }
-
-  -- the row ends
-  pub row-done : {s o o₁ o′ : List ℕ} {c n : Spot} {x : Spot} {a : Made} → Reads p s o c o₁ a → a ≡ Done x → Goes m s o₁ x o′ n → Stops m (left s n) → Reads l s o c o′ (Done n)
-  row-done {s} {o} {o₁} {o′} {c} {n} {x} d q g st =
-      let y = read-to d q in
-      let z = g .goes (take (c .pos) o) (y .expr) (y .code) in
-      record {
-        says = record {
-          expr = z .expr;
-          reads = seq (λ f e us. read f (m e) us) (y .reads) (λ f. w .first f _) (omega (arith, w .part-less))
-              (λ f h. z .goes (got (z .expr) (left s n)) (stop (λ k. st k (z .expr))) .run f (omega (arith, w .rank-is (y .expr), y .fewer, w .more-less)));
-          code = z .code-is;
-          grown = grown-more (y .grown) (g .grown);
-          fewer = omega (arith, g .fewer, y .fewer);
-          falls = omega (arith, g .falls, y .falls);
-          room = omega (arith, g .room, y .room);
-        };
-      }
-
-  -- a later part is refused
-  pub row-not : {s o o₁ o′ o″ : List ℕ} {c n : Spot} {x : Spot} {a b : Made} {v : Spot} (op : Expr → Expr → Expr)
-      → Reads p s o c o₁ a → a ≡ Done x → Goes m s o₁ x o′ n → Reads p s o′ v o″ b → b ≡ Refused → Turn m p op (left s n) (left s v)
-      → v .pos ≡ n .pos → 6 * length (left s v) + rank p < 6 * length (left s n) + r → Reads l s o c o″ Refused
-  row-not {s} {o} {o₁} {o′} {o″} {c} {n} {x} op d q g d′ q′ tu hv h =
-      let y = read-to d q in
-      let y′ = read-not d′ q′ in
-      let z = g .goes (take (c .pos) o) (y .expr) (y .code) in
-      record {
-        says = record {
-          reads = seq (λ f e us. read f (m e) us) (y .reads) (λ f. w .first f _) (omega (arith, w .part-less))
-              (λ f h′. z .goes bad (seq (λ f e us. read f (m (op (z .expr) e)) us) (y′ .reads) (λ f. tu f (z .expr)) (omega (arith, w .rank-is (z .expr))) (λ f g. refl)) .run f (omega (arith, w .rank-is (y .expr), y .fewer, w .more-less)));
-          before = grown-before o″ (grown-more (y .grown) (g .grown)) (subst (λ (i : ℕ). take i o″ ≡ take i o′) hv (y′ .before));
-        };
-      }
-
 -- one part more was read and its operator b was written
-pub goes-turn : {l p : Part} {m : Expr → Part} {r : ℕ} {s o o₁ o′ o″ : List ℕ} {c n x n′ : Spot} {v : Spot} {a : Made} {b : ℕ} (w : Row l p m r) (op : Expr → Expr → Expr)
-    → Goes m s o c o₁ n → Reads p s o₁ v o′ a → a ≡ Done x → Put o′ x b o″ n′ → Turn m p op (left s n) (left s v)
+goes-turn : {l p : Part} {m : Expr → Part} {r : ℕ} {s o o₁ o′ o″ : List ℕ} {c n x n′ : Spot} {v : Spot} {b : ℕ} (w : Row l p m r) (op : Expr → Expr → Expr)
+    → Goes m s o c o₁ n → To p s o₁ v o′ x → Put o′ x b o″ n′ → Turn m p op (left s n) (left s v)
     → v .pos ≡ n .pos → 6 * length (left s v) + rank p < 6 * length (left s n) + r → length (left s v) ≤ length (left s n) → length s - v .at ≤ length s - n .at
     → ((e g : Expr) → postfix (op e g) ≡ postfix e ++ (postfix g ++ (b ∷ []))) → length o″ ≡ length o₁ → Goes m s o c o″ n′
-goes-turn {l} {p} {m} {r} {s} {o} {o₁} {o′} {o″} {c} {n} {x} {n′} {v} {a} {b} w op g d q u tu hv h fw fl pf ln =
-    let y = read-to d q in
+goes-turn {l} {p} {m} {r} {s} {o} {o₁} {o′} {o″} {c} {n} {x} {n′} {v} {b} w op g y u tu hv h fw fl pf ln =
     let there : left s n′ ≡ left s x = ap (λ (i : ℕ). left s (record { at = i; pos = 0 })) (u .at-is) in
     record {
       goes = λ before e q₀. step y there before e (g .goes before e q₀);
@@ -163,3 +120,82 @@ goes-turn {l} {p} {m} {r} {s} {o} {o₁} {o′} {o″} {c} {n} {x} {n′} {v} {a
       goes = λ X i. z .goes X (seq (λ f e us. read f (m (op (z .expr) e)) us) (y .reads) (λ f. tu f (z .expr)) (omega (arith, w .rank-is (z .expr)))
           (λ f k. ap (λ (us : List ℕ). read f (m (op (z .expr) (y .expr))) us) (sym there) ∙ i .run f (omega (arith, w .rank-is (z .expr), w .rank-is (op (z .expr) (y .expr)), y .fewer, ap length there))));
     }
+
+-- Behind a part: the first part of the row was read, and from its end the row went on to n.
+pub record Behind (p : Part) (m : Expr → Part) (s o : List ℕ) (c : Spot) (o′ : List ℕ) (n : Spot) : Type 0 where
+  pub code : List ℕ
+  pub end : Spot
+  pub first : To p s o c code end
+  pub goes : Goes m s code end o′ n
+  pub same-length : length o′ ≡ length o
+
+-- Before a part, which starts at v: what comes of it. If there is more than this part, b is the operator before it.
+pub record Ahead (l p : Part) (m : Expr → Part) (more : Bool) (b : ℕ) (s o : List ℕ) (c : Spot) (o′ : List ℕ) (v : Spot) : Type 0 where
+  pub refused : (o″ : List ℕ) → Not p s o′ v o″ → Reads l s o c o″ Refused
+  pub reads : (o₁ o₂ : List ℕ) (x n : Spot) → To p s o′ v o₁ x → PutIf more o₁ x b o₂ n → length o₁ ≡ length o′ → length o₂ ≡ length o₁ → Behind p m s o c o₂ n
+  pub falls : length s - v .at ≤ length s - c .at
+  pub room : v .pos + 2 * (length s - v .at) ≤ c .pos + 2 * (length s - c .at)
+  pub same-length : length o′ ≡ length o
+
+module _ {l p : Part} {m : Expr → Part} {r : ℕ} (w : Row l p m r) where
+  -- no part was read yet
+  pub ahead-start : {b : ℕ} {s o : List ℕ} {c : Spot} → Ahead l p m false b s o c o c
+  ahead-start {b} {s} {o} {c} = record {
+    refused = λ o″ y. record { says = record { reads = seq (λ f e us. read f (m e) us) (y .reads) (λ f. w .first f _) (omega (arith, w .part-less)) (λ f g. refl); before = y .before } };
+    reads = λ o₁ o₂ x n t u h h′. record { code = o₁; end = x; first = t; goes = rw (u .same refl .0, u .same refl .1) (goes-start m s o₁ x); same-length = h′ ∙ h };
+    falls = omega arith;
+    room = omega arith;
+    same-length = refl;
+  }
+
+  -- the row ends
+  pub row-done : {s o o′ : List ℕ} {c n : Spot} → Behind p m s o c o′ n → Stops m (left s n) → Reads l s o c o′ (Done n)
+  row-done {s} {o} {o′} {c} {n} d st =
+      let y = d .first in
+      let g = d .goes in
+      let z = g .goes (take (c .pos) o) (y .expr) (y .code) in
+      record {
+        says = record {
+          expr = z .expr;
+          reads = seq (λ f e us. read f (m e) us) (y .reads) (λ f. w .first f _) (omega (arith, w .part-less))
+              (λ f h. z .goes (got (z .expr) (left s n)) (stop (λ k. st k (z .expr))) .run f (omega (arith, w .rank-is (y .expr), y .fewer, w .more-less)));
+          code = z .code-is;
+          grown = grown-more (y .grown) (g .grown);
+          fewer = omega (arith, g .fewer, y .fewer);
+          falls = omega (arith, g .falls, y .falls);
+          room = omega (arith, g .room, y .room);
+        };
+      }
+
+  -- a later part is refused
+  row-not : {s o o′ o″ : List ℕ} {c n v : Spot} (op : Expr → Expr → Expr) → Behind p m s o c o′ n → Not p s o′ v o″ → Turn m p op (left s n) (left s v)
+      → v .pos ≡ n .pos → 6 * length (left s v) + rank p < 6 * length (left s n) + r → Reads l s o c o″ Refused
+  row-not {s} {o} {o′} {o″} {c} {n} op d y′ tu hv h =
+      let y = d .first in
+      let g = d .goes in
+      let z = g .goes (take (c .pos) o) (y .expr) (y .code) in
+      record {
+        says = record {
+          reads = seq (λ f e us. read f (m e) us) (y .reads) (λ f. w .first f _) (omega (arith, w .part-less))
+              (λ f h′. z .goes bad (seq (λ f e us. read f (m (op (z .expr) e)) us) (y′ .reads) (λ f. tu f (z .expr)) (omega (arith, w .rank-is (z .expr))) (λ f g. refl)) .run f (omega (arith, w .rank-is (y .expr), y .fewer, w .more-less)));
+          before = grown-before o″ (grown-more (y .grown) (g .grown)) (subst (λ (i : ℕ). take i o″ ≡ take i o′) hv (y′ .before));
+        };
+      }
+
+  -- one part more starts at v, joined by op, whose code is b
+  pub ahead-more : {b : ℕ} {s o o′ : List ℕ} {c n v : Spot} (op : Expr → Expr → Expr) → Behind p m s o c o′ n → Turn m p op (left s n) (left s v)
+      → v .pos ≡ n .pos → 6 * length (left s v) + rank p < 6 * length (left s n) + r → length (left s v) ≤ length (left s n) → length s - v .at ≤ length s - n .at
+      → ((e g : Expr) → postfix (op e g) ≡ postfix e ++ (postfix g ++ (b ∷ []))) → Ahead l p m true b s o c o′ v
+  ahead-more {b} {s} {o} {o′} {c} {n} {v} op d tu hv h fw fl pf = record {
+    refused = λ o″ y. row-not op d y tu hv h;
+    reads = λ o₁ o₂ x k t u q q′. record {
+      code = d .code;
+      end = d .end;
+      first = d .first;
+      goes = goes-turn w op (d .goes) t (u .put refl) tu hv h fw fl pf (q′ ∙ q);
+      same-length = q′ ∙ q ∙ d .same-length;
+    };
+    falls = omega (arith, fl, d .goes .falls, d .first .falls);
+    room = omega (arith, hv, fl, d .goes .room, d .first .room);
+    same-length = d .same-length;
+  }

@@ -1,5 +1,6 @@
 -- What the small functions below the five promise: a byte of code, the signs behind an atom, the `!` before it.
 use mathlib.Core.Path.{_≡_}
+use mathlib.Core.Bool.{Bool, true, false}
 use mathlib.Core.List.{List, [], _∷_, _++_}
 use Prim.Native.Nat.{ℕ, zero, suc, _+_, _*_, _-_, _≤_}
 use lib.ListN.{length, take, drop}
@@ -18,6 +19,12 @@ pub record Put (o : List ℕ) (c : Spot) (b : ℕ) (o′ : List ℕ) (n : Spot) 
   pub pos-is : n .pos ≡ c .pos + 1
   pub code-is : take (n .pos) o′ ≡ take (c .pos) o ++ (b ∷ [])
   pub grown : Grown o (c .pos) o′ (n .pos)
+
+-- the same if there is more, else all as it was
+pub record PutIf (more : Bool) (o : List ℕ) (c : Spot) (b : ℕ) (o′ : List ℕ) (n : Spot) : Type 0 where
+  pub at-is : n .at ≡ c .at
+  pub put : more ≡ true → Put o c b o′ n
+  pub same : more ≡ false → (o′ ≡ o) × (n ≡ c)
 
 -- The buffer's code goes on from e, behind any other code, to the expression `expr`: that of e with the signs that stand at ts, up to us.
 pub record Repeated (before : List ℕ) (e : Expr) (ts code us : List ℕ) : Type 0 where

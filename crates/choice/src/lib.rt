@@ -1,5 +1,6 @@
 // Reads a choice of a line and writes its postfix code into a lent buffer: choice, blend, chain, item and atom call each other. Each call is at a
-// later byte of the line, or of a smaller part: only brackets make calls deeper. What goes before or behind an item is passed by loops.
+// later byte of the line, or of a smaller part: only brackets make calls deeper. What goes before or behind an item is passed by loops. Each of the
+// five is called from one place alone, so that they become one function in the machine code, and only a bracket is a call.
 // `choice` is a part below the entries: its caller has counted the brackets and lends two bytes of code for each byte that is left of the line.
 pub mod kinds;
 pub mod lexer;
@@ -9,7 +10,7 @@ use lexer::past_spaces;
 ghost use Prim.Native.Nat.{_+_, _<_, _≤_};
 ghost use lib.ListN.{length};
 ghost use Rattle.choice.specs.Reading.{Room, Reads, a-choice, a-blend, a-chain, an-item, an-atom};
-ghost use Rattle.choice.specs.Steps.{Put, Suffixed, Nots, Negated};
+ghost use Rattle.choice.specs.Steps.{Put, PutIf, Suffixed, Nots, Negated};
 
 // How far the line is read, and how far the code is written.
 pub struct Spot {
@@ -41,34 +42,41 @@ fn put(out: &mut [u8], c: Spot, b: u8) -> Spot
     }
 }
 
+// The same behind a part of a row, if there are more: the first part of a row has no operator before it.
+fn put_if(out: &mut [u8], c: Spot, more: bool, b: u8) -> Spot
+    requires { ⌜ c .pos < length (now out) ⌝ }
+    ensures { λ r. ⌜ PutIf more (now (out .entry)) c b (now (out .exit)) r ⌝ }
+{
+    if more {
+        return put(out, c, b);
+    }
+    c
+}
+
 // Blends separated by '|'.
 pub fn choice(s: &[u8], out: &mut [u8], c: Spot) -> Made
     requires { ⌜ Room (now s) (now out) c ⌝ }
     ensures { λ r. ⌜ Reads a-choice (now (s .entry)) (now (out .entry)) c (now (out .exit)) r ⌝ }
 {
-    let Made::Done(first) = blend(s, out, c) else {
-        return Made::Refused;
-    };
-    let mut here = first;
+    let mut here = c;
+    let mut more = false;
     loop {
-        let at = here.at;
+        let Made::Done(n) = blend(s, out, here) else {
+            return Made::Refused;
+        };
+        let end = put_if(out, n, more, 124);
+        let at = end.at;
         let t = Cursor { at }.token(s);
         let k = t.kind;
         if k != 12 {
-            return Made::Done(here);
+            return Made::Done(end);
         }
+        more = true;
         let next = t.next;
-        let Made::Done(n) = blend(
-            s,
-            out,
-            Spot {
-                at: next.at,
-                pos: here.pos,
-            },
-        ) else {
-            return Made::Refused;
+        here = Spot {
+            at: next.at,
+            pos: end.pos,
         };
-        here = put(out, n, 124);
     }
 }
 
@@ -77,33 +85,30 @@ fn blend(s: &[u8], out: &mut [u8], c: Spot) -> Made
     requires { ⌜ Room (now s) (now out) c ⌝ }
     ensures { λ r. ⌜ Reads a-blend (now (s .entry)) (now (out .entry)) c (now (out .exit)) r ⌝ }
 {
-    let Made::Done(first) = chain(s, out, c) else {
-        return Made::Refused;
-    };
-    let mut here = first;
+    let mut here = c;
+    let mut more = false;
+    let mut operator: u8 = 0;
     loop {
-        let at = here.at;
+        let Made::Done(n) = chain(s, out, here) else {
+            return Made::Refused;
+        };
+        let end = put_if(out, n, more, operator);
+        let at = end.at;
         let t = Cursor { at }.token(s);
         let k = t.kind;
         if k < 10 {
-            return Made::Done(here);
+            return Made::Done(end);
         }
         if 11 < k {
-            return Made::Done(here);
+            return Made::Done(end);
         }
-        let operator = t.byte;
+        operator = t.byte;
+        more = true;
         let next = t.next;
-        let Made::Done(n) = chain(
-            s,
-            out,
-            Spot {
-                at: next.at,
-                pos: here.pos,
-            },
-        ) else {
-            return Made::Refused;
+        here = Spot {
+            at: next.at,
+            pos: end.pos,
         };
-        here = put(out, n, operator);
     }
 }
 
@@ -112,24 +117,24 @@ fn chain(s: &[u8], out: &mut [u8], c: Spot) -> Made
     requires { ⌜ Room (now s) (now out) c ⌝ }
     ensures { λ r. ⌜ Reads a-chain (now (s .entry)) (now (out .entry)) c (now (out .exit)) r ⌝ }
 {
-    let Made::Done(first) = item(s, out, c) else {
-        return Made::Refused;
-    };
-    let mut here = first;
+    let mut here = c;
+    let mut more = false;
     loop {
-        let at = here.at;
-        let t = Cursor { at }.token(s);
-        let k = t.kind;
-        if k < 1 {
-            return Made::Done(here);
-        }
-        if 6 < k {
-            return Made::Done(here);
-        }
         let Made::Done(n) = item(s, out, here) else {
             return Made::Refused;
         };
-        here = put(out, n, 59);
+        let end = put_if(out, n, more, 59);
+        let at = end.at;
+        let t = Cursor { at }.token(s);
+        let k = t.kind;
+        if k < 1 {
+            return Made::Done(end);
+        }
+        if 6 < k {
+            return Made::Done(end);
+        }
+        more = true;
+        here = end;
     }
 }
 

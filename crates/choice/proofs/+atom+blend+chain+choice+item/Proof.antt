@@ -1,15 +1,15 @@
--- choice, blend, chain, item and atom meet their contracts: each loop keeps how the reading goes on (`Goes`). Assumes nothing.
+-- choice, blend, chain, item and atom meet their contracts: each loop keeps what comes of the part ahead (`Ahead`). Assumes nothing.
 use Prim.Native.Nat.{ℕ, _+_, _*_, _-_, _<_}
 use native.Mathlib.Omega.{arith}
-use mathlib.Core.Path.{refl, _∙_}
+use mathlib.Core.Path.{refl}
 use borrow.Author.Needs.{needs}
 use lib.ListN.{length}
 use Rattle.automata.specs.Stages.{either}
 use Rattle.language.specs.Expression.{pair, join}
-use Rattle.choice.specs.Reading.{more-choices, more-blends, more-chains}
-use Rattle.choice.specs.ReadingLaws.{read-to}
+use Rattle.choice.specs.Reading.{a-choice, a-blend, a-chain, an-item, more-choices, more-blends, more-chains}
+use Rattle.choice.specs.ReadingLaws.{read-to, read-not}
 use Rattle.choice.proofs.TokenLaws.{at-fewer}
-use Rattle.choice.proofs.ReadLaws.{Goes, choice-row, blend-row, chain-row, first-not, row-done, row-not, goes-start, goes-turn}
+use Rattle.choice.proofs.ReadLaws.{Ahead, choice-row, blend-row, chain-row, ahead-start, ahead-more, row-done}
 use Rattle.choice.proofs.KindLaws.{choices-stop, blends-stop, chains-stop, below-items, above-items, choices-turn, blends-turn, chains-turn}
 use Rattle.choice.proofs.ItemLaws.{item-refused, item-done, atom-put, atom-refused, bracket-refused, bracket-open, bracket-done}
 use borrow.Fn.Kinds.{In}
@@ -33,6 +33,7 @@ use Rattle.choice.proofs.lexer.Cursor.token.Reads as token-reads
 use Rattle.choice.proofs.negate.Reads as negate-reads
 use Rattle.choice.proofs.nots.Reads as nots-reads
 use Rattle.choice.proofs.put.Reads as put-reads
+use Rattle.choice.proofs.put_if.Reads as put-if-reads
 use Rattle.choice.proofs.suffixed.Reads as suffixed-reads
 use Rattle.choice.proofs.+atom+blend+chain+choice+item.{statement}
 use Rattle.choice.proofs.+atom+blend+chain+choice+item.Tie.{close}
@@ -88,15 +89,15 @@ atom-claims t = (token-reads.Asked, token-reads.Learnt, put-reads.Asked, put-rea
 
 -- what `blend` calls
 abbrev blend-claims : ℕ → blend-lts.Claims
-blend-claims t = (chain-below t, chain.Post, token-reads.Asked, token-reads.Learnt, put-reads.Asked, put-reads.Learnt)
+blend-claims t = (chain-below t, chain.Post, put-if-reads.Asked, put-if-reads.Learnt, token-reads.Asked, token-reads.Learnt)
 
 -- what `chain` calls
 abbrev chain-claims : ℕ → chain-lts.Claims
-chain-claims t = (item-below t, item.Post, token-reads.Asked, token-reads.Learnt, put-reads.Asked, put-reads.Learnt)
+chain-claims t = (item-below t, item.Post, put-if-reads.Asked, put-if-reads.Learnt, token-reads.Asked, token-reads.Learnt)
 
 -- what `choice` calls
 abbrev choice-claims : ℕ → choice-lts.Claims
-choice-claims t = (blend-below t, blend.Post, token-reads.Asked, token-reads.Learnt, put-reads.Asked, put-reads.Learnt)
+choice-claims t = (blend-below t, blend.Post, put-if-reads.Asked, put-if-reads.Learnt, token-reads.Asked, token-reads.Learnt)
 
 -- what `item` calls
 abbrev item-claims : ℕ → item-lts.Claims
@@ -131,144 +132,122 @@ atom-returns-6 : (t : ℕ) → atom-lts.Need-returns-6 (atom-claims t) (atom-at 
 atom-returns-6 t c = bracket-done (c .before .before .before .before .before .before .before .before .before .before .before .before .before .before .token .ensures .token (λ e. omega arith)) (c .before .before .before .before .before .before .before .before .before .before .if3 .left) (c .before .before .before .before .before .before .before .before .choice .ensures) (c .before .before .before .before .n .given .1) (c .before .before .token2 .ensures .token (λ e. omega arith)) (c .before .if4 .left)
 
 abbrev blend-Inv-loop : blend-lts.InvT-loop
-blend-Inv-loop s out₀ here₀ out here = Goes more-blends s out₀ here₀ out here
+blend-Inv-loop s out₀ here₀ more₀ operator₀ out here more operator = Ahead a-blend a-chain more-blends more operator s out₀ here₀ out here
 
 abbrev blend-μ-loop : blend-lts.MeasureT-loop
-blend-μ-loop s out₀ here₀ out here = length s - here .at
-
-blend-returns : (t : ℕ) → blend-lts.Need-returns (blend-claims t) (blend-at t) blend.Post blend-Inv-loop blend-μ-loop
-blend-returns t c = first-not blend-row (c .before .before .before .before .chain .ensures) (c .enum-told .given .1)
+blend-μ-loop s out₀ here₀ more₀ operator₀ out here more operator = length s - here .at
 
 blend-loop-holds : (t : ℕ) → blend-lts.Need-loop-holds (blend-claims t) (blend-at t) blend.Post blend-Inv-loop blend-μ-loop
-blend-loop-holds t c = goes-start _ _ _ _
+blend-loop-holds t c = ahead-start blend-row
+
+blend-chain-requires : (t : ℕ) → blend-lts.Need-chain-requires (blend-claims t) (blend-at t) blend.Post blend-Inv-loop blend-μ-loop
+blend-chain-requires t c κs =
+    let v = c .before .loop .inv in
+    (omega (arith, v .falls), omega (arith, v .room, v .same-length))
+
+blend-returns : (t : ℕ) → blend-lts.Need-returns (blend-claims t) (blend-at t) blend.Post blend-Inv-loop blend-μ-loop
+blend-returns t c = c .before .before .before .before .before .before .loop .inv .refused _ (read-not (c .before .before .before .before .chain .ensures) (c .enum-told .given .1))
+
+blend-put-if-requires : (t : ℕ) → blend-lts.Need-put-if-requires (blend-claims t) (blend-at t) blend.Post blend-Inv-loop blend-μ-loop
+blend-put-if-requires t c κs =
+    let v = c .before .before .before .before .before .before .before .before .loop .inv in
+    let w = read-to (c .before .before .before .before .before .before .chain .ensures) (c .before .before .n .given .1) in
+    omega (arith, v .room, v .same-length, w .room, c .before .before .before .before .before .before .chain .kept .1 .0)
 
 blend-returns-2 : (t : ℕ) → blend-lts.Need-returns-2 (blend-claims t) (blend-at t) blend.Post blend-Inv-loop blend-μ-loop
-blend-returns-2 t c = row-done blend-row (c .before .before .before .before .before .before .before .before .chain .ensures) (c .before .before .before .before .first .given .1) (c .before .before .loop .inv) (blends-stop _ _ (c .before .token .ensures .kind-is) (λ q. omega arith) (λ q. omega arith))
+blend-returns-2 t c = row-done blend-row (c .before .before .before .before .before .before .before .before .before .before .before .before .before .loop .inv .reads _ _ _ _ (read-to (c .before .before .before .before .before .before .before .before .before .before .before .chain .ensures) (c .before .before .before .before .before .before .before .n .given .1)) (c .before .before .before .before .put-if .ensures) (c .before .before .before .before .before .before .before .before .before .before .before .chain .kept .1 .0) (c .before .before .before .before .put-if .kept .0)) (blends-stop _ _ (c .before .token .ensures .kind-is) (λ q. omega arith) (λ q. omega arith))
 
 blend-returns-3 : (t : ℕ) → blend-lts.Need-returns-3 (blend-claims t) (blend-at t) blend.Post blend-Inv-loop blend-μ-loop
-blend-returns-3 t c = row-done blend-row (c .before .before .before .before .before .before .before .before .before .chain .ensures) (c .before .before .before .before .before .first .given .1) (c .before .before .before .loop .inv) (blends-stop _ _ (c .before .before .token .ensures .kind-is) (λ q. omega arith) (λ q. omega arith))
-
-blend-chain-requires-2 : (t : ℕ) → blend-lts.Need-chain-requires-2 (blend-claims t) (blend-at t) blend.Post blend-Inv-loop blend-μ-loop
-blend-chain-requires-2 t c κs =
-    let x = c .before .before .before .before .token .ensures .token (λ e. omega arith) in
-    let z = read-to (c .before .before .before .before .before .before .before .before .before .before .before .chain .ensures) (c .before .before .before .before .before .before .before .first .given .1) in
-    (omega (arith, x .falls, z .falls, c .before .before .before .before .before .loop .inv .falls), omega (arith, x .falls, z .falls, z .room, c .before .before .before .before .before .loop .inv .falls, c .before .before .before .before .before .loop .inv .room, c .before .before .before .before .before .loop .inv .same-length, c .before .before .before .before .before .before .before .before .before .before .before .chain .kept .1 .0))
-
-blend-returns-4 : (t : ℕ) → blend-lts.Need-returns-4 (blend-claims t) (blend-at t) blend.Post blend-Inv-loop blend-μ-loop
-blend-returns-4 t c =
-    let x = c .before .before .before .before .before .before .before .before .before .token .ensures .token (λ e. omega arith) in
-    let y = blends-turn x (c .before .before .before .before .before .before .before .before .if1 .left) (c .before .before .before .before .before .before .before .if2 .left) in
-    row-not blend-row (y .op) (c .before .before .before .before .before .before .before .before .before .before .before .before .before .before .before .before .chain .ensures) (c .before .before .before .before .before .before .before .before .before .before .before .before .first .given .1) (c .before .before .before .before .before .before .before .before .before .before .loop .inv) (c .before .before .before .before .chain2 .ensures) (c .enum-told2 .given .1) (y .turn) refl (omega (arith, at-fewer x))
-
-blend-put-requires : (t : ℕ) → blend-lts.Need-put-requires (blend-claims t) (blend-at t) blend.Post blend-Inv-loop blend-μ-loop
-blend-put-requires t c κs =
-    let x = c .before .before .before .before .before .before .before .before .before .before .before .token .ensures .token (λ e. omega arith) in
-    let z = read-to (c .before .before .before .before .before .before .before .before .before .before .before .before .before .before .before .before .before .before .chain .ensures) (c .before .before .before .before .before .before .before .before .before .before .before .before .before .before .first .given .1) in
-    let w = read-to (c .before .before .before .before .before .before .chain2 .ensures) (c .before .before .n .given .1) in
-    omega (arith, x .falls, z .falls, z .room, w .falls, w .room, c .before .before .before .before .before .before .before .before .before .before .before .before .loop .inv .falls, c .before .before .before .before .before .before .before .before .before .before .before .before .loop .inv .room, c .before .before .before .before .before .before .before .before .before .before .before .before .loop .inv .same-length, c .before .before .before .before .before .before .before .before .before .before .before .before .before .before .before .before .before .before .chain .kept .1 .0, c .before .before .before .before .before .before .chain2 .kept .1 .0, c .before .before .before .before .before .before .before .before .before .before .before .before .before .before .before .before .before .before .before .before .before .before .pre .1)
+blend-returns-3 t c = row-done blend-row (c .before .before .before .before .before .before .before .before .before .before .before .before .before .before .loop .inv .reads _ _ _ _ (read-to (c .before .before .before .before .before .before .before .before .before .before .before .before .chain .ensures) (c .before .before .before .before .before .before .before .before .n .given .1)) (c .before .before .before .before .before .put-if .ensures) (c .before .before .before .before .before .before .before .before .before .before .before .before .chain .kept .1 .0) (c .before .before .before .before .before .put-if .kept .0)) (blends-stop _ _ (c .before .before .token .ensures .kind-is) (λ q. omega arith) (λ q. omega arith))
 
 blend-loop-less : (t : ℕ) → blend-lts.Need-loop-less (blend-claims t) (blend-at t) blend.Post blend-Inv-loop blend-μ-loop
 blend-loop-less t c =
-    let x = c .before .before .before .before .before .before .before .before .before .before .before .before .before .before .token .ensures .token (λ e. omega arith) in
-    let w = read-to (c .before .before .before .before .before .before .before .before .before .chain2 .ensures) (c .before .before .before .before .before .n .given .1) in
-    omega (arith, c .before .before .put .ensures .at-is, w .falls, x .falls)
+    let x = c .before .before .before .token .ensures .token (λ e. omega arith) in
+    let w = read-to (c .before .before .before .before .before .before .before .before .before .before .before .before .before .chain .ensures) (c .before .before .before .before .before .before .before .before .before .n .given .1) in
+    omega (arith, c .before .before .before .before .before .before .put-if .ensures .at-is, w .falls, x .falls)
 
 blend-loop-again : (t : ℕ) → blend-lts.Need-loop-again (blend-claims t) (blend-at t) blend.Post blend-Inv-loop blend-μ-loop
 blend-loop-again t c =
-    let x = c .before .before .before .before .before .before .before .before .before .before .before .before .before .before .token .ensures .token (λ e. omega arith) in
-    let y = blends-turn x (c .before .before .before .before .before .before .before .before .before .before .before .before .before .if1 .left) (c .before .before .before .before .before .before .before .before .before .before .before .before .if2 .left) in
-    goes-turn blend-row (y .op) (c .before .before .before .before .before .before .before .before .before .before .before .before .before .before .before .loop .inv) (c .before .before .before .before .before .before .before .before .before .chain2 .ensures) (c .before .before .before .before .before .n .given .1) (c .before .before .put .ensures) (y .turn) refl (omega (arith, at-fewer x)) (omega (arith, at-fewer x)) (omega (arith, x .falls)) (y .code) (c .before .before .put .kept .0 ∙ c .before .before .before .before .before .before .before .before .before .chain2 .kept .1 .0)
+    let x = c .before .before .before .token .ensures .token (λ e. omega arith) in
+    let y = blends-turn x (c .before .before .if1 .left) (c .before .if2 .left) in
+    ahead-more blend-row (y .op) (c .before .before .before .before .before .before .before .before .before .before .before .before .before .before .before .loop .inv .reads _ _ _ _ (read-to (c .before .before .before .before .before .before .before .before .before .before .before .before .before .chain .ensures) (c .before .before .before .before .before .before .before .before .before .n .given .1)) (c .before .before .before .before .before .before .put-if .ensures) (c .before .before .before .before .before .before .before .before .before .before .before .before .before .chain .kept .1 .0) (c .before .before .before .before .before .before .put-if .kept .0)) (y .turn) refl (omega (arith, at-fewer x)) (omega (arith, at-fewer x)) (omega (arith, x .falls)) (y .code)
 
 abbrev chain-Inv-loop : chain-lts.InvT-loop
-chain-Inv-loop s out₀ here₀ out here = Goes more-chains s out₀ here₀ out here
+chain-Inv-loop s out₀ here₀ more₀ out here more = Ahead a-chain an-item more-chains more 59 s out₀ here₀ out here
 
 abbrev chain-μ-loop : chain-lts.MeasureT-loop
-chain-μ-loop s out₀ here₀ out here = length s - here .at
-
-chain-returns : (t : ℕ) → chain-lts.Need-returns (chain-claims t) (chain-at t) chain.Post chain-Inv-loop chain-μ-loop
-chain-returns t c = first-not chain-row (c .before .before .before .before .item .ensures) (c .enum-told .given .1)
+chain-μ-loop s out₀ here₀ more₀ out here more = length s - here .at
 
 chain-loop-holds : (t : ℕ) → chain-lts.Need-loop-holds (chain-claims t) (chain-at t) chain.Post chain-Inv-loop chain-μ-loop
-chain-loop-holds t c = goes-start _ _ _ _
+chain-loop-holds t c = ahead-start chain-row
+
+chain-item-requires : (t : ℕ) → chain-lts.Need-item-requires (chain-claims t) (chain-at t) chain.Post chain-Inv-loop chain-μ-loop
+chain-item-requires t c κs =
+    let v = c .before .loop .inv in
+    (omega (arith, v .falls), omega (arith, v .room, v .same-length))
+
+chain-returns : (t : ℕ) → chain-lts.Need-returns (chain-claims t) (chain-at t) chain.Post chain-Inv-loop chain-μ-loop
+chain-returns t c = c .before .before .before .before .before .before .loop .inv .refused _ (read-not (c .before .before .before .before .item .ensures) (c .enum-told .given .1))
+
+chain-put-if-requires : (t : ℕ) → chain-lts.Need-put-if-requires (chain-claims t) (chain-at t) chain.Post chain-Inv-loop chain-μ-loop
+chain-put-if-requires t c κs =
+    let v = c .before .before .before .before .before .before .before .before .loop .inv in
+    let w = read-to (c .before .before .before .before .before .before .item .ensures) (c .before .before .n .given .1) in
+    omega (arith, v .room, v .same-length, w .room, c .before .before .before .before .before .before .item .kept .1 .0)
 
 chain-returns-2 : (t : ℕ) → chain-lts.Need-returns-2 (chain-claims t) (chain-at t) chain.Post chain-Inv-loop chain-μ-loop
-chain-returns-2 t c = row-done chain-row (c .before .before .before .before .before .before .before .before .item .ensures) (c .before .before .before .before .first .given .1) (c .before .before .loop .inv) (chains-stop _ _ (c .before .token .ensures .kind-is) (below-items _ (c .if1 .taken)))
+chain-returns-2 t c = row-done chain-row (c .before .before .before .before .before .before .before .before .before .before .before .before .before .loop .inv .reads _ _ _ _ (read-to (c .before .before .before .before .before .before .before .before .before .before .before .item .ensures) (c .before .before .before .before .before .before .before .n .given .1)) (c .before .before .before .before .put-if .ensures) (c .before .before .before .before .before .before .before .before .before .before .before .item .kept .1 .0) (c .before .before .before .before .put-if .kept .0)) (chains-stop _ _ (c .before .token .ensures .kind-is) (below-items _ (c .if1 .taken)))
 
 chain-returns-3 : (t : ℕ) → chain-lts.Need-returns-3 (chain-claims t) (chain-at t) chain.Post chain-Inv-loop chain-μ-loop
-chain-returns-3 t c = row-done chain-row (c .before .before .before .before .before .before .before .before .before .item .ensures) (c .before .before .before .before .before .first .given .1) (c .before .before .before .loop .inv) (chains-stop _ _ (c .before .before .token .ensures .kind-is) (above-items _ (c .if2 .taken)))
-
-chain-item-requires-2 : (t : ℕ) → chain-lts.Need-item-requires-2 (chain-claims t) (chain-at t) chain.Post chain-Inv-loop chain-μ-loop
-chain-item-requires-2 t c κs =
-    let x = c .before .before .before .token .ensures .token (λ e. omega arith) in
-    let z = read-to (c .before .before .before .before .before .before .before .before .before .before .item .ensures) (c .before .before .before .before .before .before .first .given .1) in
-    (omega (arith, x .falls, z .falls, c .before .before .before .before .loop .inv .falls), omega (arith, x .falls, z .falls, z .room, c .before .before .before .before .loop .inv .falls, c .before .before .before .before .loop .inv .room, c .before .before .before .before .loop .inv .same-length, c .before .before .before .before .before .before .before .before .before .before .item .kept .1 .0))
-
-chain-returns-4 : (t : ℕ) → chain-lts.Need-returns-4 (chain-claims t) (chain-at t) chain.Post chain-Inv-loop chain-μ-loop
-chain-returns-4 t c =
-    let x = c .before .before .before .before .before .before .before .before .token .ensures .token (λ e. omega arith) in
-    row-not chain-row join (c .before .before .before .before .before .before .before .before .before .before .before .before .before .before .before .item .ensures) (c .before .before .before .before .before .before .before .before .before .before .before .first .given .1) (c .before .before .before .before .before .before .before .before .before .loop .inv) (c .before .before .before .before .item2 .ensures) (c .enum-told2 .given .1) (chains-turn x (c .before .before .before .before .before .before .before .if1 .left) (c .before .before .before .before .before .before .if2 .left)) refl (omega arith)
-
-chain-put-requires : (t : ℕ) → chain-lts.Need-put-requires (chain-claims t) (chain-at t) chain.Post chain-Inv-loop chain-μ-loop
-chain-put-requires t c κs =
-    let x = c .before .before .before .before .before .before .before .before .before .before .token .ensures .token (λ e. omega arith) in
-    let z = read-to (c .before .before .before .before .before .before .before .before .before .before .before .before .before .before .before .before .before .item .ensures) (c .before .before .before .before .before .before .before .before .before .before .before .before .before .first .given .1) in
-    let w = read-to (c .before .before .before .before .before .before .item2 .ensures) (c .before .before .n .given .1) in
-    omega (arith, x .falls, z .falls, z .room, w .falls, w .room, c .before .before .before .before .before .before .before .before .before .before .before .loop .inv .falls, c .before .before .before .before .before .before .before .before .before .before .before .loop .inv .room, c .before .before .before .before .before .before .before .before .before .before .before .loop .inv .same-length, c .before .before .before .before .before .before .before .before .before .before .before .before .before .before .before .before .before .item .kept .1 .0, c .before .before .before .before .before .before .item2 .kept .1 .0)
+chain-returns-3 t c = row-done chain-row (c .before .before .before .before .before .before .before .before .before .before .before .before .before .before .loop .inv .reads _ _ _ _ (read-to (c .before .before .before .before .before .before .before .before .before .before .before .before .item .ensures) (c .before .before .before .before .before .before .before .before .n .given .1)) (c .before .before .before .before .before .put-if .ensures) (c .before .before .before .before .before .before .before .before .before .before .before .before .item .kept .1 .0) (c .before .before .before .before .before .put-if .kept .0)) (chains-stop _ _ (c .before .before .token .ensures .kind-is) (above-items _ (c .if2 .taken)))
 
 chain-loop-less : (t : ℕ) → chain-lts.Need-loop-less (chain-claims t) (chain-at t) chain.Post chain-Inv-loop chain-μ-loop
 chain-loop-less t c =
-    let x = c .before .before .before .before .before .before .before .before .before .before .before .before .before .token .ensures .token (λ e. omega arith) in
-    let w = read-to (c .before .before .before .before .before .before .before .before .before .item2 .ensures) (c .before .before .before .before .before .n .given .1) in
-    omega (arith, c .before .before .put .ensures .at-is, w .falls, x .falls)
+    let x = c .before .before .token .ensures .token (λ e. omega arith) in
+    let w = read-to (c .before .before .before .before .before .before .before .before .before .before .before .before .item .ensures) (c .before .before .before .before .before .before .before .before .n .given .1) in
+    omega (arith, c .before .before .before .before .before .put-if .ensures .at-is, w .falls, x .falls)
 
 chain-loop-again : (t : ℕ) → chain-lts.Need-loop-again (chain-claims t) (chain-at t) chain.Post chain-Inv-loop chain-μ-loop
 chain-loop-again t c =
-    let x = c .before .before .before .before .before .before .before .before .before .before .before .before .before .token .ensures .token (λ e. omega arith) in
-    goes-turn chain-row join (c .before .before .before .before .before .before .before .before .before .before .before .before .before .before .loop .inv) (c .before .before .before .before .before .before .before .before .before .item2 .ensures) (c .before .before .before .before .before .n .given .1) (c .before .before .put .ensures) (chains-turn x (c .before .before .before .before .before .before .before .before .before .before .before .before .if1 .left) (c .before .before .before .before .before .before .before .before .before .before .before .if2 .left)) refl (omega arith) (omega arith) (omega arith) (λ e g. refl) (c .before .before .put .kept .0 ∙ c .before .before .before .before .before .before .before .before .before .item2 .kept .1 .0)
+    let x = c .before .before .token .ensures .token (λ e. omega arith) in
+    ahead-more chain-row join (c .before .before .before .before .before .before .before .before .before .before .before .before .before .before .loop .inv .reads _ _ _ _ (read-to (c .before .before .before .before .before .before .before .before .before .before .before .before .item .ensures) (c .before .before .before .before .before .before .before .before .n .given .1)) (c .before .before .before .before .before .put-if .ensures) (c .before .before .before .before .before .before .before .before .before .before .before .before .item .kept .1 .0) (c .before .before .before .before .before .put-if .kept .0)) (chains-turn x (c .before .if1 .left) (c .if2 .left)) refl (omega arith) (omega arith) (omega arith) (λ e g. refl)
 
 abbrev choice-Inv-loop : choice-lts.InvT-loop
-choice-Inv-loop s out₀ here₀ out here = Goes more-choices s out₀ here₀ out here
+choice-Inv-loop s out₀ here₀ more₀ out here more = Ahead a-choice a-blend more-choices more 124 s out₀ here₀ out here
 
 abbrev choice-μ-loop : choice-lts.MeasureT-loop
-choice-μ-loop s out₀ here₀ out here = length s - here .at
-
-choice-returns : (t : ℕ) → choice-lts.Need-returns (choice-claims t) (choice-at t) choice.Post choice-Inv-loop choice-μ-loop
-choice-returns t c = first-not choice-row (c .before .before .before .before .blend .ensures) (c .enum-told .given .1)
+choice-μ-loop s out₀ here₀ more₀ out here more = length s - here .at
 
 choice-loop-holds : (t : ℕ) → choice-lts.Need-loop-holds (choice-claims t) (choice-at t) choice.Post choice-Inv-loop choice-μ-loop
-choice-loop-holds t c = goes-start _ _ _ _
+choice-loop-holds t c = ahead-start choice-row
+
+choice-blend-requires : (t : ℕ) → choice-lts.Need-blend-requires (choice-claims t) (choice-at t) choice.Post choice-Inv-loop choice-μ-loop
+choice-blend-requires t c κs =
+    let v = c .before .loop .inv in
+    (omega (arith, v .falls), omega (arith, v .room, v .same-length))
+
+choice-returns : (t : ℕ) → choice-lts.Need-returns (choice-claims t) (choice-at t) choice.Post choice-Inv-loop choice-μ-loop
+choice-returns t c = c .before .before .before .before .before .before .loop .inv .refused _ (read-not (c .before .before .before .before .blend .ensures) (c .enum-told .given .1))
+
+choice-put-if-requires : (t : ℕ) → choice-lts.Need-put-if-requires (choice-claims t) (choice-at t) choice.Post choice-Inv-loop choice-μ-loop
+choice-put-if-requires t c κs =
+    let v = c .before .before .before .before .before .before .before .before .loop .inv in
+    let w = read-to (c .before .before .before .before .before .before .blend .ensures) (c .before .before .n .given .1) in
+    omega (arith, v .room, v .same-length, w .room, c .before .before .before .before .before .before .blend .kept .1 .0)
 
 choice-returns-2 : (t : ℕ) → choice-lts.Need-returns-2 (choice-claims t) (choice-at t) choice.Post choice-Inv-loop choice-μ-loop
-choice-returns-2 t c = row-done choice-row (c .before .before .before .before .before .before .before .before .blend .ensures) (c .before .before .before .before .first .given .1) (c .before .before .loop .inv) (choices-stop _ _ (c .before .token .ensures .kind-is) (c .if1 .taken))
-
-choice-blend-requires-2 : (t : ℕ) → choice-lts.Need-blend-requires-2 (choice-claims t) (choice-at t) choice.Post choice-Inv-loop choice-μ-loop
-choice-blend-requires-2 t c κs =
-    let x = c .before .before .before .token .ensures .token (λ e. omega arith) in
-    let z = read-to (c .before .before .before .before .before .before .before .before .before .before .blend .ensures) (c .before .before .before .before .before .before .first .given .1) in
-    (omega (arith, x .falls, z .falls, c .before .before .before .before .loop .inv .falls), omega (arith, x .falls, z .falls, z .room, c .before .before .before .before .loop .inv .falls, c .before .before .before .before .loop .inv .room, c .before .before .before .before .loop .inv .same-length, c .before .before .before .before .before .before .before .before .before .before .blend .kept .1 .0))
-
-choice-returns-3 : (t : ℕ) → choice-lts.Need-returns-3 (choice-claims t) (choice-at t) choice.Post choice-Inv-loop choice-μ-loop
-choice-returns-3 t c =
-    let x = c .before .before .before .before .before .before .before .before .token .ensures .token (λ e. omega arith) in
-    row-not choice-row (pair either) (c .before .before .before .before .before .before .before .before .before .before .before .before .before .before .before .blend .ensures) (c .before .before .before .before .before .before .before .before .before .before .before .first .given .1) (c .before .before .before .before .before .before .before .before .before .loop .inv) (c .before .before .before .before .blend2 .ensures) (c .enum-told2 .given .1) (choices-turn x (c .before .before .before .before .before .before .before .if1 .left)) refl (omega (arith, at-fewer x))
-
-choice-put-requires : (t : ℕ) → choice-lts.Need-put-requires (choice-claims t) (choice-at t) choice.Post choice-Inv-loop choice-μ-loop
-choice-put-requires t c κs =
-    let x = c .before .before .before .before .before .before .before .before .before .before .token .ensures .token (λ e. omega arith) in
-    let z = read-to (c .before .before .before .before .before .before .before .before .before .before .before .before .before .before .before .before .before .blend .ensures) (c .before .before .before .before .before .before .before .before .before .before .before .before .before .first .given .1) in
-    let w = read-to (c .before .before .before .before .before .before .blend2 .ensures) (c .before .before .n .given .1) in
-    omega (arith, x .falls, z .falls, z .room, w .falls, w .room, c .before .before .before .before .before .before .before .before .before .before .before .loop .inv .falls, c .before .before .before .before .before .before .before .before .before .before .before .loop .inv .room, c .before .before .before .before .before .before .before .before .before .before .before .loop .inv .same-length, c .before .before .before .before .before .before .before .before .before .before .before .before .before .before .before .before .before .blend .kept .1 .0, c .before .before .before .before .before .before .blend2 .kept .1 .0)
+choice-returns-2 t c = row-done choice-row (c .before .before .before .before .before .before .before .before .before .before .before .before .before .loop .inv .reads _ _ _ _ (read-to (c .before .before .before .before .before .before .before .before .before .before .before .blend .ensures) (c .before .before .before .before .before .before .before .n .given .1)) (c .before .before .before .before .put-if .ensures) (c .before .before .before .before .before .before .before .before .before .before .before .blend .kept .1 .0) (c .before .before .before .before .put-if .kept .0)) (choices-stop _ _ (c .before .token .ensures .kind-is) (c .if1 .taken))
 
 choice-loop-less : (t : ℕ) → choice-lts.Need-loop-less (choice-claims t) (choice-at t) choice.Post choice-Inv-loop choice-μ-loop
 choice-loop-less t c =
-    let x = c .before .before .before .before .before .before .before .before .before .before .before .before .before .token .ensures .token (λ e. omega arith) in
-    let w = read-to (c .before .before .before .before .before .before .before .before .before .blend2 .ensures) (c .before .before .before .before .before .n .given .1) in
-    omega (arith, c .before .before .put .ensures .at-is, w .falls, x .falls)
+    let x = c .before .before .token .ensures .token (λ e. omega arith) in
+    let w = read-to (c .before .before .before .before .before .before .before .before .before .before .before .before .blend .ensures) (c .before .before .before .before .before .before .before .before .n .given .1) in
+    omega (arith, c .before .before .before .before .before .put-if .ensures .at-is, w .falls, x .falls)
 
 choice-loop-again : (t : ℕ) → choice-lts.Need-loop-again (choice-claims t) (choice-at t) choice.Post choice-Inv-loop choice-μ-loop
 choice-loop-again t c =
-    let x = c .before .before .before .before .before .before .before .before .before .before .before .before .before .token .ensures .token (λ e. omega arith) in
-    goes-turn choice-row (pair either) (c .before .before .before .before .before .before .before .before .before .before .before .before .before .before .loop .inv) (c .before .before .before .before .before .before .before .before .before .blend2 .ensures) (c .before .before .before .before .before .n .given .1) (c .before .before .put .ensures) (choices-turn x (c .before .before .before .before .before .before .before .before .before .before .before .before .if1 .left)) refl (omega (arith, at-fewer x)) (omega (arith, at-fewer x)) (omega (arith, x .falls)) (λ e g. refl) (c .before .before .put .kept .0 ∙ c .before .before .before .before .before .before .before .before .before .blend2 .kept .1 .0)
+    let x = c .before .before .token .ensures .token (λ e. omega arith) in
+    ahead-more choice-row (pair either) (c .before .before .before .before .before .before .before .before .before .before .before .before .before .before .loop .inv .reads _ _ _ _ (read-to (c .before .before .before .before .before .before .before .before .before .before .before .before .blend .ensures) (c .before .before .before .before .before .before .before .before .n .given .1)) (c .before .before .before .before .before .put-if .ensures) (c .before .before .before .before .before .before .before .before .before .before .before .before .blend .kept .1 .0) (c .before .before .before .before .before .put-if .kept .0)) (choices-turn x (c .before .if1 .left)) refl (omega (arith, at-fewer x)) (omega (arith, at-fewer x)) (omega (arith, x .falls)) (λ e g. refl)
 
 item-atom-requires : (t : ℕ) → item-lts.Need-atom-requires (item-claims t) (item-at t) item.Post
 item-atom-requires t c κs =
@@ -319,23 +298,18 @@ pub +atom+blend+chain+choice+item-spec : {M : Type 1} → statement M
     blend.Post
     blend-Inv-loop
     blend-μ-loop
-    (λ c κs. search needs)
+    (blend-loop-holds t)
+    (blend-chain-requires t)
     (λ c. search needs)
     (λ c. search needs)
     (λ c. search needs)
     (blend-returns t)
-    (blend-loop-holds t)
+    (blend-put-if-requires t)
     (λ c κs. search needs)
     (λ c. search needs)
     (blend-returns-2 t)
     (λ c. search needs)
     (blend-returns-3 t)
-    (blend-chain-requires-2 t)
-    (λ c. search needs)
-    (λ c. search needs)
-    (λ c. search needs)
-    (blend-returns-4 t)
-    (blend-put-requires t)
     (blend-loop-less t)
     (blend-loop-again t))
     (λ t. chain-lts.spec (chain-claims t)
@@ -343,23 +317,18 @@ pub +atom+blend+chain+choice+item-spec : {M : Type 1} → statement M
     chain.Post
     chain-Inv-loop
     chain-μ-loop
-    (λ c κs. search needs)
+    (chain-loop-holds t)
+    (chain-item-requires t)
     (λ c. search needs)
     (λ c. search needs)
     (λ c. search needs)
     (chain-returns t)
-    (chain-loop-holds t)
+    (chain-put-if-requires t)
     (λ c κs. search needs)
     (λ c. search needs)
     (chain-returns-2 t)
     (λ c. search needs)
     (chain-returns-3 t)
-    (chain-item-requires-2 t)
-    (λ c. search needs)
-    (λ c. search needs)
-    (λ c. search needs)
-    (chain-returns-4 t)
-    (chain-put-requires t)
     (chain-loop-less t)
     (chain-loop-again t))
     (λ t. choice-lts.spec (choice-claims t)
@@ -367,21 +336,16 @@ pub +atom+blend+chain+choice+item-spec : {M : Type 1} → statement M
     choice.Post
     choice-Inv-loop
     choice-μ-loop
-    (λ c κs. search needs)
+    (choice-loop-holds t)
+    (choice-blend-requires t)
     (λ c. search needs)
     (λ c. search needs)
     (λ c. search needs)
     (choice-returns t)
-    (choice-loop-holds t)
+    (choice-put-if-requires t)
     (λ c κs. search needs)
     (λ c. search needs)
     (choice-returns-2 t)
-    (choice-blend-requires-2 t)
-    (λ c. search needs)
-    (λ c. search needs)
-    (λ c. search needs)
-    (choice-returns-3 t)
-    (choice-put-requires t)
     (choice-loop-less t)
     (choice-loop-again t))
     λ t. item-lts.spec (item-claims t)

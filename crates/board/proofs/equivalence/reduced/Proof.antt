@@ -15,16 +15,16 @@ abbrev μ-loop : tie.MeasureT-loop
 μ-loop marks moves m n classes₀ count₀ before₀ c₀ classes count before c = (n - before) * 27 + (n - count) + (m - c)
 
 accept-keys-requires : tie.Need-accept-keys-requires Inv-loop μ-loop
-accept-keys-requires c κs = c .before .before .pre .0 .states-most
+accept-keys-requires c κs = (c .before .before .before .pre .0 .states-most, search needs)
 
 split-requires : tie.Need-split-requires Inv-loop μ-loop
 split-requires c κs = (c .before .before .before .before .before .before .pre .0 .states-most, search needs, one-class _)
 
 loop-holds : tie.Need-loop-holds Inv-loop μ-loop
-loop-holds c = (search needs, search needs, classes-start _ _ _ _ _ _ (c .before .before .before .before .accept-keys .ensures) (c .split .ensures))
+loop-holds c = (search needs, search needs, classes-start _ _ _ _ _ _ (c .before .before .before .accept-keys .ensures) (c .split .ensures))
 
 refine-requires : tie.Need-refine-requires Inv-loop μ-loop
-refine-requires c κs = (columns-of _ _ _ (c .before .before .before .before .before .before .before .before .before .before .before .pre .0) _ _ (c .before .before .before .loop .inv .0) (c .before .if1 .taken), c .before .before .before .loop .inv .2 .named)
+refine-requires c κs = (columns-of _ _ _ (c .before .before .before .before .before .before .before .before .before .before .before .pre .0) _ _ (c .before .before .before .loop .inv .0) (c .before .if1 .taken), c .before .before .before .loop .inv .2 .long, c .before .before .before .loop .inv .2 .named)
 
 loop-again : tie.Need-loop-again Inv-loop μ-loop
 loop-again c = (search needs, omega arith, classes-on _ _ _ (c .before .before .before .before .before .before .before .before .before .before .before .before .before .pre .0) _ _ _ _ (c .before .before .before .before .before .loop .inv .2) _ _ _ (c .before .before .before .before .before .loop .inv .0) (c .before .before .before .if1 .taken) (c .before .refine .ensures) (c .if2 .taken))

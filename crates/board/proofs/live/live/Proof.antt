@@ -14,13 +14,13 @@ abbrev μ-loop : tie.MeasureT-loop
 μ-loop marks moves m flags₀ j₀ flags j = length marks - j
 
 accepting-requires : tie.Need-accepting-requires Inv-loop μ-loop
-accepting-requires c κs = c .before .before .pre .states-most
+accepting-requires c κs = (c .before .before .before .pre .0 .states-most, c .before .before .before .pre .1)
 
 loop-holds : tie.Need-loop-holds Inv-loop μ-loop
 loop-holds c = (search needs, live-start _ _ _ _ _ (c .accepting .ensures))
 
 round-requires : tie.Need-round-requires Inv-loop μ-loop
-round-requires c κs = ((c .before .before .before .before .before .before .pre), c .before .before .loop .inv .1 .long)
+round-requires c κs = ((c .before .before .before .before .before .before .before .pre .0), c .before .before .loop .inv .1 .long)
 
 returns : tie.Need-returns Inv-loop μ-loop
 returns c = live-still _ _ _ _ _ _ _ _ (c .before .before .before .before .loop .inv .1) (c .before .round .ensures) (c .if1 .taken)

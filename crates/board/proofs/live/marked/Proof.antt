@@ -18,7 +18,7 @@ loop-holds : tie.Need-loop-holds Inv-loop μ-loop
 loop-holds c = (search needs, marks-start _ _ _)
 
 array-read-lives : tie.Need-array-read-lives Inv-loop μ-loop
-array-read-lives c = omega (arith, c .before .before .before .before .before .before .pre .states-most)
+array-read-lives c = omega (arith, c .before .before .before .before .before .before .before .pre .states-most)
 
 returns : tie.Need-returns Inv-loop μ-loop
 returns c = not-live _ _ _ _ (c .before .before .before .before .before .live .ensures) _ (c .before .before .before .loop-test .taken) (c .before .match .keys1) (c .if1 .taken)
