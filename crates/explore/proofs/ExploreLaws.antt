@@ -41,17 +41,17 @@ pub first-room : {s : Shape} {rows row table : List ℕ} → Room s rows row tab
 first-room {s} R = omega (arith, row-within 0 (s .limit) (s .w) (R .some), R .rowsLong)
 
 pub run-start : (s : Shape) (a b rows row table rows′ row′ table′ heads′ : List ℕ) (h : ℕ) → Explores s a b rows row table → row′ ≡ rowsFor s a b .start → length row′ ≡ length row
-    → Appended (s .w) 0 rows row′ rows′ → length rows′ ≡ length rows → h ≡ rowHash row′ → h < 1024
-    → table′ ≡ set table 0 (getD (replicate 1024 0) h 0) → heads′ ≡ set (replicate 1024 0) h 1 → Running s a b rows′ row′ table′ heads′ 1 0 0 0
+    → Appended (s .w) 0 rows row′ rows′ → length rows′ ≡ length rows → h ≡ rowHash row′ → h < 512
+    → table′ ≡ set table 0 (getD (replicate 512 0) h 0) → heads′ ≡ set (replicate 512 0) h 1 → Running s a b rows′ row′ table′ heads′ 1 0 0 0
 run-start s a b rows row table rows′ row′ table′ heads′ h E e y A x v l et eh = record {
   fits = E .fits;
-  room = room-kept (E .room) rows′ row′ table′ x y (ap length et ∙ length-set table 0 (getD (replicate 1024 0) h 0));
+  room = room-kept (E .room) rows′ row′ table′ x y (ap length et ∙ length-set table 0 (getD (replicate 512 0) h 0));
   state = omega arith;
   column = omega (arith, E .fits .columns);
   cell = omega (arith, zero-mul (s .k));
   partial = partial-start (rowsFor s a b) (s .k) (s .w) (s .limit) rows′ table′ heads′ (E .room .some) (A .here ∙ e)
-      (rw (et, eh) (chained-more (s .w) 0 h rows row′ rows′ table (replicate 1024 0) (chained-none (s .w) rows table) A v l (omega (arith, E .room .some, E .room .tableLong)) (length-replicate {A = ℕ} 1024 0)))
-      (ap length eh ∙ length-set (replicate 1024 0) h 1 ∙ length-replicate {A = ℕ} 1024 0);
+      (rw (et, eh) (chained-more (s .w) 0 h rows row′ rows′ table (replicate 512 0) (chained-none (s .w) rows table) A v l (omega (arith, E .room .some, E .room .tableLong)) (length-replicate {A = ℕ} 512 0)))
+      (ap length eh ∙ length-set (replicate 512 0) h 1 ∙ length-replicate {A = ℕ} 512 0);
 }
 
 pub listing-kept : {s : Shape} {members : List ℕ} → Listing s members → (members′ : List ℕ) → length members′ ≡ length members → Listing s members′

@@ -3,7 +3,7 @@ use mathlib.Core.Path.{_≡_, refl, _∙_}
 use mathlib.Core.List.{List, [], _∷_}
 use Prim.Native.Nat.{ℕ, zero, suc, _+_, _*_, _-_, _/_, _%_, _≤_, _<_}
 use native.Mathlib.Omega.{arith}
-use lib.ListN.{length, take, drop, replicate}
+use lib.ListN.{length, take, drop}
 use Rattle.automata.specs.Automaton.{Automaton, Over, run, Reachable}
 use Rattle.automata.specs.Table.{table-step}
 use Rattle.explore.specs.Rows.{flagAt, rowWidth, numberAt, Operation, pairing, concatenation, star, erase, operationOf, rowsOf, pairRows, concatRows, starRows, eraseRows}
@@ -27,13 +27,6 @@ is-erase (suc (suc zero)) h u v = absurd (omega arith)
 is-erase (suc (suc (suc zero))) h u v = absurd (u refl)
 is-erase (suc (suc (suc (suc zero)))) h u v = absurd (v refl)
 is-erase (suc (suc (suc (suc (suc x))))) h u v = refl
-
-pub pair-start : (s : Shape) (a b : List ℕ) → Fits s a b → s .op < 3 → (m : ℕ) (r : List ℕ) → m ≡ s .w → r ≡ replicate m 0 → r ≡ rowsFor s a b .start
-unfolding pairRows
-pair-start s a b F h m r w e =
-    let p = pair-of (s .op) h in
-    let z : m ≡ 4 = w ∙ F .width ∙ rw (p .1) in
-    rw (p .1) (rw z at e)
 
 number-bytes : (p : ℕ) → p % 256 + 256 * (p / 256) ≡ p
 number-bytes p = omega arith

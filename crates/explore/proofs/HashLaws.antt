@@ -45,12 +45,12 @@ last-none : {f : ℕ → ℕ} {b x : ℕ} → x ≡ 0 → Last f 0 b x
 last-none e = record { within = omega arith; is = λ i z. absurd (omega arith); none = λ i a h z. omega arith }
 
 -- before the first row all heads are 0
-pub chained-none : (w : ℕ) (rows links : List ℕ) → Chained w 0 rows links (replicate 1024 0)
-chained-none w rows links = record { head = λ b h. last-none (getD-replicate 1024 b 0 0 h); link = λ j h. absurd (omega arith) }
+pub chained-none : (w : ℕ) (rows links : List ℕ) → Chained w 0 rows links (replicate 512 0)
+chained-none w rows links = record { head = λ b h. last-none (getD-replicate 512 b 0 0 h); link = λ j h. absurd (omega arith) }
 
 -- the row that is put behind the others becomes the last of its chain
-pub chained-more : (w count h : ℕ) (rows row rows′ links heads : List ℕ) → Chained w count rows links heads → Appended w count rows row rows′ → h ≡ rowHash row → h < 1024
-    → count < length links → length heads ≡ 1024 → Chained w (count + 1) rows′ (set links count (getD heads h 0)) (set heads h (count + 1))
+pub chained-more : (w count h : ℕ) (rows row rows′ links heads : List ℕ) → Chained w count rows links heads → Appended w count rows row rows′ → h ≡ rowHash row → h < 512
+    → count < length links → length heads ≡ 512 → Chained w (count + 1) rows′ (set links count (getD heads h 0)) (set heads h (count + 1))
 chained-more w count h rows row rows′ links heads C A e b l m = record { head = λ x y. head x y (same-cases nat-test x h); link = λ j y. link j y (lt-cases j count) }
   where
     old : (i : ℕ) → i < count → hashes w rows i ≡ hashes w rows′ i
@@ -59,7 +59,7 @@ chained-more w count h rows row rows′ links heads C A e b l m = record { head 
     here : hashes w rows′ count ≡ h
     here = ap rowHash (A .here) ∙ sym e
 
-    head : (x : ℕ) → x < 1024 → SameCases nat-test x h → Last (hashes w rows′) (count + 1) x (getD (set heads h (count + 1)) x 0)
+    head : (x : ℕ) → x < 512 → SameCases nat-test x h → Last (hashes w rows′) (count + 1) x (getD (set heads h (count + 1)) x 0)
     head x y (inl p) = rw (p .0, getD-set-same heads h (count + 1) 0 (omega arith)) (last-here count here)
     head x y (inr p) = rw (getD-set-other heads h x (count + 1) 0 (p .0)) (last-more (λ z. p .0 (sym z ∙ here)) (last-same old (C .head x y)))
 
@@ -89,7 +89,7 @@ pub record Seeking (w count next : ℕ) (rows row : List ℕ) : Type 0 where
   pub is : (i : ℕ) → i + 1 ≡ next → rowHash (rowAt w i rows) ≡ rowHash row
   pub none : (i : ℕ) → next ≤ i → i < count → rowAt w i rows ≡ row → ⊥
 
-pub seek-first : (w count h : ℕ) (rows row links heads : List ℕ) → Chained w count rows links heads → h ≡ rowHash row → h < 1024 → Seeking w count (getD heads h 0) rows row
+pub seek-first : (w count h : ℕ) (rows row links heads : List ℕ) → Chained w count rows links heads → h ≡ rowHash row → h < 512 → Seeking w count (getD heads h 0) rows row
 seek-first w count h rows row links heads C e b =
     let L = C .head h b in
     record { within = L .within; is = λ i z. L .is i z ∙ e; none = λ i a y z. L .none i a y (ap rowHash z ∙ sym e) }

@@ -35,7 +35,7 @@ earlier-below p c state column count h (inl g) = omega arith
 earlier-below p c state column count h (inr (e, g)) = rw e h
 
 module _ (R : Automaton (List ℕ)) (k w limit : ℕ) where
-  pub partial-start : (rows table heads : List ℕ) → 1 ≤ limit → rowAt w 0 rows ≡ R .start → Chained w 1 rows table heads → length heads ≡ 1024 → Partial R k w limit 1 0 0 rows table heads
+  pub partial-start : (rows table heads : List ℕ) → 1 ≤ limit → rowAt w 0 rows ≡ R .start → Chained w 1 rows table heads → length heads ≡ 512 → Partial R k w limit 1 0 0 rows table heads
   partial-start rows table heads h e v l = record {
     some = omega arith;
     within = h;
@@ -130,7 +130,7 @@ module _ (R : Automaton (List ℕ)) (k w limit : ℕ) where
 
     module _ (long : limit + q < length table) (none : (j : ℕ) → j < count → rowAt w j rows ≡ row → ⊥) where
       -- the row is put behind the others
-      pub partial-new : (rows′ heads′ : List ℕ) → count < limit → limit < 65536 → Appended w count rows row rows′ → Chained w (count + 1) rows′ table heads′ → length heads′ ≡ 1024
+      pub partial-new : (rows′ heads′ : List ℕ) → count < limit → limit < 65536 → Appended w count rows row rows′ → Chained w (count + 1) rows′ table heads′ → length heads′ ≡ 512
           → Partial R k w limit (count + 1) state (column + 1) rows′ (set table (limit + q) (count % 65536)) heads′
       partial-new rows′ heads′ room most A v u = record {
         some = omega arith;

@@ -13,7 +13,7 @@ use Rattle.explore.specs.Sums.{weight, rowSum}
 use Rattle.explore.specs.Answer.{rowsFor, Fits, Source}
 use Rattle.explore.specs.declared.Shape.{Shape}
 use Rattle.explore.proofs.TableLaws.{cell-in, flag-in}
-use Rattle.explore.proofs.SumLaws.{sum-two, sum-nothing}
+use Rattle.explore.proofs.SumLaws.{sum-two, sum-nothing, sum-none}
 
 pub pair-of : (x : ℕ) → x < 3 → (o : Pairing) × (operationOf x ≡ pairing o)
 pair-of zero h = (either, refl)
@@ -58,6 +58,17 @@ pair-sum row r1 r2 x y high total w e1 e2 h t =
     let two : high ≡ rowSum 2 (y % 256 ∷ y / 256 ∷ []) = h ∙ ap (λ (v : ℕ). y % 256 * weight 2 + (y / 256 * weight 3 + v)) (sum-nothing 4) ∙ sum-two 2 (y % 256) (y / 256) [] in
     let all : total ≡ rowSum 0 (x % 256 ∷ x / 256 ∷ y % 256 ∷ y / 256 ∷ []) = t ∙ ap (λ (v : ℕ). x % 256 * weight 0 + (x / 256 * weight 1 + v)) two ∙ sum-two 0 (x % 256) (x / 256) (y % 256 ∷ y / 256 ∷ []) in
     all ∙ ap (rowSum 0) (sym (e2 ∙ rw e1 (four row (x % 256) (x / 256) (y % 256) (y / 256) w)))
+
+pub pair-start : (s : Shape) (a b : List ℕ) → Fits s a b → s .op < 3 → (row r1 r2 : List ℕ) → length row ≡ s .w → r1 ≡ set (set row 0 0) 1 0 → r2 ≡ set (set r1 2 0) 3 0
+    → (r2 ≡ rowsFor s a b .start) × (0 ≡ rowSum 0 r2)
+unfolding pairRows
+pair-start s a b F h row r1 r2 w e1 e2 =
+    let p = pair-of (s .op) h in
+    let z : r2 ≡ pairRow 0 0 = e2 ∙ rw e1 (four row 0 0 0 0 (w ∙ F .width ∙ rw (p .1))) in
+    (z ∙ rw (p .1), sym (ap (rowSum 0) z ∙ sum-none 0 4))
+
+pub pair-room : (s : Shape) (a b : List ℕ) → Fits s a b → s .op < 3 → s .w ≡ 4
+pair-room s a b F h = F .width ∙ rw (pair-of (s .op) h .1)
 
 module _ (s : Shape) (a b from : List ℕ) (F : Fits s a b) (S : Source s from) (h : s .op < 3) where
   o : Pairing

@@ -105,9 +105,9 @@ flag-more {first} {row} {sum} i w S h e y = record {
 
 -- ---- rows with numbers
 
-pub hash-is : (row : List ℕ) (sum h : ℕ) → sum ≡ rowSum 0 row → h ≡ sum / 64 % 1024 → h ≡ rowHash row
+pub hash-is : (row : List ℕ) (sum h : ℕ) → sum ≡ rowSum 0 row → h ≡ sum / 64 % 512 → h ≡ rowHash row
 unfolding rowHash
-hash-is row sum h e y = y ∙ ap (λ (v : ℕ). v / 64 % 1024) e
+hash-is row sum h e y = y ∙ ap (λ (v : ℕ). v / 64 % 512) e
 
 pub sum-two : (first u v : ℕ) (r : List ℕ) → u * weight first + (v * weight (first + 1) + rowSum (first + 2) r) ≡ rowSum first (u ∷ v ∷ r)
 unfolding rowSum

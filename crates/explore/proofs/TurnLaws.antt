@@ -64,7 +64,7 @@ module _ (s : Shape) (a b rows row table heads : List ℕ) (count state column q
               (omega (arith, h .0, T .partial .within, T .room .small)) (h .0) (h .1),
         )
 
-    pub turn-new : (r : Found) → Looked (s .w) count rows row′ r → r ≡ Nothing → count < s .limit → (rows′ : List ℕ) → Appended (s .w) count rows row′ rows′ → (h : ℕ) → h ≡ rowHash row′ → h < 1024
+    pub turn-new : (r : Found) → Looked (s .w) count rows row′ r → r ≡ Nothing → count < s .limit → (rows′ : List ℕ) → Appended (s .w) count rows row′ rows′ → (h : ℕ) → h ≡ rowHash row′ → h < 512
         → (table′ heads′ : List ℕ) → table′ ≡ set table count (getD heads h 0) → heads′ ≡ set heads h (count + 1)
         → Turned (rowsFor s a b) (s .k) (s .w) (s .limit) count state column rows′ (set table′ (s .limit + q) (count % 65536)) heads′ (Sets (count + 1))
     turn-new r l f room rows′ A h e′ low table′ heads′ et eh =

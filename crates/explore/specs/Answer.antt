@@ -93,7 +93,7 @@ pub record Last (number : ℕ → ℕ) (n b x : ℕ) : Type 0 where
 
 -- Rows with the same hash are chained, the last first: a head for each hash, a link for each row.
 pub record Chained (w count : ℕ) (rows links heads : List ℕ) : Type 0 where
-  pub head : (b : ℕ) → b < 1024 → Last (λ i. rowHash (rowAt w i rows)) count b (getD heads b 0)
+  pub head : (b : ℕ) → b < 512 → Last (λ i. rowHash (rowAt w i rows)) count b (getD heads b 0)
   pub link : (j : ℕ) → j < count → Last (λ i. rowHash (rowAt w i rows)) j (rowHash (rowAt w j rows)) (getD links j 0)
 
 -- A row is one of the first count, or none of them.
@@ -140,7 +140,7 @@ pub record Partial (R : Automaton (List ℕ)) (k w limit count state column : �
   pub inside : (p c : ℕ) → c < k → Earlier p c state column → getD table (limit + (p * k + c)) 0 < count
   pub moves : (p c : ℕ) → c < k → Earlier p c state column → rowAt w (getD table (limit + (p * k + c)) 0) rows ≡ R .step (rowAt w p rows) c
   pub chained : Chained w count rows table heads
-  pub headsLong : length heads ≡ 1024
+  pub headsLong : length heads ≡ 512
 
 -- the place of a transition that is laid out next
 pub record Place (k count p c q : ℕ) : Type 0 where

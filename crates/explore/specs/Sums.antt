@@ -16,7 +16,7 @@ rowSum i (x ∷ r) = x * weight i + rowSum (suc i) r
 
 -- a number that equal rows share
 unfoldable pub rowHash : List ℕ → ℕ
-rowHash r = rowSum 0 r / 64 % 1024
+rowHash r = rowSum 0 r / 64 % 512
 
 -- A row of flags from the place `first` on, and its sum.
 pub record Summed (first : ℕ) (row : List ℕ) (sum : ℕ) : Type 0 where

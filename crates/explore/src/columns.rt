@@ -4,7 +4,7 @@ use crate::Shape;
 ghost use mathlib.Core.Bool.{true};
 ghost use mathlib.Core.Path.{_≡_};
 ghost use Prim.Native.Nat.{ℕ, _+_, _*_, _<_, _≤_};
-ghost use lib.ListN.{length, getD};
+ghost use lib.ListN.{length, getD, replicate};
 ghost use Rattle.explore.specs.Steps.{cell};
 ghost use Rattle.explore.specs.Answer.{Fits, Twins, TwinTable};
 
@@ -47,22 +47,21 @@ fn first(a: &[u16], b: &[u16], s: Shape, c: usize) -> usize
     c
 }
 
-// Of each of the first 64 columns an earlier one that is as it, or a number that is not below it.
-pub fn twins(a: &[u16], b: &[u16], s: Shape) -> [u8; 64]
+// Of each of the first 64 columns an earlier one that is as it, or a number that is not below it. The table is filled where it stands.
+pub fn twins(a: &[u16], b: &[u16], s: Shape, table: &mut [u8; 64])
     requires { ⌜ Fits s (now a) (now b) ⌝ }
-    ensures { λ r. ⌜ TwinTable s (now (a .entry)) (now (b .entry)) r ⌝ }
+    requires { ⌜ now table ≡ replicate 64 255 ⌝ }
+    ensures { λ _. ⌜ TwinTable s (now (a .entry)) (now (b .entry)) (now (table .exit)) ⌝ }
 {
     let k = s.k;
-    let mut table = [255; 64];
     let mut c = 0;
     while c < 64 {
         if k <= c + 1 {
-            return table;
+            return;
         }
         table[c] = first(a, b, s, c) as u8;
         c += 1;
     }
-    table
 }
 
 // The twin of column c, or c.

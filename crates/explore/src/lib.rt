@@ -48,8 +48,7 @@ fn start_row(a: &[u16], b: &[u16], s: Shape, row: &mut [u8]) -> usize
 {
     let op = s.op;
     if op < 3 {
-        bits::clear(row);
-        return 0;
+        return pairs::start(a, b, s, row);
     }
     if op == 3 {
         return concatenation::start(a, b, s, row);
@@ -181,7 +180,7 @@ fn turn(
     rows: &mut [u8],
     row: &mut [u8],
     table: &mut [u16],
-    heads: &mut [u16; 1024],
+    heads: &mut [u16; 512],
     members: &[u16],
     held: usize,
     count: usize,
@@ -241,7 +240,7 @@ fn advance(
     rows: &mut [u8],
     row: &mut [u8],
     table: &mut [u16],
-    heads: &mut [u16; 1024],
+    heads: &mut [u16; 512],
     members: &[u16],
     held: usize,
     count: usize,
@@ -299,8 +298,9 @@ pub fn explore(
 {
     let k = s.k;
     let w = s.w;
-    let twins = columns::twins(a, b, s);
-    let mut heads = [0; 1024];
+    let mut twins = [255; 64];
+    columns::twins(a, b, s, &mut twins);
+    let mut heads = [0; 512];
     let sum = start_row(a, b, s, row);
     rows::append(rows, w, 0, &row[..]);
     let h = rows::hash(sum);

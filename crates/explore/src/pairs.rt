@@ -10,6 +10,18 @@ ghost use Rattle.explore.specs.Steps.{pairAnswer};
 ghost use Rattle.explore.specs.Sums.{rowSum};
 ghost use Rattle.explore.specs.Answer.{rowsFor, Fits, Step, Source};
 
+// The first pair, (0, 0); its row's sum.
+pub fn start(a: &[u16], b: &[u16], s: Shape, row: &mut [u8]) -> usize
+    requires { ⌜ Fits s (now a) (now b) ⌝ }
+    requires { ⌜ length (now row) ≡ s .w ⌝ }
+    requires { ⌜ s .op < 3 ⌝ }
+    ensures { λ r. ⌜ (now (row .exit) ≡ rowsFor s (now (a .entry)) (now (b .entry)) .start) × (r ≡ rowSum 0 (now (row .exit))) ⌝ }
+{
+    number::write(row, 0, 0);
+    number::write(row, 2, 0);
+    0
+}
+
 // The pair that `from` leads to by the column c; its row's sum.
 pub fn next(a: &[u16], b: &[u16], s: Shape, c: usize, from: &[u8], row: &mut [u8]) -> usize
     requires { ⌜ Step s (now a) (now b) c (now from) (now row) ⌝ }

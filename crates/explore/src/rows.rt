@@ -15,25 +15,25 @@ pub enum Found {
 
 // The hash of a row whose sum is given.
 pub fn hash(sum: usize) -> usize
-    ensures { λ r. ⌜ (r ≡ sum / 64 % 1024) × (r < 1024) ⌝ }
+    ensures { λ r. ⌜ (r ≡ sum / 64 % 512) × (r < 512) ⌝ }
 {
-    sum / 64 % 1024
+    sum / 64 % 512
 }
 
-// Whether two long rows are equal. It looks at all bytes, so that several are compared at once.
+// Whether two long rows are equal. It looks at all bytes and answers by a byte, so that many are compared at once.
 fn same_long(a: &[u8], b: &[u8]) -> bool
     requires { ⌜ length (now a) ≡ length (now b) ⌝ }
     ensures { λ r. ⌜ (r ≡ true → now (a .entry) ≡ now (b .entry)) × (now (a .entry) ≡ now (b .entry) → r ≡ true) ⌝ }
 {
-    let mut ok = true;
+    let mut other = 0u8;
     let mut i = 0;
     while i < a.len() {
         if a[i] != b[i] {
-            ok = false;
+            other = 1;
         }
         i += 1;
     }
-    ok
+    other == 0
 }
 
 // Whether two pairs of states are equal.
@@ -65,7 +65,7 @@ fn same(a: &[u8], b: &[u8]) -> bool
 pub fn find(
     rows: &[u8],
     links: &[u16],
-    heads: &[u16; 1024],
+    heads: &[u16; 512],
     w: usize,
     count: usize,
     row: &[u8],
@@ -74,7 +74,7 @@ pub fn find(
     requires { ⌜ count * w ≤ length (now rows) ⌝ }
     requires { ⌜ (count ≤ length (now links)) × (length (now row) ≡ w) ⌝ }
     requires { ⌜ Chained w count (now rows) (now links) (now heads) ⌝ }
-    requires { ⌜ (h ≡ rowHash (now row)) × (h < 1024) ⌝ }
+    requires { ⌜ (h ≡ rowHash (now row)) × (h < 512) ⌝ }
     ensures { λ r. ⌜ Looked w count (now (rows .entry)) (now (row .entry)) r ⌝ }
 {
     let mut next = heads[h] as usize;
@@ -100,9 +100,9 @@ pub fn append(rows: &mut [u8], w: usize, count: usize, row: &[u8])
 }
 
 // The row `count`, whose hash is h, becomes the last of its chain.
-pub fn chain(links: &mut [u16], heads: &mut [u16; 1024], count: usize, h: usize)
+pub fn chain(links: &mut [u16], heads: &mut [u16; 512], count: usize, h: usize)
     requires { ⌜ (count < length (now links)) × (count + 1 < 65536) ⌝ }
-    requires { ⌜ (h < 1024) × (length (now heads) ≡ 1024) ⌝ }
+    requires { ⌜ (h < 512) × (length (now heads) ≡ 512) ⌝ }
     ensures { λ _. ⌜ (now (links .exit) ≡ set (now (links .entry)) count (getD (now (heads .entry)) h 0)) × (now (heads .exit) ≡ set (now (heads .entry)) h (count + 1)) ⌝ }
 {
     links[count] = heads[h];

@@ -18,13 +18,13 @@ abbrev μ-loop : tie.MeasureT-loop
 μ-loop a b s rows₀ row₀ members₀ table₀ k w twins heads₀ sum h count₀ state₀ column₀ q₀ held₀ rows row members table heads count state column q held = s .limit * s .k - q
 
 append-requires : tie.Need-append-requires Inv-loop μ-loop
-append-requires c κs = (c .before .before .before .before .start-row .kept .1 .1 .1 .0 ∙ c .before .before .before .before .before .before .before .before .before .before .before .before .before .pre .0 .room .rowLong, first-room (c .before .before .before .before .before .before .before .before .before .before .before .before .before .pre .0 .room))
+append-requires c κs = (c .before .before .before .before .start-row .kept .1 .1 .1 .0 ∙ c .before .before .before .before .before .before .before .before .before .before .before .before .before .before .pre .0 .room .rowLong, first-room (c .before .before .before .before .before .before .before .before .before .before .before .before .before .before .pre .0 .room))
 
 loop-holds : tie.Need-loop-holds Inv-loop μ-loop
 loop-holds c =
-    let a = c .before .before .before .before .before .before .before .before .before .before .before .before .before .before .before .before .before .before .before .before .before .before .args in
+    let a = c .before .before .before .before .before .before .before .before .before .before .before .before .before .before .before .before .before .before .before .before .before .before .before .args in
     let h = hash-is _ (c .before .before .before .before .before .before .before .before .before .before .before .before .before .start-row .result) _ (c .before .before .before .before .before .before .before .before .before .before .before .before .before .start-row .ensures .1) (c .before .before .before .before .before .hash .ensures .0) in (
-      run-start (a .s) (a .a .now) (a .b .now) (a .rows .now) (a .row .now) (a .table .now) _ _ _ _ (c .before .before .before .before .before .hash .result) (c .before .before .before .before .before .before .before .before .before .before .before .before .before .before .before .before .before .before .before .before .before .before .pre .0) (c .before .before .before .before .before .before .before .before .before .before .before .before .before .start-row .ensures .0) (c .before .before .before .before .before .before .before .before .before .before .before .before .before .start-row .kept .1 .1 .1 .0) (c .before .before .before .before .before .before .before .before .append .ensures) (c .before .before .before .before .before .before .before .before .append .kept .0) h (c .before .before .before .before .before .hash .ensures .1) (c .before .before .chain .ensures .0) (c .before .before .chain .ensures .1),
+      run-start (a .s) (a .a .now) (a .b .now) (a .rows .now) (a .row .now) (a .table .now) _ _ _ _ (c .before .before .before .before .before .hash .result) (c .before .before .before .before .before .before .before .before .before .before .before .before .before .before .before .before .before .before .before .before .before .before .before .pre .0) (c .before .before .before .before .before .before .before .before .before .before .before .before .before .start-row .ensures .0) (c .before .before .before .before .before .before .before .before .before .before .before .before .before .start-row .kept .1 .1 .1 .0) (c .before .before .before .before .before .before .before .before .append .ensures) (c .before .before .before .before .before .before .before .before .append .kept .0) h (c .before .before .before .before .before .hash .ensures .1) (c .before .before .chain .ensures .0) (c .before .before .chain .ensures .1),
       refl,
       refl,
       refl,
@@ -34,15 +34,15 @@ loop-holds c =
 
 list-requires : tie.Need-list-requires Inv-loop μ-loop
 list-requires c κs =
-    let a = c .before .before .before .before .before .before .before .before .before .before .before .before .before .before .before .before .before .before .before .before .before .before .before .before .before .before .args in
+    let a = c .before .before .before .before .before .before .before .before .before .before .before .before .before .before .before .before .before .before .before .before .before .before .before .before .before .before .before .args in
     let l = c .before .before .before .loop in
-    (c .before .before .before .before .before .before .before .before .before .before .before .before .before .before .before .before .before .before .before .before .before .before .before .before .before .before .pre .0 .fits .width, (run-source (a .s) (a .a .now) (a .b .now) (l .rows) (l .row) (l .table) (l .heads) (l .count) (l .state) (l .column) (l .q) (l .inv .0) (c .before .before .loop-test .taken), (listing-kept (c .before .before .before .before .before .before .before .before .before .before .before .before .before .before .before .before .before .before .before .before .before .before .before .before .before .before .pre .1) (l .members) (l .inv .4), l .inv .5)))
+    (c .before .before .before .before .before .before .before .before .before .before .before .before .before .before .before .before .before .before .before .before .before .before .before .before .before .before .before .pre .0 .fits .width, (run-source (a .s) (a .a .now) (a .b .now) (l .rows) (l .row) (l .table) (l .heads) (l .count) (l .state) (l .column) (l .q) (l .inv .0) (c .before .before .loop-test .taken), (listing-kept (c .before .before .before .before .before .before .before .before .before .before .before .before .before .before .before .before .before .before .before .before .before .before .before .before .before .before .before .pre .1) (l .members) (l .inv .4), l .inv .5)))
 
 advance-requires : tie.Need-advance-requires Inv-loop μ-loop
 advance-requires c κs =
-    let a = c .before .before .before .before .before .before .before .before .before .before .before .before .before .before .before .before .before .before .before .before .before .before .before .before .before .before .before .before .before .before .before .before .before .before .before .before .args in
+    let a = c .before .before .before .before .before .before .before .before .before .before .before .before .before .before .before .before .before .before .before .before .before .before .before .before .before .before .before .before .before .before .before .before .before .before .before .before .before .args in
     let l = c .before .before .before .before .before .before .before .before .before .before .before .before .before .loop in
-    (run-turning (a .s) (a .a .now) (a .b .now) (l .rows) (l .row) (l .table) (l .heads) (l .count) (l .state) (l .column) (l .q) (l .inv .0) (c .before .before .before .before .before .before .before .before .before .before .before .before .loop-test .taken), (c .before .before .before .before .before .before .before .before .before .list .ensures, λ h. let t = c .before .before .before .before .before .twin .ensures h in rw (sym (t .1)) at (c .before .before .before .before .before .before .before .before .before .before .before .before .before .before .before .before .before .before .before .before .before .before .before .before .before .before .before .before .before .twins .ensures .twin (l .column) (t .0) (rw (t .1) at h))))
+    (run-turning (a .s) (a .a .now) (a .b .now) (l .rows) (l .row) (l .table) (l .heads) (l .count) (l .state) (l .column) (l .q) (l .inv .0) (c .before .before .before .before .before .before .before .before .before .before .before .before .loop-test .taken), (c .before .before .before .before .before .before .before .before .before .list .ensures, λ h. let t = c .before .before .before .before .before .twin .ensures h in rw (sym (t .1)) at (c .before .before .before .before .before .before .before .before .before .before .before .before .before .before .before .before .before .before .before .before .before .before .before .before .before .before .before .before .before .twins2 .ensures .twin (l .column) (t .0) (rw (t .1) at h))))
 
 same-length : tie.Need-same-length Inv-loop μ-loop
 same-length c = c .before .before .before .before .before .before .before .before .advance .kept .1 .1 .1 .0 ∙ c .before .before .before .before .before .before .before .before .before .before .before .before .before .before .before .before .before .before .before .before .before .before .loop .inv .1 ∙ c .before .before .before .before .before .before .before .before .before .before .before .before .before .before .before .before .before .before .before .before .before .before .before .before .before .before .before .before .before .before .before .append .kept .0
@@ -51,20 +51,20 @@ same-length-2 : tie.Need-same-length-2 Inv-loop μ-loop
 same-length-2 c = c .before .before .before .before .before .before .before .before .advance .kept .1 .1 .1 .1 .0 ∙ c .before .before .before .before .before .before .before .before .before .before .before .before .before .before .before .before .before .before .before .before .before .before .loop .inv .2 ∙ c .before .before .before .before .before .before .before .before .before .before .before .before .before .before .before .before .before .before .before .before .before .before .before .before .before .before .before .before .before .before .before .before .before .before .before .before .start-row .kept .1 .1 .1 .0
 
 returns : tie.Need-returns Inv-loop μ-loop
-returns c = let a = c .before .before .before .before .before .before .before .before .before .before .before .before .before .before .before .before .before .before .before .before .before .before .before .before .before .before .before .before .before .before .before .before .before .before .before .before .before .before .before .before .before .before .before .before .before .args in let l = c .before .before .before .before .before .before .before .before .before .before .before .before .before .before .before .before .before .before .before .before .before .before .loop in run-many (a .s) (a .a .now) (a .b .now) (l .rows) (l .row) (l .table) (l .heads) (l .count) (l .state) (l .column) (l .q) (l .inv .0) (c .before .before .before .before .before .before .before .before .before .before .before .before .before .before .before .before .before .before .before .before .before .loop-test .taken) _ (c .before .before .before .before .before .before .before .before .advance .last .1 .1 .1 .1 .0) _ _ (c .before .before .before .before .before .before .before .before .advance .kept .1 .1 .1 .0) (c .before .before .before .before .before .before .before .before .advance .kept .1 .1 .1 .1 .0) (c .before .before .before .before .before .before .before .before .advance .kept .1 .1 .1 .1 .1 .0) _ (c .before .before .before .before .before .before .before .before .advance .ensures .0) (c .enum-told .given .1)
+returns c = let a = c .before .before .before .before .before .before .before .before .before .before .before .before .before .before .before .before .before .before .before .before .before .before .before .before .before .before .before .before .before .before .before .before .before .before .before .before .before .before .before .before .before .before .before .before .before .before .args in let l = c .before .before .before .before .before .before .before .before .before .before .before .before .before .before .before .before .before .before .before .before .before .before .loop in run-many (a .s) (a .a .now) (a .b .now) (l .rows) (l .row) (l .table) (l .heads) (l .count) (l .state) (l .column) (l .q) (l .inv .0) (c .before .before .before .before .before .before .before .before .before .before .before .before .before .before .before .before .before .before .before .before .before .loop-test .taken) _ (c .before .before .before .before .before .before .before .before .advance .last .1 .1 .1 .1 .0) _ _ (c .before .before .before .before .before .before .before .before .advance .kept .1 .1 .1 .0) (c .before .before .before .before .before .before .before .before .advance .kept .1 .1 .1 .1 .0) (c .before .before .before .before .before .before .before .before .advance .kept .1 .1 .1 .1 .1 .0) _ (c .before .before .before .before .before .before .before .before .advance .ensures .0) (c .enum-told .given .1)
 
 add-q : tie.Need-add-q Inv-loop μ-loop
-add-q c = let a = c .before .before .before .before .before .before .before .before .before .before .before .before .before .before .before .before .before .before .before .before .before .before .before .before .before .before .before .before .before .before .before .before .before .before .before .before .before .before .before .before .before .before .before .before .before .before .args in let l = c .before .before .before .before .before .before .before .before .before .before .before .before .before .before .before .before .before .before .before .before .before .before .before .loop in omega (arith, run-below (a .s) (a .a .now) (a .b .now) (l .rows) (l .row) (l .table) (l .heads) (l .count) (l .state) (l .column) (l .q) (l .inv .0) (c .before .before .before .before .before .before .before .before .before .before .before .before .before .before .before .before .before .before .before .before .before .before .loop-test .taken), l .inv .0 .room .tableLong, l .inv .3, c .before .before .before .before .before .before .before .before .before .before .before .before .before .before .before .before .before .before .before .before .before .before .before .before .before .before .chain .kept .0, (c .before .before .before .before .before .before .before .before .before .before .before .before .before .before .before .before .before .before .before .before .before .before .before .before .before .before .before .before .before .before .before .before .before .before .before .before .before .before .before .before .before .before .before .before .before .before .good))
+add-q c = let a = c .before .before .before .before .before .before .before .before .before .before .before .before .before .before .before .before .before .before .before .before .before .before .before .before .before .before .before .before .before .before .before .before .before .before .before .before .before .before .before .before .before .before .before .before .before .before .before .args in let l = c .before .before .before .before .before .before .before .before .before .before .before .before .before .before .before .before .before .before .before .before .before .before .before .loop in omega (arith, run-below (a .s) (a .a .now) (a .b .now) (l .rows) (l .row) (l .table) (l .heads) (l .count) (l .state) (l .column) (l .q) (l .inv .0) (c .before .before .before .before .before .before .before .before .before .before .before .before .before .before .before .before .before .before .before .before .before .before .loop-test .taken), l .inv .0 .room .tableLong, l .inv .3, c .before .before .before .before .before .before .before .before .before .before .before .before .before .before .before .before .before .before .before .before .before .before .before .before .before .before .chain .kept .0, (c .before .before .before .before .before .before .before .before .before .before .before .before .before .before .before .before .before .before .before .before .before .before .before .before .before .before .before .before .before .before .before .before .before .before .before .before .before .before .before .before .before .before .before .before .before .before .before .good))
 
 add-column : tie.Need-add-column Inv-loop μ-loop
-add-column c = omega (arith, c .before .before .before .before .before .before .before .before .before .before .before .before .before .before .before .before .before .before .before .before .before .before .before .loop .inv .0 .column, (c .before .before .before .before .before .before .before .before .before .before .before .before .before .before .before .before .before .before .before .before .before .before .before .before .before .before .before .before .before .before .before .before .before .before .before .before .before .before .before .before .before .before .before .before .before .before .good))
+add-column c = omega (arith, c .before .before .before .before .before .before .before .before .before .before .before .before .before .before .before .before .before .before .before .before .before .before .before .loop .inv .0 .column, (c .before .before .before .before .before .before .before .before .before .before .before .before .before .before .before .before .before .before .before .before .before .before .before .before .before .before .before .before .before .before .before .before .before .before .before .before .before .before .before .before .before .before .before .before .before .before .before .good))
 
 loop-less : tie.Need-loop-less Inv-loop μ-loop
-loop-less c = let a = c .before .before .before .before .before .before .before .before .before .before .before .before .before .before .before .before .before .before .before .before .before .before .before .before .before .before .before .before .before .before .before .before .before .before .before .before .before .before .before .before .before .before .before .before .before .before .before .args in let l = c .before .before .before .before .before .before .before .before .before .before .before .before .before .before .before .before .before .before .before .before .before .before .before .before .loop in run-less (a .s) (a .a .now) (a .b .now) (l .rows) (l .row) (l .table) (l .heads) (l .count) (l .state) (l .column) (l .q) (l .inv .0) (c .before .before .before .before .before .before .before .before .before .before .before .before .before .before .before .before .before .before .before .before .before .before .before .loop-test .taken)
+loop-less c = let a = c .before .before .before .before .before .before .before .before .before .before .before .before .before .before .before .before .before .before .before .before .before .before .before .before .before .before .before .before .before .before .before .before .before .before .before .before .before .before .before .before .before .before .before .before .before .before .before .before .args in let l = c .before .before .before .before .before .before .before .before .before .before .before .before .before .before .before .before .before .before .before .before .before .before .before .before .loop in run-less (a .s) (a .a .now) (a .b .now) (l .rows) (l .row) (l .table) (l .heads) (l .count) (l .state) (l .column) (l .q) (l .inv .0) (c .before .before .before .before .before .before .before .before .before .before .before .before .before .before .before .before .before .before .before .before .before .before .before .loop-test .taken)
 
 loop-again : tie.Need-loop-again Inv-loop μ-loop
 loop-again c =
-    let a = c .before .before .before .before .before .before .before .before .before .before .before .before .before .before .before .before .before .before .before .before .before .before .before .before .before .before .before .before .before .before .before .before .before .before .before .before .before .before .before .before .before .before .before .before .before .before .before .args in
+    let a = c .before .before .before .before .before .before .before .before .before .before .before .before .before .before .before .before .before .before .before .before .before .before .before .before .before .before .before .before .before .before .before .before .before .before .before .before .before .before .before .before .before .before .before .before .before .before .before .before .args in
     let l = c .before .before .before .before .before .before .before .before .before .before .before .before .before .before .before .before .before .before .before .before .before .before .before .before .loop in (
       run-wrap (a .s) (a .a .now) (a .b .now) (l .rows) (l .row) (l .table) (l .heads) (l .count) (l .state) (l .column) (l .q) (l .inv .0) (c .before .before .before .before .before .before .before .before .before .before .before .before .before .before .before .before .before .before .before .before .before .before .before .loop-test .taken) _ (c .before .before .before .before .before .before .before .before .before .before .advance .last .1 .1 .1 .1 .0) _ _ (c .before .before .before .before .before .before .before .before .before .before .advance .kept .1 .1 .1 .0) (c .before .before .before .before .before .before .before .before .before .before .advance .kept .1 .1 .1 .1 .0) (c .before .before .before .before .before .before .before .before .before .before .advance .kept .1 .1 .1 .1 .1 .0) _ (c .before .before .before .before .before .before .before .before .before .before .advance .ensures .0) _ (c .before .before .n .given .1) (c .if1 .taken),
       c .before .before .before .before .before .before .before .before .before .before .advance .kept .1 .1 .1 .0 ∙ l .inv .1,
@@ -75,11 +75,11 @@ loop-again c =
     )
 
 loop-less-2 : tie.Need-loop-less-2 Inv-loop μ-loop
-loop-less-2 c = let a = c .before .before .before .before .before .before .before .before .before .before .before .before .before .before .before .before .before .before .before .before .before .before .before .before .before .before .before .before .before .before .before .before .before .before .before .before .before .before .before .before .before .before .before .before .before .before .before .args in let l = c .before .before .before .before .before .before .before .before .before .before .before .before .before .before .before .before .before .before .before .before .before .before .before .before .loop in run-less (a .s) (a .a .now) (a .b .now) (l .rows) (l .row) (l .table) (l .heads) (l .count) (l .state) (l .column) (l .q) (l .inv .0) (c .before .before .before .before .before .before .before .before .before .before .before .before .before .before .before .before .before .before .before .before .before .before .before .loop-test .taken)
+loop-less-2 c = let a = c .before .before .before .before .before .before .before .before .before .before .before .before .before .before .before .before .before .before .before .before .before .before .before .before .before .before .before .before .before .before .before .before .before .before .before .before .before .before .before .before .before .before .before .before .before .before .before .before .args in let l = c .before .before .before .before .before .before .before .before .before .before .before .before .before .before .before .before .before .before .before .before .before .before .before .before .loop in run-less (a .s) (a .a .now) (a .b .now) (l .rows) (l .row) (l .table) (l .heads) (l .count) (l .state) (l .column) (l .q) (l .inv .0) (c .before .before .before .before .before .before .before .before .before .before .before .before .before .before .before .before .before .before .before .before .before .before .before .loop-test .taken)
 
 loop-again-2 : tie.Need-loop-again-2 Inv-loop μ-loop
 loop-again-2 c =
-    let a = c .before .before .before .before .before .before .before .before .before .before .before .before .before .before .before .before .before .before .before .before .before .before .before .before .before .before .before .before .before .before .before .before .before .before .before .before .before .before .before .before .before .before .before .before .before .before .before .args in
+    let a = c .before .before .before .before .before .before .before .before .before .before .before .before .before .before .before .before .before .before .before .before .before .before .before .before .before .before .before .before .before .before .before .before .before .before .before .before .before .before .before .before .before .before .before .before .before .before .before .before .args in
     let l = c .before .before .before .before .before .before .before .before .before .before .before .before .before .before .before .before .before .before .before .before .before .before .before .before .loop in (
       run-on (a .s) (a .a .now) (a .b .now) (l .rows) (l .row) (l .table) (l .heads) (l .count) (l .state) (l .column) (l .q) (l .inv .0) (c .before .before .before .before .before .before .before .before .before .before .before .before .before .before .before .before .before .before .before .before .before .before .before .loop-test .taken) _ (c .before .before .before .before .before .before .before .before .before .before .advance .last .1 .1 .1 .1 .0) _ _ (c .before .before .before .before .before .before .before .before .before .before .advance .kept .1 .1 .1 .0) (c .before .before .before .before .before .before .before .before .before .before .advance .kept .1 .1 .1 .1 .0) (c .before .before .before .before .before .before .before .before .before .before .advance .kept .1 .1 .1 .1 .1 .0) _ (c .before .before .before .before .before .before .before .before .before .before .advance .ensures .0) _ (c .before .before .n .given .1) (c .if1 .left),
       c .before .before .before .before .before .before .before .before .before .before .advance .kept .1 .1 .1 .0 ∙ l .inv .1,
@@ -90,10 +90,10 @@ loop-again-2 c =
     )
 
 flag-rows-requires : tie.Need-flag-rows-requires Inv-loop μ-loop
-flag-rows-requires c κs = let a = c .before .before .before .before .before .before .before .before .before .before .before .before .before .before .before .before .before .before .before .before .before .before .before .before .before .before .args in let l = c .before .before .before .loop in run-flagging (a .s) (a .a .now) (a .b .now) (l .rows) (l .row) (l .table) (l .heads) (l .count) (l .state) (l .column) (l .q) (l .inv .0) (c .before .before .loop-test .left)
+flag-rows-requires c κs = let a = c .before .before .before .before .before .before .before .before .before .before .before .before .before .before .before .before .before .before .before .before .before .before .before .before .before .before .before .args in let l = c .before .before .before .loop in run-flagging (a .s) (a .a .now) (a .b .now) (l .rows) (l .row) (l .table) (l .heads) (l .count) (l .state) (l .column) (l .q) (l .inv .0) (c .before .before .loop-test .left)
 
 returns-2 : tie.Need-returns-2 Inv-loop μ-loop
-returns-2 c = let a = c .before .before .before .before .before .before .before .before .before .before .before .before .before .before .before .before .before .before .before .before .before .before .before .before .before .before .before .before .before .args in let l = c .before .before .before .before .before .before .loop in run-done (a .s) (a .a .now) (a .b .now) (l .rows) (l .row) (l .table) (l .heads) (l .count) (l .state) (l .column) (l .q) (l .inv .0) (c .before .before .before .before .before .loop-test .left) _ (c .before .before .flag-rows .kept .1 .1 .1 .1 .0) (c .before .before .flag-rows .ensures)
+returns-2 c = let a = c .before .before .before .before .before .before .before .before .before .before .before .before .before .before .before .before .before .before .before .before .before .before .before .before .before .before .before .before .before .before .args in let l = c .before .before .before .before .before .before .loop in run-done (a .s) (a .a .now) (a .b .now) (l .rows) (l .row) (l .table) (l .heads) (l .count) (l .state) (l .column) (l .q) (l .inv .0) (c .before .before .before .before .before .loop-test .left) _ (c .before .before .flag-rows .kept .1 .1 .1 .1 .0) (c .before .before .flag-rows .ensures)
 
 pub explore-spec : {M : Type 1} → statement M
 explore-spec =

@@ -1,24 +1,17 @@
 -- `start_row` meets its contract: a case for each operation. Assumes nothing.
-use mathlib.Core.Path.{sym, ap, _∙_}
-use lib.ListN.{length}
 use borrow.Author.Needs.{needs}
-use Rattle.explore.specs.Sums.{rowSum}
-use Rattle.explore.proofs.FitLaws.{is-concatenation, is-star, is-erase, pair-start}
-use Rattle.explore.proofs.SumLaws.{sum-none}
+use Rattle.explore.proofs.FitLaws.{is-concatenation, is-star, is-erase}
 use Rattle.explore.proofs.start_row.Statement.{statement}
 use Rattle.explore.proofs.start_row.Tie as tie
 
-returns : tie.Need-returns
-returns c = (pair-start (c .before .before .before .before .before .before .before .before .args .s) (c .before .before .before .before .before .before .before .before .args .a .now) (c .before .before .before .before .before .before .before .before .args .b .now) (c .before .before .before .before .before .before .before .before .pre .0) (c .before .before .before .before .if1 .taken) (length (c .before .before .before .before .before .before .before .before .args .row .now)) _ (c .before .before .before .before .before .before .before .before .pre .1) (c .before .before .clear .ensures), sym (ap (rowSum 0) (c .before .before .clear .ensures) ∙ sum-none 0 (length (c .before .before .before .before .before .before .before .before .args .row .now))))
-
-start-requires : tie.Need-start-requires
-start-requires c κs = (c .before .before .before .before .before .before .pre .0, (c .before .before .before .before .before .before .pre .1, is-concatenation (c .before .before .before .before .before .before .args .s .op) (c .before .if2 .taken)))
-
 start-requires-2 : tie.Need-start-requires-2
-start-requires-2 c κs = (c .before .before .before .before .before .before .before .pre .0, (c .before .before .before .before .before .before .before .pre .1, is-star (c .before .before .before .before .before .before .before .args .s .op) (c .before .if3 .taken)))
+start-requires-2 c κs = (c .before .before .before .before .before .before .pre .0, (c .before .before .before .before .before .before .pre .1, is-concatenation (c .before .before .before .before .before .before .args .s .op) (c .before .if2 .taken)))
 
 start-requires-3 : tie.Need-start-requires-3
-start-requires-3 c κs = (c .before .before .before .before .before .before .before .pre .0, (c .before .before .before .before .before .before .before .pre .1, is-erase (c .before .before .before .before .before .before .before .args .s .op) (c .before .before .before .if1 .left) (c .before .before .if2 .left) (c .before .if3 .left)))
+start-requires-3 c κs = (c .before .before .before .before .before .before .before .pre .0, (c .before .before .before .before .before .before .before .pre .1, is-star (c .before .before .before .before .before .before .before .args .s .op) (c .before .if3 .taken)))
+
+start-requires-4 : tie.Need-start-requires-4
+start-requires-4 c κs = (c .before .before .before .before .before .before .before .pre .0, (c .before .before .before .before .before .before .before .pre .1, is-erase (c .before .before .before .before .before .before .before .args .s .op) (c .before .before .before .if1 .left) (c .before .before .if2 .left) (c .before .if3 .left)))
 
 pub start-row-spec : {M : Type 1} → statement M
 start-row-spec =
@@ -26,13 +19,13 @@ start-row-spec =
     (tie.spec
     (λ c κs. search needs)
     (λ c. search needs)
-    returns
-    start-requires
-    (λ c. search needs)
     (λ c. search needs)
     start-requires-2
     (λ c. search needs)
     (λ c. search needs)
     start-requires-3
+    (λ c. search needs)
+    (λ c. search needs)
+    start-requires-4
     (λ c. search needs)
     (λ c. search needs))

@@ -1,5 +1,5 @@
 -- `alike` meets its contract: the states before q lead to the same place by both columns. Assumes nothing.
-use Prim.Native.Nat.{ℕ, _+_, _*_, _-_, _<_, _≤_}
+use Prim.Native.Nat.{ℕ, _-_, _<_, _≤_}
 use Rattle.explore.proofs.RowLaws.{cell-within}
 use Rattle.explore.specs.Steps.{cell}
 use borrow.Author.Count.{below-more}

@@ -1,11 +1,10 @@
 -- `find` meets its contract: from `next` on no row is the one looked for; a row of another chain has another hash. Assumes nothing.
-use Prim.Native.Nat.{ℕ, _+_, _-_, _<_, _≤_}
+use Prim.Native.Nat.{_-_}
 use Rattle.explore.proofs.HashLaws.{Seeking, pred-suc, seek-first, seek-next}
-use Rattle.explore.proofs.RowLaws.{row-within, row-part, row-length}
-use Rattle.explore.specs.Rows.{rowAt}
+use Rattle.explore.proofs.RowLaws.{row-within, row-part}
 use borrow.Author.Needs.{needs}
 use mathlib.Core.Bool.{false≢true}
-use mathlib.Core.Path.{_≡_, sym, _∙_}
+use mathlib.Core.Path.{sym, _∙_}
 use native.Mathlib.Omega.{arith}
 use Rattle.explore.proofs.rows.find.Statement.{statement}
 use Rattle.explore.proofs.rows.find.Tie as tie
