@@ -1,19 +1,19 @@
 -- Laws of one round of partition refinement: comparing two states, searching the leaders of a class, placing a state. Assumes nothing.
 use mathlib.Core.Path.{_≡_, refl, sym, ap, _∙_}
-use mathlib.Core.Bool.{Bool, true, false, true≢false, false≢true}
+use mathlib.Core.Bool.{Bool, true, false, not, true≢false, false≢true}
 use mathlib.Core.Logic.{inl, inr, _≢_}
 use mathlib.Core.List.{List}
 use Prim.Native.Nat.{ℕ, zero, suc, _+_, _≤_, _<_}
-use native.Mathlib.Nat.{le-refl, le-trans, not-suc-le-zero}
+use native.Mathlib.Nat.{le-refl, le-trans, not-suc-le-zero, mul-le-mul-right}
 use native.Mathlib.Omega.{arith}
-use lib.ListN.{getD, take, set, length-set}
+use lib.ListN.{length, getD, take, set, length-set}
 use lib.Seq.{getD-take, getD-set-same, getD-set-other, take-set-le}
 use borrow.Author.Tests.{eq-eqb, ne-eqb}
 use Rattle.automata.specs.Basics.{LtCases, lt-cases}
 use Rattle.automata.specs.Machine.{Machine, automaton}
 use Rattle.automata.specs.Refinement.{SameSignature}
 use Rattle.automata.specs.Table.{tableMachine, ClosedTable}
-use Rattle.minimise.specs.Refine.{Says, Target, classOf, next, link, Led, leaders, Together, Placed, Latest, Linked, Under, Leads, Placing}
+use Rattle.minimise.specs.Refine.{Says, Target, Compared, SameClass, classOf, next, link, Led, leaders, Together, Placed, Latest, Linked, Under, Leads, Placing}
 
 -- ---- comparing two states
 
@@ -28,31 +28,56 @@ says-no P h = record { yes = λ e. absurd (false≢true e); no = λ e. h }
 pub says-yes : (P : Type 0) → P → Says true P
 says-yes P h = record { yes = λ e. h; no = λ e. absurd (true≢false e) }
 
-module _ (base n k : ℕ) (t w : List ℕ) (p q : ℕ) (C : ClosedTable base n k t) (hp : p < n) (hq : q < n) where
+not-true : (b : Bool) → not b ≡ true → b ≡ false
+not-true true e = absurd (false≢true e)
+not-true false e = refl
+
+not-false : (b : Bool) → not b ≡ false → b ≡ true
+not-false true e = refl
+not-false false e = absurd (true≢false e)
+
+-- a table's rows are no longer than its list
+pub row-long : (base n k : ℕ) (t : List ℕ) → ClosedTable base n k t → k ≤ length t
+row-long base n k t C = omega (arith, C .long, mul-le-mul-right {m = 1} {n = n} k (C .some))
+
+module _ {base n k : ℕ} {t w : List ℕ} {p q : ℕ} (C : Compared base n k p q t w) where
   abbrev M : Machine
   M = tableMachine base n k t
 
   abbrev f : ℕ → ℕ
   f = classOf (take n w)
 
-  pub alike-start : automaton M .accepting p ≡ automaton M .accepting q → SameBelow k M f p q 0
-  alike-start e = record { accepting = e; step = λ a h. absurd (not-suc-le-zero h) }
-
   -- the class of what a column leads to, as read
   read : (p c r x : ℕ) → Target base n k t p c r → x ≡ getD w r 0 → f (automaton M .step p c) ≡ x
   read p c r x T e = rw (← T .step) (getD-take n w r 0 (T .inside) ∙ sym e)
 
-  pub alike-parts : (c r s x y : ℕ) → c < k → Target base n k t p c r → Target base n k t q c s → x ≡ getD w r 0 → y ≡ getD w s 0 → x ≢ y
-      → Says false (SameSignature k M f p q)
-  alike-parts c r s x y h T U ex ey d = says-no _ λ z. d (sym (read p c r x T ex) ∙ z .step c h ∙ read q c s y U ey)
+  module _ (c r s x y : ℕ) (T : Target base n k t p c r) (U : Target base n k t q c s) (ex : x ≡ getD w r 0) (ey : y ≡ getD w s 0) where
+    pub agree-no : x ≢ y → Says false (SameClass M f p q c)
+    agree-no d = says-no _ λ z. d (sym (read p c r x T ex) ∙ z .step ∙ read q c s y U ey)
 
-  pub alike-more : (c r s x y : ℕ) → Target base n k t p c r → Target base n k t q c s → x ≡ getD w r 0 → y ≡ getD w s 0 → x ≡ y
-      → SameBelow k M f p q c → SameBelow k M f p q (c + 1)
-  alike-more c r s x y T U ex ey e z = record { accepting = z .accepting; step = λ a h. go a (lt-cases a c) (omega arith) }
-    where
-      go : (a : ℕ) → LtCases a c → a ≤ c → f (automaton M .step p a) ≡ f (automaton M .step q a)
-      go a (inl b) h = z .step a (b .0)
-      go a (inr b) h = let i : a ≡ c = omega arith in rw i (read p c r x T ex ∙ e ∙ sym (read q c s y U ey))
+    pub agree-yes : x ≡ y → Says true (SameClass M f p q c)
+    agree-yes e = says-yes _ (record { step = read p c r x T ex ∙ e ∙ sym (read q c s y U ey) })
+
+  pub alike-start : automaton M .accepting p ≡ automaton M .accepting q → SameBelow k M f p q 0
+  alike-start e = record { accepting = e; step = λ a h. absurd (not-suc-le-zero h) }
+
+  module _ (c : ℕ) (b : Bool) (A : Says b (SameClass M f p q c)) where
+    pub alike-parts : c < k → not b ≡ true → Says false (SameSignature k M f p q)
+    alike-parts h e = says-no _ λ z. A .no (not-true b e) (record { step = z .step c h })
+
+    pub alike-more : not b ≡ false → SameBelow k M f p q c → SameBelow k M f p q (c + 1)
+    alike-more e z = record { accepting = z .accepting; step = λ a h. go a (lt-cases a c) (omega arith) }
+      where
+        go : (a : ℕ) → LtCases a c → a ≤ c → f (automaton M .step p a) ≡ f (automaton M .step q a)
+        go a (inl v) h = z .step a (v .0)
+        go a (inr v) h = let i : a ≡ c = omega arith in rw i (A .yes (not-false b e) .step)
+
+    -- the last column decides
+    pub alike-last : c < k → k ≤ c + 1 → SameBelow k M f p q c → Says b (SameSignature k M f p q)
+    alike-last h l z = record {
+      yes = λ e. let u = alike-more (ap not e) z in record { accepting = u .accepting; step = λ a v. u .step a (le-trans v l) };
+      no = λ e v. A .no e (record { step = v .step c h });
+    }
 
   pub alike-end : (c : ℕ) → k ≤ c → SameBelow k M f p q c → Says true (SameSignature k M f p q)
   alike-end c h z = says-yes _ (record { accepting = z .accepting; step = λ a b. z .step a (le-trans b h) })

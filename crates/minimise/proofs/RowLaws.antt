@@ -13,8 +13,8 @@ use Rattle.automata.specs.Basics.{LtCases, lt-cases, nat-test}
 use Rattle.automata.specs.Listing.{Extends, add, addTo, add-extends}
 use Rattle.automata.specs.Rows.{cell-below}
 use Rattle.minimise.specs.Refine.{Target}
-use Rattle.minimise.specs.Number.{ordered, Arrived, Goes, classesOf, Rolling, Upto}
-use Rattle.minimise.proofs.ArriveLaws.{ordered-length, ordered-at}
+use Rattle.minimise.specs.Number.{ordered, Roll, Arrived, Goes, classesOf, Rolling, Upto}
+use Rattle.minimise.proofs.ArriveLaws.{ordered-length, ordered-at, number-found, arrive-old}
 
 -- what further columns add makes the list no shorter
 pub addTo-longer : (Q : Automaton ℕ) (l : List ℕ) (p c k : ℕ) → c ≤ k → length (addTo nat-test Q c l p) ≤ length (addTo nat-test Q k l p)
@@ -29,6 +29,39 @@ addTo-longer Q l p c (suc k) h = go (lt-cases k c) (addTo-longer Q l p c k)
 -- what a state leads to keeps its number in a longer order
 pub goes-on : (Q : Automaton ℕ) (l l′ : List ℕ) (p c x : ℕ) → Extends 0 l l′ → Goes Q l p c x → Goes Q l′ p c x
 goes-on Q l l′ p c x E G = record { inside = le-trans (G .inside) (E .longer); leads = E .keeps x (G .inside) ∙ G .leads }
+
+-- x is the number of the class of state l, where l is a state
+pub record Last (n m l x : ℕ) (w : List ℕ) : Type 0 where
+  pub low : l < n → x < m
+  pub place : l < n → getD w (n + n + x) 0 ≡ getD w l 0
+
+-- The class of state r has the number x now, and r is the last state met.
+pub record Numbered (n most m r : ℕ) (w : List ℕ) (m′ l x : ℕ) (w′ : List ℕ) : Type 0 where
+  pub arrived : Arrived n most m (getD w r 0) w w′ x
+  pub few : x ≢ most
+  pub grown : m′ ≡ max m (suc x)
+  pub here : l ≡ r
+  pub long : length w′ ≡ length w
+
+-- a class arrives,
+pub numbered-new : {n most m r d y m′ l x : ℕ} {w v w′ : List ℕ} → d ≡ getD w r 0 → Arrived n most m d w v y → y ≢ most → length v ≡ length w → m′ ≡ max m (suc y)
+    → w′ ≡ v → l ≡ r → x ≡ y → Numbered n most m r w m′ l x w′
+numbered-new ed A z e g ew el ex = rw (ew, ex) record { arrived = rw ed at A; few = z; grown = g; here = el; long = e }
+
+-- or the state is met again
+pub numbered-again : {n most m r y m′ l x : ℕ} {w w′ : List ℕ} → Roll n most m w → r < n → Last n m r y w → m′ ≡ m → w′ ≡ w → l ≡ r → x ≡ y → Numbered n most m r w m′ l x w′
+numbered-again {n} {most} {m} {r} {y} {w = w} R h L em ew el ex =
+    let b : y < m = L .low h in
+    rw (ew, ex) record {
+      arrived = arrive-old R (getD w r 0) y (number-found R (getD w r 0) y (getD w (n + n + y) 0) b refl (L .place h)) b;
+      few = omega (arith, R .within);
+      grown = omega (arith, em);
+      here = el;
+      long = refl;
+    }
+
+pub last-none : {n m l x : ℕ} {w : List ℕ} → l ≡ n → Last n m l x w
+last-none e = record { low = λ h. absurd (omega arith); place = λ h. absurd (omega arith) }
 
 module _ {base n k most i m : ℕ} {t w s : List ℕ} (R : Rolling base n k most i m t w s) where
   abbrev Q : Automaton ℕ
@@ -108,3 +141,18 @@ module _ {base n k most i m : ℕ} {t w s : List ℕ} (R : Rolling base n k most
           goes a (inr y) b =
               let j : a ≡ c = omega arith in
               rw (j, getD-set-same s′ (most + (i * k + c)) x 0 (rw len (row-cell c hc))) mine
+
+  -- the same, of a column whose class has been given its number
+  module _ (p c m′ r : ℕ) (w′ s′ : List ℕ) (U : Upto Q n k most i m w s c m′ w′ s′) (hc : c < k) (e : p ≡ getD w (n + n + i) 0) (T : Target base n k t p c r)
+      (m″ l x : ℕ) (w″ : List ℕ) (N : Numbered n most m′ r w′ m″ l x w″) where
+    pub column-few : x < most
+    column-few = row-few p c m′ r (getD w′ r 0) w′ s′ U hc e T refl x w″ (N .arrived) (N .few)
+
+    pub column-turns : (s″ : List ℕ) → length s′ ≡ length s → s″ ≡ set s′ (most + (i * k + c)) x → Upto Q n k most i m w s (c + 1) m″ w″ s″
+    column-turns s″ len es = row-turns p c m′ r (getD w′ r 0) w′ s′ U hc e T refl x w″ (N .arrived) m″ s″ (N .few) len es (N .grown)
+
+    pub column-last : Last n m″ l x w″
+    column-last = rw (N .here, N .grown) record {
+      low = λ _. omega arith;
+      place = λ h. N .arrived .place column-few ∙ sym (getD-take n w′ r 0 h) ∙ ap (λ v. getD v r 0) (sym (N .arrived .kept)) ∙ getD-take n w″ r 0 h;
+    }

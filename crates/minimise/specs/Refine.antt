@@ -32,6 +32,17 @@ next n w p = getD w (n + p) zero
 abbrev pub link : ℕ → List ℕ → ℕ → ℕ
 link n w p = getD w (n + (n + p)) zero
 
+-- Two states of a table are to be compared by the classes that their columns lead to.
+pub record Compared (base n k p q : ℕ) (t w : List ℕ) : Type 0 where
+  pub closed : ClosedTable base n k t
+  pub room : n ≤ length w
+  pub one : p < n
+  pub other : q < n
+
+-- Column c leads p and q to one class.
+pub record SameClass (M : Machine) (f : ℕ → ℕ) (p q c : ℕ) : Type 0 where
+  pub step : f (automaton M .step p c) ≡ f (automaton M .step q c)
+
 -- A class goes by a state of it, its leader, and no state of it comes before the leader.
 pub record Led (n : ℕ) (f : ℕ → ℕ) : Type 0 where
   pub low : (p : ℕ) → p < n → f p ≤ p

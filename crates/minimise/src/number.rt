@@ -44,7 +44,8 @@ fn arrive(n: usize, most: usize, m: usize, d: usize, work: &mut [u16]) -> usize
     m
 }
 
-// Row i of the numbered machine: the numbers of what its columns lead to, in the order of the columns. How many classes have numbers then.
+// Row i of the numbered machine: the numbers of what its columns lead to, in the order of the columns. How many classes have numbers then. A column that leads
+// to the same state as the one before it repeats that one's number: letters that a rule does not tell apart are most of a large alphabet.
 fn row(
     table: &[u16],
     base: usize,
@@ -61,18 +62,23 @@ fn row(
 {
     let p = at(&work[..], n + n + i);
     let mut m = count;
+    let mut last = n;
+    let mut x = 0;
     let mut c = 0;
     while c < k {
         let t = target(table, base, n, k, p, c);
-        let d = at(&work[..], t);
-        let x = arrive(n, most, m, d, work);
-        if x == most {
-            return Kept::TooMany;
+        if t != last {
+            let d = at(&work[..], t);
+            x = arrive(n, most, m, d, work);
+            if x == most {
+                return Kept::TooMany;
+            }
+            if x == m {
+                m += 1;
+            }
+            last = t;
         }
         slot[most + (i * k + c)] = x as u8;
-        if x == m {
-            m += 1;
-        }
         c += 1;
     }
     Kept::States(m)

@@ -1,4 +1,5 @@
 -- `leader` meets its contract. The loop: r leads a class, and no later leader goes with p; the measure is r, since the links go down. Assumes nothing.
+use Prim.Native.Nat.{_<_}
 use native.Mathlib.Omega.{arith}
 use lib.ListN.{take}
 use Rattle.automata.specs.Table.{tableMachine}
@@ -29,7 +30,10 @@ loop-holds : tie.Need-loop-holds Inv-loop μ-loop
 loop-holds c = leader-start (c .before .before .before .before .pre .0) _ _ (c .before .before .before .before .pre .1) (c .before .at .ensures) (c .at2 .ensures)
 
 alike-requires : tie.Need-alike-requires Inv-loop μ-loop
-alike-requires c κs = (c .before .before .before .before .before .pre .0 .closed, (omega (arith, c .before .before .before .before .before .pre .0 .room), (omega (arith, c .loop .inv .below, c .before .before .before .before .before .pre .0 .inside), (c .before .before .before .before .before .pre .0 .inside, c .before .before .before .before .before .pre .0 .told _ _ (omega (arith, c .loop .inv .below, c .before .before .before .before .before .pre .0 .inside)) (c .before .before .before .before .before .pre .0 .inside) (c .loop .inv .class)))))
+alike-requires c κs =
+    let u = c .before .before .before .before .before .pre .0 in
+    let b : c .loop .r < c .before .before .before .before .before .args .n = omega (arith, c .loop .inv .below, u .inside) in
+    (record { closed = u .closed; room = omega (arith, u .room); one = b; other = u .inside }, u .told _ _ b (u .inside) (c .loop .inv .class))
 
 returns : tie.Need-returns Inv-loop μ-loop
 returns c = leader-found (c .before .before .before .before .before .before .before .pre .0) _ _ (c .before .before .loop .inv) (c .before .alike .ensures) (c .if1 .taken)
