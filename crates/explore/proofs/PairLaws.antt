@@ -2,16 +2,18 @@
 use mathlib.Core.Path.{_≡_, refl, sym, ap, ap₂, _∙_}
 use mathlib.Core.Bool.{Bool, not, _&&_, _||_}
 use mathlib.Core.List.{List, [], _∷_}
-use Prim.Native.Nat.{ℕ, zero, suc, _+_, _*_, _/_, _%_, _<_}
+use Prim.Native.Nat.{ℕ, zero, suc, _+_, _*_, _/_, _%_, _≤_, _<_}
 use native.Mathlib.Omega.{arith}
-use lib.ListN.{length, set}
+use lib.ListN.{length, getD, set, drop, length-set}
+use lib.Seq.{ext-getD, getD-take, getD-drop, getD-set-same, getD-set-other}
 use Rattle.automata.specs.Table.{table-step, table-accepting}
 use Rattle.automata.specs.Stages.{Pairing, either, both, without, combine}
-use Rattle.explore.specs.Rows.{flagAt, numberAt, pairRow, pairing, operationOf, pairRows}
+use Rattle.explore.specs.Rows.{rowAt, flagAt, numberAt, pairRow, pairing, operationOf, pairRows}
 use Rattle.explore.specs.Steps.{cell, pairAnswer}
 use Rattle.explore.specs.Sums.{weight, rowSum}
-use Rattle.explore.specs.Answer.{rowsFor, Fits, Source}
+use Rattle.explore.specs.Answer.{rowsFor, Fits, Source, Appended}
 use Rattle.explore.specs.declared.Shape.{Shape}
+use Rattle.explore.proofs.RowLaws.{row-length, four-ext}
 use Rattle.explore.proofs.TableLaws.{cell-in, flag-in}
 use Rattle.explore.proofs.SumLaws.{sum-two, sum-nothing, sum-none}
 
@@ -52,12 +54,10 @@ four (_ ∷ _ ∷ _ ∷ _ ∷ []) x y z v e = refl
 four (_ ∷ _ ∷ _ ∷ _ ∷ _ ∷ r) x y z v e = absurd (omega arith)
 
 -- the sum of a pair's row
-pub pair-sum : (row r1 r2 : List ℕ) (x y high total : ℕ) → length row ≡ 4 → r1 ≡ set (set row 0 (x % 256)) 1 (x / 256) → r2 ≡ set (set r1 2 (y % 256)) 3 (y / 256)
-    → high ≡ y % 256 * weight 2 + (y / 256 * weight 3 + 0) → total ≡ x % 256 * weight 0 + (x / 256 * weight 1 + high) → total ≡ rowSum 0 r2
-pair-sum row r1 r2 x y high total w e1 e2 h t =
+pub pair-sum : (x y high total : ℕ) → high ≡ y % 256 * weight 2 + (y / 256 * weight 3 + 0) → total ≡ x % 256 * weight 0 + (x / 256 * weight 1 + high) → total ≡ rowSum 0 (pairRow x y)
+pair-sum x y high total h t =
     let two : high ≡ rowSum 2 (y % 256 ∷ y / 256 ∷ []) = h ∙ ap (λ (v : ℕ). y % 256 * weight 2 + (y / 256 * weight 3 + v)) (sum-nothing 4) ∙ sum-two 2 (y % 256) (y / 256) [] in
-    let all : total ≡ rowSum 0 (x % 256 ∷ x / 256 ∷ y % 256 ∷ y / 256 ∷ []) = t ∙ ap (λ (v : ℕ). x % 256 * weight 0 + (x / 256 * weight 1 + v)) two ∙ sum-two 0 (x % 256) (x / 256) (y % 256 ∷ y / 256 ∷ []) in
-    all ∙ ap (rowSum 0) (sym (e2 ∙ rw e1 (four row (x % 256) (x / 256) (y % 256) (y / 256) w)))
+    t ∙ ap (λ (v : ℕ). x % 256 * weight 0 + (x / 256 * weight 1 + v)) two ∙ sum-two 0 (x % 256) (x / 256) (y % 256 ∷ y / 256 ∷ [])
 
 pub pair-start : (s : Shape) (a b : List ℕ) → Fits s a b → s .op < 3 → (row r1 r2 : List ℕ) → length row ≡ s .w → r1 ≡ set (set row 0 0) 1 0 → r2 ≡ set (set r1 2 0) 3 0
     → (r2 ≡ rowsFor s a b .start) × (0 ≡ rowSum 0 r2)
@@ -69,6 +69,91 @@ pair-start s a b F h row r1 r2 w e1 e2 =
 
 pub pair-room : (s : Shape) (a b : List ℕ) → Fits s a b → s .op < 3 → s .w ≡ 4
 pair-room s a b F h = F .width ∙ rw (pair-of (s .op) h .1)
+
+-- ---- pairs among rows of four bytes
+
+pub four-at : (rows : List ℕ) (j i : ℕ) → i < 4 → getD (rowAt 4 j rows) i 0 ≡ getD rows (j * 4 + i) 0
+four-at rows j i h = getD-take 4 (drop (j * 4) rows) i 0 h ∙ getD-drop (j * 4) rows i 0
+
+pub number-left : (rows : List ℕ) (j : ℕ) → numberAt (rowAt 4 j rows) 0 ≡ numberAt rows (j * 4)
+number-left rows j = let z : j * 4 + 0 ≡ j * 4 = omega arith in ap₂ (λ (u v : ℕ). u + 256 * v) (four-at rows j 0 (omega arith) ∙ ap (λ (n : ℕ). getD rows n 0) z) (four-at rows j 1 (omega arith))
+
+pub number-right : (rows : List ℕ) (j : ℕ) → numberAt (rowAt 4 j rows) 2 ≡ numberAt rows (j * 4 + 2)
+number-right rows j = let z : j * 4 + 3 ≡ j * 4 + 2 + 1 = omega arith in ap₂ (λ (u v : ℕ). u + 256 * v) (four-at rows j 2 (omega arith)) (four-at rows j 3 (omega arith) ∙ ap (λ (n : ℕ). getD rows n 0) z)
+
+bytes : (p : ℕ) → p % 256 + 256 * (p / 256) ≡ p
+bytes p = omega arith
+
+module _ (rows : List ℕ) (j x y : ℕ) (room : j * 4 + 4 ≤ length rows) (small : (i : ℕ) → getD rows i 0 < 256) where
+  -- the row is told by its numbers
+  pub here-is : (p q : ℕ) → p ≡ numberAt rows (j * 4) → q ≡ numberAt rows (j * 4 + 2) → p ≡ x → q ≡ y → rowAt 4 j rows ≡ pairRow x y
+  here-is p q ep eq ex ey =
+      let k₀ = small (j * 4) in
+      let k₁ = small (j * 4 + 1) in
+      let k₂ = small (j * 4 + 2) in
+      let k₃ = small (j * 4 + 2 + 1) in
+      let z₀ : j * 4 + 0 ≡ j * 4 = omega arith in
+      let z₃ : j * 4 + 3 ≡ j * 4 + 2 + 1 = omega arith in
+      let g₀ : getD rows (j * 4) 0 ≡ x % 256 = omega (arith, ep, ex) in
+      let g₁ : getD rows (j * 4 + 1) 0 ≡ x / 256 = omega (arith, ep, ex) in
+      let g₂ : getD rows (j * 4 + 2) 0 ≡ y % 256 = omega (arith, eq, ey) in
+      let g₃ : getD rows (j * 4 + 2 + 1) 0 ≡ y / 256 = omega (arith, eq, ey) in
+      four-ext (rowAt 4 j rows) (pairRow x y) (row-length 4 j rows room) refl
+      (four-at rows j 0 (omega arith) ∙ ap (λ (n : ℕ). getD rows n 0) z₀ ∙ g₀)
+      (four-at rows j 1 (omega arith) ∙ g₁)
+      (four-at rows j 2 (omega arith) ∙ g₂)
+      (four-at rows j 3 (omega arith) ∙ ap (λ (n : ℕ). getD rows n 0) z₃ ∙ g₃)
+
+  pub here-left : rowAt 4 j rows ≡ pairRow x y → numberAt rows (j * 4) ≡ x
+  here-left e = sym (number-left rows j) ∙ ap (λ (r : List ℕ). numberAt r 0) e ∙ bytes x
+
+  pub here-right : rowAt 4 j rows ≡ pairRow x y → numberAt rows (j * 4 + 2) ≡ y
+  here-right e = sym (number-right rows j) ∙ ap (λ (r : List ℕ). numberAt r 2) e ∙ bytes y
+
+-- a pair put behind the others
+pub pair-appended : (rows r1 r2 : List ℕ) (n x y : ℕ) → n * 4 + 4 ≤ length rows → r1 ≡ set (set rows (n * 4) (x % 256)) (n * 4 + 1) (x / 256)
+    → r2 ≡ set (set r1 (n * 4 + 2) (y % 256)) (n * 4 + 2 + 1) (y / 256) → Appended 4 n rows (pairRow x y) r2
+pair-appended rows r1 r2 n x y room e1 e2 = record { before = before; here = here }
+  where
+    l₁ : length r1 ≡ length rows
+    l₁ = ap length e1 ∙ length-set (set rows (n * 4) (x % 256)) (n * 4 + 1) (x / 256) ∙ length-set rows (n * 4) (x % 256)
+
+    l₂ : length r2 ≡ length rows
+    l₂ = ap length e2 ∙ length-set (set r1 (n * 4 + 2) (y % 256)) (n * 4 + 2 + 1) (y / 256) ∙ length-set r1 (n * 4 + 2) (y % 256) ∙ l₁
+
+    -- below the place of y
+    low : (i : ℕ) → i < n * 4 + 2 → getD r2 i 0 ≡ getD r1 i 0
+    low i h = ap (λ (r : List ℕ). getD r i 0) e2 ∙ getD-set-other (set r1 (n * 4 + 2) (y % 256)) (n * 4 + 2 + 1) i (y / 256) 0 (λ z. omega arith) ∙ getD-set-other r1 (n * 4 + 2) i (y % 256) 0 (λ z. omega arith)
+
+    old : (i : ℕ) → i < n * 4 → getD r2 i 0 ≡ getD rows i 0
+    old i h = low i (omega arith) ∙ ap (λ (r : List ℕ). getD r i 0) e1 ∙ getD-set-other (set rows (n * 4) (x % 256)) (n * 4 + 1) i (x / 256) 0 (λ z. omega arith) ∙ getD-set-other rows (n * 4) i (x % 256) 0 (λ z. omega arith)
+
+    before : (i : ℕ) → i < n → rowAt 4 i r2 ≡ rowAt 4 i rows
+    before i h = ext-getD 0 (rowAt 4 i r2) (rowAt 4 i rows) (row-length 4 i r2 (omega (arith, l₂)) ∙ sym (row-length 4 i rows (omega arith))) λ t b.
+        let c : t < 4 = omega (arith, row-length 4 i r2 (omega (arith, l₂))) in
+        four-at r2 i t c ∙ old (i * 4 + t) (omega arith) ∙ sym (four-at rows i t c)
+
+    g₀ : getD r2 (n * 4) 0 ≡ x % 256
+    g₀ = low (n * 4) (omega arith) ∙ ap (λ (r : List ℕ). getD r (n * 4) 0) e1 ∙ getD-set-other (set rows (n * 4) (x % 256)) (n * 4 + 1) (n * 4) (x / 256) 0 (λ z. omega arith) ∙ getD-set-same rows (n * 4) (x % 256) 0 (omega arith)
+
+    g₁ : getD r2 (n * 4 + 1) 0 ≡ x / 256
+    g₁ = low (n * 4 + 1) (omega arith) ∙ ap (λ (r : List ℕ). getD r (n * 4 + 1) 0) e1 ∙ getD-set-same (set rows (n * 4) (x % 256)) (n * 4 + 1) (x / 256) 0 (omega (arith, length-set rows (n * 4) (x % 256)))
+
+    g₂ : getD r2 (n * 4 + 2) 0 ≡ y % 256
+    g₂ = ap (λ (r : List ℕ). getD r (n * 4 + 2) 0) e2 ∙ getD-set-other (set r1 (n * 4 + 2) (y % 256)) (n * 4 + 2 + 1) (n * 4 + 2) (y / 256) 0 (λ z. omega arith) ∙ getD-set-same r1 (n * 4 + 2) (y % 256) 0 (omega (arith, l₁))
+
+    g₃ : getD r2 (n * 4 + 2 + 1) 0 ≡ y / 256
+    g₃ = ap (λ (r : List ℕ). getD r (n * 4 + 2 + 1) 0) e2 ∙ getD-set-same (set r1 (n * 4 + 2) (y % 256)) (n * 4 + 2 + 1) (y / 256) 0 (omega (arith, l₁, length-set r1 (n * 4 + 2) (y % 256)))
+
+    here : rowAt 4 n r2 ≡ pairRow x y
+    here =
+        let z₀ : n * 4 + 0 ≡ n * 4 = omega arith in
+        let z₃ : n * 4 + 3 ≡ n * 4 + 2 + 1 = omega arith in
+        four-ext (rowAt 4 n r2) (pairRow x y) (row-length 4 n r2 (omega (arith, l₂))) refl
+        (four-at r2 n 0 (omega arith) ∙ ap (λ (i : ℕ). getD r2 i 0) z₀ ∙ g₀)
+        (four-at r2 n 1 (omega arith) ∙ g₁)
+        (four-at r2 n 2 (omega arith) ∙ g₂)
+        (four-at r2 n 3 (omega arith) ∙ ap (λ (i : ℕ). getD r2 i 0) z₃ ∙ g₃)
 
 module _ (s : Shape) (a b from : List ℕ) (F : Fits s a b) (S : Source s from) (h : s .op < 3) where
   o : Pairing
@@ -108,13 +193,10 @@ module _ (s : Shape) (a b from : List ℕ) (F : Fits s a b) (S : Source s from) 
   pub right-small : (c : ℕ) → c < s .k → cell (s .bb) (s .k) c b (numberAt from 2) < 65536
   right-small c l = omega (arith, F .right .inside (numberAt from 2) c pair-right l, F .rightSmall)
 
-  pub pair-next : (c : ℕ) → c < s .k → (row r1 r2 : List ℕ) (x y : ℕ) → length row ≡ s .w
-      → x ≡ cell (s .ba) (s .k) c a (numberAt from 0) → y ≡ cell (s .bb) (s .k) c b (numberAt from 2)
-      → r1 ≡ set (set row 0 (x % 256)) 1 (x / 256) → r2 ≡ set (set r1 2 (y % 256)) 3 (y / 256) → r2 ≡ rowsFor s a b .step from c
+  pub pair-next : (c : ℕ) → c < s .k → (x y : ℕ) → x ≡ cell (s .ba) (s .k) c a (numberAt from 0) → y ≡ cell (s .bb) (s .k) c b (numberAt from 2) → pairRow x y ≡ rowsFor s a b .step from c
   unfolding pairRows
-  pair-next c l row r1 r2 x y w ex ey e1 e2 =
-      e2 ∙ rw e1 (four row (x % 256) (x / 256) (y % 256) (y / 256) (w ∙ pair-width))
-      ∙ ap₂ pairRow (ex ∙ sym (table-step (s .ba) (s .na) (s .k) a (F .left) (numberAt from 0) c pair-left l))
+  pair-next c l x y ex ey =
+      ap₂ pairRow (ex ∙ sym (table-step (s .ba) (s .na) (s .k) a (F .left) (numberAt from 0) c pair-left l))
       (ey ∙ sym (table-step (s .bb) (s .nb) (s .k) b (F .right) (numberAt from 2) c pair-right l))
       ∙ rw is
 

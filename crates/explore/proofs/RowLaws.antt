@@ -1,8 +1,5 @@
 -- Rows end to end in a list: where they lie, comparing one, and putting one behind the others. Assumes nothing.
-use mathlib.Core.Path.{_≡_, sym, ap, ap₂, _∙_, subst}
-use mathlib.Core.Bool.{true}
-use lib.Dec.{T, eqb, eqb→eq}
-use borrow.Author.Tests.{eq-eqb}
+use mathlib.Core.Path.{_≡_, sym, ap, ap₂, _∙_}
 use mathlib.Core.List.{List, _++_, append-nil, append-assoc}
 use Prim.Native.Nat.{ℕ, zero, suc, _+_, _*_, _-_, _<_, _≤_}
 use native.Mathlib.Nat.{mul-le-mul-right, suc-mul, add-sub-cancel-left, zero-add, suc-add, le-refl}
@@ -10,7 +7,7 @@ use native.Mathlib.Omega.{arith}
 use mathlib.Core.List.{[], _∷_}
 use lib.ListN.{length, getD, take, drop, length-take, length-append, length-drop, drop-of-length-le}
 use lib.Seq.{ext-getD, take-length, take-at, drop-at, take-nil, take-take, take-all, drop-append-le, take-append-le, length-take-le}
-use Rattle.explore.specs.Rows.{rowAt, numberAt}
+use Rattle.explore.specs.Rows.{rowAt}
 use Rattle.explore.specs.Answer.{Appended}
 
 -- a row below the count lies within the rows
@@ -83,7 +80,7 @@ module _ (w n : ℕ) (s row ys : List ℕ) (e : length row ≡ w) (h : n * w + w
 
 -- ---- pairs of states, four bytes
 
-four-ext : (a b : List ℕ) → length a ≡ 4 → length b ≡ 4 → getD a 0 0 ≡ getD b 0 0 → getD a 1 0 ≡ getD b 1 0 → getD a 2 0 ≡ getD b 2 0 → getD a 3 0 ≡ getD b 3 0 → a ≡ b
+pub four-ext : (a b : List ℕ) → length a ≡ 4 → length b ≡ 4 → getD a 0 0 ≡ getD b 0 0 → getD a 1 0 ≡ getD b 1 0 → getD a 2 0 ≡ getD b 2 0 → getD a 3 0 ≡ getD b 3 0 → a ≡ b
 four-ext a b la lb e₀ e₁ e₂ e₃ = ext-getD 0 a b (la ∙ sym lb) (λ i h. at i (omega arith))
   where
     at : (i : ℕ) → i < 4 → getD a i 0 ≡ getD b i 0
@@ -92,12 +89,3 @@ four-ext a b la lb e₀ e₁ e₂ e₃ = ext-getD 0 a b (la ∙ sym lb) (λ i h.
     at (suc (suc zero)) h = e₂
     at (suc (suc (suc zero))) h = e₃
     at (suc (suc (suc (suc i)))) h = absurd (omega arith)
-
--- the bytes are told by the numbers
-pub pair-says : (a b : List ℕ) (p q x y : ℕ) → length a ≡ 4 → length b ≡ 4 → ((i : ℕ) → getD a i 0 < 256) → ((i : ℕ) → getD b i 0 < 256)
-    → p ≡ numberAt a 0 → q ≡ numberAt b 0 → p ≡ q → x ≡ numberAt a 2 → y ≡ numberAt b 2 → (eqb x y ≡ true → a ≡ b) × (a ≡ b → eqb x y ≡ true)
-pair-says a b p q x y la lb ka kb ep eq e ex ey = (
-  λ t. let z = eqb→eq x y (subst T (sym t) tt) in
-      four-ext a b la lb (omega (arith, ka 0, ka 1, kb 0, kb 1)) (omega (arith, ka 0, ka 1, kb 0, kb 1)) (omega (arith, z, ka 2, ka 3, kb 2, kb 3)) (omega (arith, z, ka 2, ka 3, kb 2, kb 3)),
-  λ t. eq-eqb x y (ex ∙ ap (λ (l : List ℕ). numberAt l 2) t ∙ sym ey),
-)

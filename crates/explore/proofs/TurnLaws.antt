@@ -1,5 +1,5 @@
 -- One turn of the loop: what its calls ask, and what it leaves; and the flags of the rows. Assumes nothing.
-use mathlib.Core.Path.{_≡_, refl, ap, _∙_}
+use mathlib.Core.Path.{_≡_, refl, sym, ap, _∙_}
 use mathlib.Core.Logic.{inl, inr}
 use mathlib.Core.List.{List}
 use Prim.Native.Nat.{ℕ, _+_, _*_, _-_, _%_, _≤_, _<_}
@@ -10,15 +10,17 @@ use lib.Seq.{getD-set-same, getD-set-other}
 use Rattle.automata.specs.Basics.{LtCases, lt-cases}
 use Rattle.automata.specs.Automaton.{Automaton}
 use Rattle.automata.specs.Stage.{MoreThan}
-use Rattle.explore.specs.Rows.{rowAt, bit, operationOf, erase}
+use Rattle.explore.specs.Rows.{rowAt, bit, numberAt, pairRow, operationOf, erase}
+use Rattle.explore.specs.Steps.{cell}
 use Rattle.explore.specs.Sums.{rowHash}
-use Rattle.explore.specs.Answer.{rowsFor, RowFits, Source, Step, Twins, Looked, Appended, Earlier, Turning, Turned, Flagging, Flagged}
+use Rattle.explore.specs.Answer.{rowsFor, RowFits, Source, Step, Twins, Chained, Looked, Appended, Earlier, Turning, Turned, Flagging, Flagged}
 use Rattle.explore.specs.declared.Shape.{Shape}
 use Rattle.explore.specs.declared.Explored.the-variants.{Sets}
 use Rattle.explore.specs.declared.rows.Found.{Found}
 use Rattle.explore.specs.declared.rows.Found.the-variants.{At, Nothing}
 use Rattle.explore.proofs.RowLaws.{row-within, cell-within, row-part, row-length}
 use Rattle.explore.proofs.FitLaws.{reach-fits}
+use Rattle.explore.proofs.PairLaws.{number-left, number-right, pair-room, left-cell, right-cell, left-small, right-small, pair-next}
 use Rattle.explore.proofs.HashLaws.{chained-more}
 use Rattle.explore.proofs.TwinLaws.{twin-step, mark-step}
 use Rattle.explore.proofs.LoopLaws.{partial-store, partial-found, partial-new, partial-full}
@@ -108,6 +110,62 @@ module _ (s : Shape) (a b rows row table heads : List ℕ) (count state column q
   turn-mark (o, c, h) j e =
       let x : s .limit + column ≡ s .limit + (0 * s .k + column) = omega (arith, zero-mul (s .k)) in
       turn-copy 0 column (T .place .column) (inl h) (mark-step s a b (rowAt (s .w) 0 rows) (rowAt (s .w) state rows) column o c) j (e ∙ ap (λ (i : ℕ). getD table i 0) x)
+
+-- ---- a row of a pair
+
+module _ (s : Shape) (a b rows row table heads : List ℕ) (count state column q : ℕ) (T : Turning s a b rows row table heads count state column q) (h : s .op < 3) where
+  pub two-width : s .w ≡ 4
+  two-width = pair-room s a b (T .fits) h
+
+  from : List ℕ
+  from = rowAt (s .w) state rows
+
+  source : Source s from
+  unfolding from
+  source = record {
+    long = row-length (s .w) state rows (turn-row s a b rows row table heads count state column q T);
+    fits = reach-fits s a b (T .fits) (rowAt (s .w) state rows) (T .partial .reached state (T .place .state));
+  }
+
+  pub two-room : state * 4 + 4 ≤ length rows
+  two-room = rw two-width at (turn-row s a b rows row table heads count state column q T)
+
+  left : (p : ℕ) → p ≡ numberAt rows (state * 4) → p ≡ numberAt from 0
+  unfolding from
+  left p e = e ∙ sym (number-left rows state) ∙ ap (λ (w : ℕ). numberAt (rowAt w state rows) 0) (sym two-width)
+
+  right : (r : ℕ) → r ≡ numberAt rows (state * 4 + 2) → r ≡ numberAt from 2
+  unfolding from
+  right r e = e ∙ sym (number-right rows state) ∙ ap (λ (w : ℕ). numberAt (rowAt w state rows) 2) (sym two-width)
+
+  pub two-left : (p : ℕ) → p ≡ numberAt rows (state * 4) → s .ba + (p * s .k + column) < length a
+  two-left p e = rw (left p e) (left-cell s a b from (T .fits) source h column (T .place .column))
+
+  pub two-right : (r : ℕ) → r ≡ numberAt rows (state * 4 + 2) → s .bb + (r * s .k + column) < length b
+  two-right r e = rw (right r e) (right-cell s a b from (T .fits) source h column (T .place .column))
+
+  module _ (p r x y : ℕ) (ep : p ≡ numberAt rows (state * 4)) (er : r ≡ numberAt rows (state * 4 + 2)) (ex : x ≡ cell (s .ba) (s .k) column a p) (ey : y ≡ cell (s .bb) (s .k) column b r) where
+    ex′ : x ≡ cell (s .ba) (s .k) column a (numberAt from 0)
+    ex′ = ex ∙ ap (cell (s .ba) (s .k) column a) (left p ep)
+
+    ey′ : y ≡ cell (s .bb) (s .k) column b (numberAt from 2)
+    ey′ = ey ∙ ap (cell (s .bb) (s .k) column b) (right r er)
+
+    pub two-small : (x < 65536) × (y < 65536)
+    two-small = (rw ex′ (left-small s a b from (T .fits) source h column (T .place .column)), rw ey′ (right-small s a b from (T .fits) source h column (T .place .column)))
+
+    pub two-next : pairRow x y ≡ rowsFor s a b .step (take (state * s .w + s .w - state * s .w) (drop (state * s .w) rows)) column
+    unfolding from
+    two-next = pair-next s a b from (T .fits) source h column (T .place .column) x y ex′ ey′ ∙ ap (λ (r : List ℕ). rowsFor s a b .step r column) (sym (row-part (s .w) state rows))
+
+  pub two-chained : Chained 4 count rows table heads
+  two-chained = rw two-width at (T .partial .chained)
+
+  pub two-looked : (row′ : List ℕ) (r : Found) → Looked 4 count rows row′ r → Looked (s .w) count rows row′ r
+  two-looked row′ r l = rw two-width l
+
+  pub two-appended : (row′ rows′ : List ℕ) → Appended 4 count rows row′ rows′ → Appended (s .w) count rows row′ rows′
+  two-appended row′ rows′ A = rw two-width A
 
 -- ---- the flags
 

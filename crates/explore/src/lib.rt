@@ -99,7 +99,7 @@ fn list(
     gather(s, &rows[at..at + w], members)
 }
 
-// The row that `from` leads to by the column c, where its states are listed; its sum.
+// The row that `from` leads to by the column c, where its states are listed; its sum. Rows of pairs are made by their numbers.
 fn next_row(
     a: &[u16],
     b: &[u16],
@@ -111,13 +111,11 @@ fn next_row(
     row: &mut [u8],
 ) -> usize
     requires { ⌜ Step s (now a) (now b) c (now from) (now row) ⌝ }
+    requires { ⌜ 3 ≤ s .op ⌝ }
     requires { ⌜ Listed (operationOf (s .op)) (s .na) (s .nb) (now from) held (now members) ⌝ }
     ensures { λ r. ⌜ (now (row .exit) ≡ rowsFor s (now (a .entry)) (now (b .entry)) .step (now (from .entry)) c) × (r ≡ rowSum 0 (now (row .exit))) ⌝ }
 {
     let op = s.op;
-    if op < 3 {
-        return pairs::next(a, b, s, c, from, row);
-    }
     if op == 3 {
         return concatenation::next(a, b, s, c, from, members, held, row);
     }
@@ -172,7 +170,7 @@ fn flag_rows(a: &[u16], b: &[u16], s: Shape, rows: &[u8], table: &mut [u16], cou
     }
 }
 
-// Lays out one transition, the q-th: that of the row `state` by the column `column`.
+// Lays out one transition, the q-th: that of the row `state` of flags by the column `column`.
 fn turn(
     a: &[u16],
     b: &[u16],
@@ -189,6 +187,7 @@ fn turn(
     q: usize,
 ) -> Explored
     requires { ⌜ Turning s (now a) (now b) (now rows) (now row) (now table) (now heads) count state column q ⌝ }
+    requires { ⌜ 3 ≤ s .op ⌝ }
     requires { ⌜ Listed (operationOf (s .op)) (s .na) (s .nb) (rowAt (s .w) state (now rows)) held (now members) ⌝ }
     ensures { λ r. ⌜ Turned (rowsFor s (now (a .entry)) (now (b .entry))) (s .k) (s .w) (s .limit) count state column (now (rows .exit)) (now (table .exit)) (now (heads .exit)) r × (rowAt (s .w) state (now (rows .exit)) ≡ rowAt (s .w) state (now (rows .entry))) ⌝ }
 {
@@ -207,6 +206,52 @@ fn turn(
                 rows::append(rows, w, count, &row[..]);
                 rows::chain(table, heads, count, h);
                 table[limit + q] = (count % 65536) as u16;
+                Explored::Sets(count + 1)
+            } else {
+                Explored::TooMany
+            }
+        }
+    }
+}
+
+// The same for a row of a pair, whose states are read, looked up and put by their numbers.
+fn turn_pair(
+    a: &[u16],
+    b: &[u16],
+    s: Shape,
+    rows: &mut [u8],
+    row: &[u8],
+    table: &mut [u16],
+    heads: &mut [u16; 512],
+    count: usize,
+    state: usize,
+    column: usize,
+    q: usize,
+) -> Explored
+    requires { ⌜ Turning s (now a) (now b) (now rows) (now row) (now table) (now heads) count state column q ⌝ }
+    requires { ⌜ s .op < 3 ⌝ }
+    ensures { λ r. ⌜ Turned (rowsFor s (now (a .entry)) (now (b .entry))) (s .k) (s .w) (s .limit) count state column (now (rows .exit)) (now (table .exit)) (now (heads .exit)) r × (rowAt (s .w) state (now (rows .exit)) ≡ rowAt (s .w) state (now (rows .entry))) ⌝ }
+{
+    let k = s.k;
+    let ba = s.ba;
+    let bb = s.bb;
+    let most = s.limit;
+    let at = state * 4;
+    let p = number::read(&rows[..], at);
+    let r = number::read(&rows[..], at + 2);
+    let x = table::step(a, ba, k, p, column);
+    let y = table::step(b, bb, k, r, column);
+    let h = rows::hash(pairs::sum_of(x, y));
+    match pairs::find(&rows[..], &table[..], heads, count, x, y, h) {
+        rows::Found::At(j) => {
+            table[most + q] = (j % 65536) as u16;
+            Explored::Sets(count)
+        }
+        rows::Found::Nothing => {
+            if count < most {
+                pairs::append(rows, count, x, y);
+                rows::chain(table, heads, count, h);
+                table[most + q] = (count % 65536) as u16;
                 Explored::Sets(count + 1)
             } else {
                 Explored::TooMany
@@ -264,6 +309,21 @@ fn advance(
         let j = table[limit + column];
         table[limit + q] = j;
         return Explored::Sets(count);
+    }
+    if s.op < 3 {
+        return turn_pair(
+            a,
+            b,
+            s,
+            rows,
+            &row[..],
+            table,
+            heads,
+            count,
+            state,
+            column,
+            q,
+        );
     }
     turn(
         a,

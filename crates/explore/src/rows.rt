@@ -1,6 +1,5 @@
 // Rows of one width, end to end in a buffer: finding one by its hash, and putting one behind the others. Rows with the same hash are chained: `heads` has
 // for each hash the last such row, and `links` for each row the one before it, each plus 1, or 0 where there is none.
-use crate::number;
 ghost use mathlib.Core.Bool.{true};
 ghost use mathlib.Core.Path.{_≡_};
 ghost use Prim.Native.Nat.{_+_, _*_, _/_, _%_, _<_, _≤_};
@@ -36,25 +35,11 @@ fn same_long(a: &[u8], b: &[u8]) -> bool
     other == 0
 }
 
-// Whether two pairs of states are equal.
-fn same_pair(a: &[u8], b: &[u8]) -> bool
-    requires { ⌜ (length (now a) ≡ 4) × (length (now b) ≡ 4) ⌝ }
-    ensures { λ r. ⌜ (r ≡ true → now (a .entry) ≡ now (b .entry)) × (now (a .entry) ≡ now (b .entry) → r ≡ true) ⌝ }
-{
-    if number::read(a, 0) != number::read(b, 0) {
-        return false;
-    }
-    number::read(a, 2) == number::read(b, 2)
-}
-
 // Whether two rows are equal.
 fn same(a: &[u8], b: &[u8]) -> bool
     requires { ⌜ length (now a) ≡ length (now b) ⌝ }
     ensures { λ r. ⌜ (r ≡ true → now (a .entry) ≡ now (b .entry)) × (now (a .entry) ≡ now (b .entry) → r ≡ true) ⌝ }
 {
-    if a.len() == 4 {
-        return same_pair(a, b);
-    }
     if a.len() < 16 {
         return check::same(a, b);
     }

@@ -48,6 +48,9 @@ slice-write-table-2 c = let a = c .before .before .before .before .before .befor
 returns-2 : tie.Need-returns-2
 returns-2 c = let a = c .before .before .before .before .before .before .before .before .before .before .args in (turn-mark (a .s) (a .a .now) (a .b .now) (a .rows .now) (a .row .now) (a .table .now) (a .heads .now) (a .count) (a .state) (a .column) (a .q) (c .before .before .before .before .before .before .before .before .before .before .pre .0) (c .before .before .erases .ensures (c .before .if2 .taken)) _ refl, refl)
 
+turn-requires : tie.Need-turn-requires
+turn-requires c κs = (c .before .before .before .before .before .before .before .before .before .before .before .before .before .before .before .pre .0, (c .before .before .before .before .if3 .left, c .before .before .before .before .before .before .before .before .before .before .before .before .before .before .before .pre .1 .0))
+
 pub advance-spec : {M : Type 1} → statement M
 advance-spec =
     tie.close
@@ -72,6 +75,11 @@ advance-spec =
     (λ c. search needs)
     returns-2
     (λ c κs. search needs)
+    (λ c. search needs)
+    (λ c. search needs)
+    (λ c. search needs)
+    (λ c. search needs)
+    turn-requires
     (λ c. search needs)
     (λ c. search needs)
     (λ c. search needs)

@@ -18,7 +18,7 @@ part-next-row-end : tie.Need-part-next-row-end
 part-next-row-end c = let a = c .before .before .before .before .before .before .before .args in omega (arith, turn-row (a .s) (a .a .now) (a .b .now) (a .rows .now) (a .row .now) (a .table .now) (a .heads .now) (a .count) (a .state) (a .column) (a .q) (c .before .before .before .before .before .before .before .pre .0))
 
 next-row-requires : tie.Need-next-row-requires
-next-row-requires c κs = let a = c .before .before .before .before .before .before .before .before .before .args in (turn-step (a .s) (a .a .now) (a .b .now) (a .rows .now) (a .row .now) (a .table .now) (a .heads .now) (a .count) (a .state) (a .column) (a .q) (c .before .before .before .before .before .before .before .before .before .pre .0), rw (row-part (a .s .w) (a .state) (a .rows .now)) (c .before .before .before .before .before .before .before .before .before .pre .1))
+next-row-requires c κs = let a = c .before .before .before .before .before .before .before .before .before .args in (turn-step (a .s) (a .a .now) (a .b .now) (a .rows .now) (a .row .now) (a .table .now) (a .heads .now) (a .count) (a .state) (a .column) (a .q) (c .before .before .before .before .before .before .before .before .before .pre .0), (c .before .before .before .before .before .before .before .before .before .pre .1 .0, rw (row-part (a .s .w) (a .state) (a .rows .now)) (c .before .before .before .before .before .before .before .before .before .pre .1 .1)))
 
 find-requires : tie.Need-find-requires
 find-requires c κs =
