@@ -63,6 +63,17 @@ module _ {member : ℕ → Bool} {q count : ℕ} {members : List ℕ} (L : Lists
       all p h y (inl b) = let (i, v, z) = L .all p (b .0) y in (i, omega arith, old i v ∙ z)
       all p h y (inr b) = let z : q ≡ p = omega arith in (count, omega arith, getD-set-same members count q 0 l ∙ z)
 
+-- what is written behind the list changes nothing of it
+pub lists-keep : {member : ℕ → Bool} {n count : ℕ} {members : List ℕ} (v : ℕ) → Lists member n count members → Lists member n count (set members count v)
+lists-keep {member} {n} {count} {members} v L = record {
+  counted = record { within = rw (length-set members count v) (L .counted .within); state = λ i h. rw (old i h) (L .counted .state i h) };
+  is = λ i h. ap member (old i h) ∙ L .is i h;
+  all = λ q h y. let (i, b, z) = L .all q h y in (i, b, old i b ∙ z);
+}
+  where
+    old : (i : ℕ) → i < count → getD (set members count v) i 0 ≡ getD members i 0
+    old i h = getD-set-other members count i v 0 (λ z. omega arith)
+
 -- the same members by another test
 pub lists-same : {f g : ℕ → Bool} {n count : ℕ} {members : List ℕ} → ((q : ℕ) → f q ≡ g q) → Lists f n count members → Lists g n count members
 lists-same e L = record { counted = L .counted; is = λ i h. sym (e _) ∙ L .is i h; all = λ q h y. L .all q h (e q ∙ y) }

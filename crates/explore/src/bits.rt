@@ -24,8 +24,8 @@ pub fn clear(row: &mut [u8])
     }
 }
 
-// The members among the first n states of a row, listed; how many there are. They are listed once for all columns.
-pub fn gather(from: &[u8], n: usize, members: &mut [u16]) -> usize
+// The members among the first n states of a short row, listed; how many there are.
+fn gather_short(from: &[u8], n: usize, members: &mut [u16]) -> usize
     requires { ⌜ (n ≤ length (now from)) × (n ≤ length (now members)) × (n ≤ 65536) ⌝ }
     ensures { λ r. ⌜ Lists (flagAt (now (from .entry))) n r (now (members .exit)) ⌝ }
 {
@@ -39,6 +39,34 @@ pub fn gather(from: &[u8], n: usize, members: &mut [u16]) -> usize
         q += 1;
     }
     count
+}
+
+// The same for a long row: each state is written, and counts only where it is a member, so that nothing waits for a guess which flags are set.
+fn gather_long(from: &[u8], n: usize, members: &mut [u16]) -> usize
+    requires { ⌜ (n ≤ length (now from)) × (n ≤ length (now members)) × (n ≤ 65536) ⌝ }
+    ensures { λ r. ⌜ Lists (flagAt (now (from .entry))) n r (now (members .exit)) ⌝ }
+{
+    let mut count = 0;
+    let mut q = 0;
+    while q < n {
+        members[count] = q as u16;
+        if from[q] != 0 {
+            count += 1;
+        }
+        q += 1;
+    }
+    count
+}
+
+// The members among the first n states of a row, listed; how many there are. They are listed once for all columns.
+pub fn gather(from: &[u8], n: usize, members: &mut [u16]) -> usize
+    requires { ⌜ (n ≤ length (now from)) × (n ≤ length (now members)) × (n ≤ 65536) ⌝ }
+    ensures { λ r. ⌜ Lists (flagAt (now (from .entry))) n r (now (members .exit)) ⌝ }
+{
+    if n < 24 {
+        return gather_short(from, n, members);
+    }
+    gather_long(from, n, members)
 }
 
 // Sets the flags of the states that the first `count` members lead to by the column c, of a table of n states.

@@ -167,6 +167,28 @@ module _ {base n k p : ℕ} {t w : List ℕ} (U : Under base n k p t w) where
       rw (i, class-read c e)
       (search-start k n (tableMachine base n k t) (classOf (take n w)) (next n w) (link n w) p (U .partial .led) (U .inside) (U .partial .linked) (λ z. d (sym e ∙ class-read c e ∙ z)))
 
+  -- a class goes by a state of its own
+  pub class-same : (c : ℕ) → c ≡ getD w p 0 → classOf (take n w) c ≡ classOf (take n w) p
+  class-same c e = rw (class-read c e) (U .partial .led .again p (U .inside))
+
+  -- the class's own leader
+  pub leader-first : (c : ℕ) (b : Bool) → (getD w p 0 ≡ p → ⊥) → c ≡ getD w p 0
+      → Says b (SameSignature k (tableMachine base n k t) (classOf (take n w)) c p) → b ≡ true → Leads k (tableMachine base n k t) (classOf (take n w)) (next n w) p c
+  leader-first c b d e s y =
+      let low = class-low c e in
+      let o : c ≡ p → ⊥ = λ z. d (sym e ∙ z) in
+      let h : c < p = omega arith in
+      let class = class-same c e in
+      let self : classOf (take n w) (next n w c) ≡ c = U .partial .placed .sound c h .class ∙ class ∙ sym (class-read c e) in
+      let under = U .partial .placed .low c h in
+      let over : c ≤ next n w c = omega (arith, self, U .partial .led .low (next n w c) (omega (arith, U .inside))) in
+      record {
+        low = low;
+        sound = record { class = class; signature = s .yes y };
+        leads = λ _. omega arith;
+        none = λ z. absurd (o z);
+      }
+
   pub leader-found : (r : ℕ) (b : Bool) → Searching k (tableMachine base n k t) (classOf (take n w)) (next n w) p r
       → Says b (SameSignature k (tableMachine base n k t) (classOf (take n w)) r p) → b ≡ true → Leads k (tableMachine base n k t) (classOf (take n w)) (next n w) p r
   leader-found r b z s e =

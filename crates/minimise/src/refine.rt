@@ -59,20 +59,24 @@ fn alike(table: &[u16], base: usize, n: usize, k: usize, work: &[u16], p: usize,
     true
 }
 
-// The leader that p goes with, of those that its class has so far: the latest of them first. It is p where there is none.
+// The leader that p goes with, of those that its class has so far: the class's own, by which it goes in most rounds, then the others, the latest first.
+// It is p where there is none.
 fn leader(table: &[u16], base: usize, n: usize, k: usize, work: &[u16], p: usize) -> usize
     requires { ⌜ Under base n k p (now table) (now work) ⌝ }
     requires { ⌜ (getD (now work) p 0 ≡ p → ⊥) ⌝ }
     ensures { λ r. ⌜ Leads k (tableMachine base n k (now (table .entry))) (classOf (take n (now (work .entry)))) (next n (now (work .entry))) p r ⌝ }
 {
     let c = at(work, p);
+    if alike(table, base, n, k, work, c, p) {
+        return c;
+    }
     let mut r = at(work, n + (n + c));
     loop {
-        if alike(table, base, n, k, work, r, p) {
-            return r;
-        }
         if r == c {
             return p;
+        }
+        if alike(table, base, n, k, work, r, p) {
+            return r;
         }
         r = at(work, n + (n + r));
     }

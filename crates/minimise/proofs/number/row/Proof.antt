@@ -6,7 +6,7 @@ use Prim.Native.Nat.{_-_, _≤_}
 use native.Mathlib.Omega.{arith}
 use lib.ListN.{length, take, length-set}
 use Rattle.minimise.specs.Number.{classesOf, Upto}
-use Rattle.minimise.proofs.RowLaws.{Last, Numbered, numbered-new, numbered-again, last-none, row-starts, row-state, row-cell, row-below, row-full, column-few, column-turns, column-last}
+use Rattle.minimise.proofs.RowLaws.{Last, numbered-new, numbered-again, last-none, row-starts, row-state, row-cell, row-below, row-full, column-few, column-turns, column-last}
 use Rattle.minimise.proofs.number.row.Statement.{statement}
 use Rattle.minimise.proofs.number.row.Tie as tie
 

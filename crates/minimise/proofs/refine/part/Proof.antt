@@ -1,9 +1,9 @@
 -- `part` meets its contract: the states before i have their classes. Assumes nothing.
 use borrow.Author.Needs.{needs}
-use mathlib.Core.Path.{_≡_, refl, ap, _∙_}
+use mathlib.Core.Path.{_≡_, _∙_}
 use Prim.Native.Nat.{ℕ, _-_, _≤_, _<_}
 use native.Mathlib.Omega.{arith}
-use lib.ListN.{length, getD, length-set}
+use lib.ListN.{length, getD}
 use Rattle.minimise.specs.Refine.{sideOf}
 use Rattle.minimise.proofs.RefineLaws.{filled-more, side-low}
 use Rattle.minimise.proofs.refine.part.Statement.{statement}

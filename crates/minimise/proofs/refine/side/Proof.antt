@@ -1,5 +1,5 @@
 -- `side` meets its contract. Assumes nothing.
-use mathlib.Core.Path.{_≡_, sym, _∙_}
+use mathlib.Core.Path.{sym, _∙_}
 use Rattle.minimise.proofs.RefineLaws.{side-same, side-other}
 use borrow.Author.Needs.{needs}
 use Rattle.minimise.proofs.refine.side.Statement.{statement}

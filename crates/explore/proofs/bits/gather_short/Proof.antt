@@ -1,4 +1,4 @@
--- `gather` meets its contract: the members before q are listed. Assumes nothing.
+-- `gather_short` meets its contract: the members before q are listed. Assumes nothing.
 use mathlib.Core.Logic.{⊎-elim}
 use mathlib.Core.Path.{_≡_, refl, ap, _∙_}
 use Prim.Native.Nat.{_-_, _≤_}
@@ -9,8 +9,8 @@ use Rattle.explore.specs.Members.{Lists}
 use Rattle.explore.specs.Rows.{flagAt}
 use Rattle.explore.proofs.FlagLaws.{flag-set, flag-clear}
 use Rattle.explore.proofs.MemberLaws.{lists-none, lists-out, lists-in}
-use Rattle.explore.proofs.bits.gather.Statement.{statement}
-use Rattle.explore.proofs.bits.gather.Tie as tie
+use Rattle.explore.proofs.bits.gather_short.Statement.{statement}
+use Rattle.explore.proofs.bits.gather_short.Tie as tie
 
 abbrev Inv-loop : tie.InvT-loop
 Inv-loop from n members₀ count₀ q₀ members count q = (q ≤ n) × (count ≤ q) × Lists (flagAt from) q count members × (length members ≡ length members₀)
@@ -31,8 +31,8 @@ loop-again c =
 returns : tie.Need-returns Inv-loop μ-loop
 returns c = let e : c .before .loop .q ≡ c .before .before .args .n = omega arith in rw e at (c .before .loop .inv .2)
 
-pub gather-spec : {M : Type 1} → statement M
-gather-spec =
+pub gather-short-spec : {M : Type 1} → statement M
+gather-short-spec =
     tie.close
     (tie.spec
     Inv-loop
