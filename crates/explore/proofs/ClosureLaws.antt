@@ -239,10 +239,6 @@ gain-one {next} {n} {p} {row} {row′} e C =
     gain-more {f = λ t. false} {g = λ t. eqb t p} (gain-none next n row e) C (λ x z. inr (nat-test .sound x p z)) (λ x z. absurd (false≢true z)) (eq-eqb p p refl)
 
 module _ {next : ℕ → ℕ} {n : ℕ} {row : List ℕ} (member : ℕ → Bool) (to : ℕ → ℕ) (q : ℕ) (G : Gains next n (leadsTo member to q) row) where
-  -- q is no member
-  pub gain-out : member q ≡ false → Gains next n (leadsTo member to (q + 1)) row
-  gain-out e = gain-same G (λ x. sym (any-next (λ p. member p && eqb (to p) x) q ∙ rw e))
-
   -- q is one, and what it leads to is chased
   pub gain-in : {row′ : List ℕ} (p : ℕ) → p ≡ to q → member q ≡ true → Chased next n p row row′ → Gains next n (leadsTo member to (q + 1)) row′
   gain-in p z e C = gain-more {f = leadsTo member to q} {g = leadsTo member to (q + 1)} G (rw z at C) (λ x f. only x f (same-cases nat-test x (to q))) also here

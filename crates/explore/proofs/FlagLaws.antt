@@ -68,10 +68,6 @@ any-ext f g (suc n) h = rw (h n (omega arith), any-ext f g n (λ i b. h i (omega
 -- ---- what the members lead to
 
 module _ (member : ℕ → Bool) (next : ℕ → ℕ) (m q : ℕ) {row : List ℕ} (F : Flags m (leadsTo member next q) row) where
-  -- q is no member
-  pub lead-out : member q ≡ false → Flags m (leadsTo member next (q + 1)) row
-  lead-out e = flags-same F λ t h. sym (any-next (λ p. member p && eqb (next p) t) q ∙ rw e)
-
   -- q is one, and its flag is set
   pub lead-in : member q ≡ true → next q < m → Flags m (leadsTo member next (q + 1)) (set row (next q) 1)
   lead-in e b = flags-set (next q) F b (any-next (λ p. member p && eqb (next p) (next q)) q ∙ rw (e, eq-eqb (next q) (next q) refl))

@@ -191,9 +191,6 @@ module _ {base n k most : ℕ} {t w s : List ℕ} (C : Classified base n k most 
       upto : Upto (quotient M cls) n k most i m v u k m′ v′ u′
       upto = rw (e, A .kept) at R
 
-      pub order-within : m′ ≤ most
-      order-within = upto .roll .within
-
       pub order-turns : Arranged base n k most (i + 1) m′ t v′ u′
       order-turns = rw add-one record {
         kept = upto .kept ∙ A .kept;

@@ -118,9 +118,6 @@ module _ (k n : ℕ) (M : Machine) (F : WellFormed k M) (sz : size M ≡ n) (f g
   pub rounds-grow : leaders f n ≤ leaders g n
   rounds-grow = leaders-mono f g n still
 
-  pub round-led : Led n g
-  round-led = record { low = P .low; again = P .again }
-
   pub round-coarse : Coarse k M f → Coarse k M g
   round-coarse c p q hp hq a = P .whole p q (rw sz at hp) (rw sz at hq) (record {
     class = c p q hp hq a;

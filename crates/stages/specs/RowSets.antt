@@ -63,9 +63,6 @@ flag-at f n t h = ap flagOf (getD-tab (λ t. bit (f t)) n t 0 h) ∙ flag-bit (f
 abbrev setRow : ℕ → ℕ → List Bool → List ℕ
 setRow b n X = flagRow (λ t. getD X (b + t) false) n
 
-flag-row-one : (f g : ℕ → Bool) (n : ℕ) → flagRow f n ≡ flagRow g n → (t : ℕ) → t < n → f t ≡ g t
-flag-row-one f g n e t h = sym (flag-at f n t h) ∙ ap (λ r. flagAt r t) e ∙ flag-at g n t h
-
 flag-row-same : (f g : ℕ → Bool) (n : ℕ) → ((t : ℕ) → t < n → f t ≡ g t) → flagRow f n ≡ flagRow g n
 flag-row-same f g n h = tab-ext (λ t. bit (f t)) (λ t. bit (g t)) n (λ t b. ap bit (h t b))
 
