@@ -1,5 +1,5 @@
 -- The numbers of 01 that bound a book and a card, in one place: the definitions, laws and contracts of stages, cards, loading and compiling take
--- them as a record, so that another kind of card needs new numbers and no new proofs.
+-- them as a record, so that what is shown of them is shown for every such record.
 use Prim.Native.Nat.{ℕ}
 
 pub record Format : Type 0 where

@@ -1,5 +1,5 @@
 -- A machine over m letters and the mark, restricted to its letters: "The mark column is dropped, states that no plan reaches are dropped, and
--- numbering is as above over letters." Where no accepted word has the mark, a canonical machine's restriction is canonical. Assumes nothing.
+-- numbering is as above over letters." Where no accepted word has the mark, a canonical machine's restriction is canonical.
 use mathlib.Core.Path.{_≡_, sym, ap, _∙_}
 use mathlib.Core.Bool.{true, false}
 use mathlib.Core.Logic.{_⊎_, inl, inr}

@@ -1,5 +1,5 @@
--- The stages: the sets that each operation makes, and the theorem that each kept machine is canonical and accepts exactly the operation on its
--- operands' languages. For machines of any size and any limits; k columns are the letters and the mark.
+-- The stages: the sets that each operation makes, for machines of any size and any limits; k columns are the letters and the mark. That a kept machine
+-- accepts exactly the operation on its operands' languages is shown in the crate `language` (StageLaws.antt).
 use mathlib.Core.Bool.{Bool, not, _&&_, _||_}
 use Prim.Native.Nat.{ℕ, suc}
 use Rattle.automata.specs.Machine.{Machine}

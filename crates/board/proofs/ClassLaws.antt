@@ -1,4 +1,4 @@
--- Classes named by their least states: links, and splitting by keys. Assumes nothing.
+-- Classes named by their least states: links, and splitting by keys.
 use mathlib.Core.Path.{_≡_, refl, sym, ap, _∙_}
 use mathlib.Core.Bool.{Bool, true, false}
 use mathlib.Core.Logic.{_⊎_, inl, inr, _≢_}

@@ -1,4 +1,4 @@
--- One step, and judging from what loading answers. Assumes nothing.
+-- One step, and judging from what loading answers.
 use mathlib.Core.Path.{_≡_, refl, sym, ap, subst, _∙_}
 use mathlib.Core.Bool.{Bool, true, false}
 use mathlib.Core.Logic.{_⊎_, inl, inr, _≢_}

@@ -1,4 +1,4 @@
--- The keys that classes are split by: acceptance, and where a column leads. Assumes nothing.
+-- The keys that classes are split by: acceptance, and where a column leads.
 use mathlib.Core.Path.{_≡_, refl, sym, ap, _∙_}
 use mathlib.Core.Bool.{Bool, true, false}
 use mathlib.Core.Logic.{_⊎_, inl, inr, _≢_}

@@ -1,4 +1,4 @@
--- Live states by rounds over an array of flags, and that they are those of the machine that the bytes hold. Assumes nothing.
+-- Live states by rounds over an array of flags, and that they are those of the machine that the bytes hold.
 use mathlib.Core.Path.{_≡_, refl, sym, ap, _∙_}
 use mathlib.Core.Bool.{Bool, true, false, not, false≢true, true≢false}
 use mathlib.Core.Logic.{_⊎_, inl, inr, _↔_}

@@ -1,4 +1,4 @@
--- The load test of a card from its parts: its letters, its moves, and the machine that its bytes hold. Assumes nothing.
+-- The load test of a card from its parts: its letters, its moves, and the machine that its bytes hold.
 use mathlib.Core.Path.{_≡_, refl, sym, ap, subst, _∙_}
 use mathlib.Core.Bool.{Bool, true, false, not, true≢false, false≢true}
 use mathlib.Core.Logic.{_⊎_, inl, inr, _↔_, _≢_}

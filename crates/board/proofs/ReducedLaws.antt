@@ -1,4 +1,4 @@
--- Partition refinement column by column, and that it says whether two states of the machine are equivalent. Assumes nothing.
+-- Partition refinement column by column, and that it says whether two states of the machine are equivalent.
 use mathlib.Core.Path.{_≡_, refl, sym, ap, _∙_}
 use mathlib.Core.Bool.{Bool, true, false, false≢true}
 use mathlib.Core.Logic.{_⊎_, inl, inr, _≢_}

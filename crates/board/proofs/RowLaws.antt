@@ -1,4 +1,4 @@
--- The numbering test, row by row, and that it says whether a machine is numbered by first arrival. Assumes nothing.
+-- The numbering test, row by row, and that it says whether a machine is numbered by first arrival.
 use mathlib.Core.Path.{_≡_, refl, sym, ap, _∙_}
 use mathlib.Core.Bool.{Bool, true, false, false≢true}
 use mathlib.Core.Logic.{inl, inr, _↔_}

@@ -1,4 +1,4 @@
--- Splitting classes by keys, state by state. Assumes nothing.
+-- Splitting classes by keys, state by state.
 use mathlib.Core.Path.{_≡_, refl, sym, ap, _∙_, subst}
 use mathlib.Core.Logic.{_⊎_, inl, inr, _≢_}
 use mathlib.Core.List.{List}

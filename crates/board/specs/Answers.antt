@@ -1,4 +1,4 @@
--- The board's answers, each read as the answer of the card's definitions, with the paper's number and values for each case. Assumes nothing.
+-- The board's answers, each read as the answer of the card's definitions, with the paper's number and values for each case.
 use Rattle.card.specs.Answer.{Loading, holds, rejected}
 use Rattle.card.specs.Step.{Stepped, moved, stopped}
 use Rattle.board.specs.declared.Loaded.{Loaded}

@@ -1,5 +1,4 @@
 -- Partition refinement over an array of classes, each named by the least state in it; what splitting by keys, one column and the whole test say.
--- Assumes nothing.
 use mathlib.Core.Path.{_≡_}
 use mathlib.Core.Bool.{Bool, true}
 use mathlib.Core.Logic.{_⊎_, _↔_, _≢_}

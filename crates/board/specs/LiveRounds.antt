@@ -1,4 +1,4 @@
--- Live states by rounds over an array of flags: what one row, one round and all rounds say. Assumes nothing.
+-- Live states by rounds over an array of flags: what one row, one round and all rounds say.
 use mathlib.Core.Path.{_≡_}
 use mathlib.Core.Bool.{Bool, true, false}
 use mathlib.Core.Logic.{_↔_}

@@ -1,4 +1,4 @@
--- The numbering test: how many states are seen as the moves are read, and what the test of all rows says. Assumes nothing.
+-- The numbering test: how many states are seen as the moves are read, and what the test of all rows says.
 use mathlib.Core.Path.{_≡_}
 use mathlib.Core.Bool.{Bool, true}
 use mathlib.Core.Logic.{_↔_}

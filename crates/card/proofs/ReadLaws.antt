@@ -1,4 +1,4 @@
--- The readers of a card: its contents by their numbers, its parts as parts of its bytes, the column of a letter. Assumes nothing.
+-- The readers of a card: its contents by their numbers, its parts as parts of its bytes, the column of a letter.
 use mathlib.Core.Path.{_≡_, refl, sym, ap, ap₂, _∙_}
 use mathlib.Core.Bool.{true, false}
 use mathlib.Core.Logic.{_⊎_, inl, inr, _≢_}

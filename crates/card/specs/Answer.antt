@@ -1,4 +1,4 @@
--- The answer of loading; and for each case of each of the board's answers the paper's number and values. Assumes nothing.
+-- The answer of loading; and for each case of each of the board's answers the paper's number and values.
 use mathlib.Core.Path.{_≡_}
 use mathlib.Core.Logic.{_≢_}
 use mathlib.Core.List.{List}

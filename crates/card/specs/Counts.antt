@@ -1,4 +1,4 @@
--- What code reads of a card: the counts of its contents, or that these are not right. Assumes nothing.
+-- What code reads of a card: the counts of its contents, or that these are not right.
 use mathlib.Core.Path.{_≡_}
 use mathlib.Core.List.{List}
 use Prim.Native.Nat.{ℕ}

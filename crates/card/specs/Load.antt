@@ -1,5 +1,4 @@
 -- The load test, 21 to 26 in their order, and what each answer means (`Tested`); LoadLaws.antt shows that the test gives the one right answer.
--- Assumes nothing.
 use mathlib.Core.Bool.{Bool}
 use mathlib.Core.Logic.{_≢_}
 use mathlib.Core.List.{List}

@@ -1,4 +1,4 @@
--- The load test answers what the table says, and one answer only is right. Assumes nothing.
+-- The load test answers what the table says, and one answer only is right.
 use mathlib.Core.Path.{_≡_, sym, ap, _∙_}
 use mathlib.Core.Bool.{true, false}
 use mathlib.Core.Logic.{inl, inr, _≢_, _↔_}

@@ -1,4 +1,4 @@
--- Numbers as bytes, low byte first, for any width; and lists of such numbers laid end to end. Assumes nothing.
+-- Numbers as bytes, low byte first, for any width; and lists of such numbers laid end to end.
 use mathlib.Core.Path.{_≡_, refl, sym, ap, ap₂, _∙_}
 use mathlib.Core.Logic.{inl, inr}
 use mathlib.Core.List.{List, [], _∷_, _++_}

@@ -1,4 +1,4 @@
--- Judging in parts, for a plan that comes in pieces: what is kept between two pieces, the start, one letter, a piece, and the reply at the end. Assumes nothing.
+-- Judging in parts, for a plan that comes in pieces: what is kept between two pieces, the start, one letter, a piece, and the reply at the end.
 use mathlib.Core.List.{List, [], _∷_}
 use Prim.Native.Nat.{ℕ, suc}
 use lib.ListN.{length}

@@ -1,5 +1,5 @@
 -- Judging in parts: pieces one after the other are the whole (`run-append`); what a run over known letters is (`run-going`, `run-known`) and one over an
--- unknown letter (`run-unknown`); and the reply after the whole plan is the reply of judging (`judge-run`). Assumes nothing.
+-- unknown letter (`run-unknown`); and the reply after the whole plan is the reply of judging (`judge-run`).
 use mathlib.Core.Path.{_≡_, refl, sym, ap, _∙_}
 use mathlib.Core.Bool.{true, false}
 use mathlib.Core.Logic.{_⊎_, inl, inr}

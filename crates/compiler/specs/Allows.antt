@@ -1,4 +1,5 @@
--- What expressions, rules and books mean: sets of plans. A plan is written by the columns of its letters.
+-- What a book allows: the rules of its lines, each with the names defined above it, and the plans that all of them allow. What an expression and a rule
+-- mean is in the crate `language` (Matches.antt). A plan is written by the columns of its letters.
 use Prim.Native.Nat.{ℕ}
 use mathlib.Core.Bool.{_&&_}
 use mathlib.Core.List.{List, [], _∷_}

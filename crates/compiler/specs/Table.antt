@@ -1,6 +1,6 @@
 -- "What stops a book", line by line of the table, as a relation: each of 1 to 11 in exactly its case, in its order, with its line; and what an accepted
--- book gives. `outcome` answers what the table says, and one answer only is right. No algorithm stands here: a line is of its form or not
--- (inductive grammar), a stage reaches so many sets, its smallest machine has so many states.
+-- book gives. `outcome` answers what the table says, and one answer only is right. The relation knows a line by its form
+-- (inductive grammar), a stage by the sets that it reaches and the states of its smallest machine; it computes nothing.
 use mathlib.Core.Path.{_≡_, refl, sym, ap, ap₂, _∙_, subst}
 use mathlib.Core.Bool.{Bool, true, false}
 use mathlib.Core.Logic.{inl, inr, _⊎_}

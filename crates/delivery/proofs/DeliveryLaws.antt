@@ -1,4 +1,4 @@
--- From the contracts of the three entries to that of the whole way. Assumes nothing.
+-- From the contracts of the three entries to that of the whole way.
 use mathlib.Core.Path.{_≡_, refl, sym, ap, ap₂, _∙_}
 use mathlib.Core.List.{List, _++_}
 use Prim.Native.Nat.{ℕ, _≤_}

@@ -1,4 +1,4 @@
--- The three verdicts in the words of demand 3, from what `Says` says of them. Assumes nothing.
+-- The three verdicts in the words of demand 3, from what `Says` says of them.
 use mathlib.Core.Path.{_≡_, refl, sym, ap, _∙_, subst}
 use mathlib.Core.Bool.{true, false}
 use mathlib.Core.Logic.{inl, inr, _↔_}

@@ -1,4 +1,4 @@
--- The answers of the whole way, each read with the paper's numbers and values for each case. Assumes nothing.
+-- The answers of the whole way, each read with the paper's numbers and values for each case.
 use Prim.Native.Nat.{ℕ}
 use Rattle.card.specs.Answer.{Loading, holds, rejected}
 use Rattle.card.specs.Judge.{Reply}

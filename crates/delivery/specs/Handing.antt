@@ -1,4 +1,4 @@
--- What the board is handed: "the card buffer's bytes up to that length", and the compiler's answer becomes the whole way's. Assumes nothing.
+-- What the board is handed: "the card buffer's bytes up to that length", and the compiler's answer becomes the whole way's.
 use Prim.Native.Nat.{ℕ, _≤_}
 use mathlib.Core.List.{List}
 use lib.ListN.{length, take}

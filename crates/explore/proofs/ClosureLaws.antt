@@ -1,4 +1,4 @@
--- Following one transition per state: the flags that it adds, and that fewer steps than there are states do. Assumes nothing.
+-- Following one transition per state: the flags that it adds, and that fewer steps than there are states do.
 use mathlib.Core.Path.{_≡_, refl, sym, ap, _∙_, subst}
 use mathlib.Core.Bool.{Bool, true, false, _&&_, false≢true}
 use mathlib.Core.Logic.{_⊎_, inl, inr}

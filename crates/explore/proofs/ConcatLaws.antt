@@ -1,4 +1,4 @@
--- The rows of a concatenation: the first, the next, and whether one is accepting. Assumes nothing.
+-- The rows of a concatenation: the first, the next, and whether one is accepting.
 use mathlib.Core.Path.{_≡_, refl, sym, ap, _∙_}
 use mathlib.Core.Bool.{Bool, true, false}
 use mathlib.Core.Logic.{_⊎_, inl, inr}

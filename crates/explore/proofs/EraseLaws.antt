@@ -1,4 +1,4 @@
--- The rows of an erase: the first, the next, and whether one is accepting. Assumes nothing.
+-- The rows of an erase: the first, the next, and whether one is accepting.
 use mathlib.Core.Path.{_≡_, refl, ap, _∙_}
 use mathlib.Core.Bool.{Bool, false}
 use mathlib.Core.List.{List}

@@ -1,4 +1,4 @@
--- The loop over all transitions: what holds where it begins, on its way and at its end. Assumes nothing.
+-- The loop over all transitions: what holds where it begins, on its way and at its end.
 use mathlib.Core.Path.{_≡_, ap, _∙_}
 use mathlib.Core.List.{List}
 use Prim.Native.Nat.{ℕ, _+_, _*_, _-_, _≤_, _<_}

@@ -1,4 +1,4 @@
--- The codes of the operations, and that the states which a reachable row names are states. Assumes nothing.
+-- The codes of the operations, and that the states which a reachable row names are states.
 use mathlib.Core.Path.{_≡_, refl, _∙_}
 use mathlib.Core.List.{List, [], _∷_}
 use Prim.Native.Nat.{ℕ, zero, suc, _+_, _*_, _-_, _/_, _%_, _≤_, _<_}

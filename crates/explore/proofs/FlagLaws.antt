@@ -1,4 +1,4 @@
--- Rows of flags, entry by entry. Assumes nothing.
+-- Rows of flags, entry by entry.
 use mathlib.Core.Path.{_≡_, refl, sym, ap, _∙_}
 use mathlib.Core.Bool.{Bool, true, false, _&&_, _||_, not, false≢true}
 use mathlib.Core.Logic.{inl, inr}

@@ -1,4 +1,4 @@
--- The chains of rows with the same hash. Assumes nothing.
+-- The chains of rows with the same hash.
 use mathlib.Core.Path.{_≡_, refl, sym, ap, _∙_}
 use mathlib.Core.Logic.{inl, inr}
 use mathlib.Core.List.{List}

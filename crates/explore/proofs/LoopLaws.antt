@@ -1,4 +1,4 @@
--- The rows found so far: what one more transition, one more row, and one row too many make of them. For any automaton of rows. Assumes nothing.
+-- The rows found so far: what one more transition, one more row, and one row too many make of them. For any automaton of rows.
 use mathlib.Core.Path.{_≡_, sym, ap, _∙_, subst}
 use mathlib.Core.Bool.{Bool, cond}
 use mathlib.Core.Logic.{_⊎_, inl, inr}

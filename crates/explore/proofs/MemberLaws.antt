@@ -1,4 +1,4 @@
--- The members of a row, listed: one more, all of them, and that they lead where the members lead. Assumes nothing.
+-- The members of a row, listed: one more, all of them, and that they lead where the members lead.
 use mathlib.Core.Path.{_≡_, refl, sym, ap, _∙_}
 use mathlib.Core.Bool.{Bool, true, false, not, _&&_, false≢true}
 use mathlib.Core.Logic.{inl, inr}

@@ -1,4 +1,4 @@
--- The rows of `|`, `&` and `-`: the next pair, and whether it is accepting. Assumes nothing.
+-- The rows of `|`, `&` and `-`: the next pair, and whether it is accepting.
 use mathlib.Core.Path.{_≡_, refl, sym, ap, ap₂, _∙_}
 use mathlib.Core.Bool.{Bool, not, _&&_, _||_}
 use mathlib.Core.List.{List, [], _∷_}

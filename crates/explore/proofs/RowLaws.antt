@@ -1,4 +1,4 @@
--- Rows end to end in a list: where they lie, comparing one, and putting one behind the others. Assumes nothing.
+-- Rows end to end in a list: where they lie, comparing one, and putting one behind the others.
 use mathlib.Core.Path.{_≡_, sym, ap, ap₂, _∙_}
 use mathlib.Core.List.{List, _++_, append-nil, append-assoc}
 use Prim.Native.Nat.{ℕ, zero, suc, _+_, _*_, _-_, _<_, _≤_}

@@ -1,4 +1,4 @@
--- The rows of a star: the first, the next, and whether one is accepting. Assumes nothing.
+-- The rows of a star: the first, the next, and whether one is accepting.
 use mathlib.Core.Path.{_≡_, sym, ap, _∙_}
 use mathlib.Core.Bool.{Bool, true, false, _&&_, _||_}
 use mathlib.Core.List.{List}

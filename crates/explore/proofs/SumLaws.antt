@@ -1,4 +1,4 @@
--- The sum of a row: it fits, and goes on flag by flag. Assumes nothing.
+-- The sum of a row: it fits, and goes on flag by flag.
 use mathlib.Core.Path.{_≡_, refl, sym, ap, _∙_}
 use mathlib.Core.Bool.{true, false}
 use mathlib.Core.Logic.{_⊎_, inl, inr}

@@ -1,4 +1,4 @@
--- Operands that are closed tables: what is read lies inside, and says what the machine does. Assumes nothing.
+-- Operands that are closed tables: what is read lies inside, and says what the machine does.
 use mathlib.Core.Path.{_≡_, sym, ap₂}
 use mathlib.Core.Bool.{Bool, _&&_}
 use mathlib.Core.List.{List}

@@ -1,4 +1,4 @@
--- One turn of the loop: what its calls ask, and what it leaves; and the flags of the rows. Assumes nothing.
+-- One turn of the loop: what its calls ask, and what it leaves; and the flags of the rows.
 use mathlib.Core.Path.{_≡_, refl, sym, ap, _∙_}
 use mathlib.Core.Logic.{inl, inr}
 use mathlib.Core.List.{List}

@@ -1,4 +1,4 @@
--- Columns that lead every state of both operands to the same place lead every row to the same row. Assumes nothing.
+-- Columns that lead every state of both operands to the same place lead every row to the same row.
 use mathlib.Core.Path.{_≡_, refl, sym, ap, ap₂, _∙_}
 use mathlib.Core.Bool.{Bool, _&&_, _||_}
 use mathlib.Core.List.{List}

@@ -1,5 +1,5 @@
 -- What the answer of the exploring is worth: n rows counted, and a closed table whose machine accepts the words of the automaton of rows. Row i is the
--- table's state i. Assumes nothing.
+-- table's state i.
 use mathlib.Core.Path.{_≡_, refl, sym, ap, _∙_}
 use mathlib.Core.Bool.{Bool, true, false}
 use mathlib.Core.List.{List, [], _∷_}

@@ -1,4 +1,4 @@
--- The states of judging plan after plan. Assumes nothing.
+-- The states of judging plan after plan.
 use mathlib.Core.Path.{_≡_, refl, sym, ap, _∙_}
 use mathlib.Core.Logic.{inl, inr, _≢_}
 use mathlib.Core.List.{List, [], _++_}

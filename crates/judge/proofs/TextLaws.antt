@@ -1,4 +1,4 @@
--- Text in a buffer, piece behind piece. Assumes nothing.
+-- Text in a buffer, piece behind piece.
 use mathlib.Core.Path.{_≡_, sym, ap, subst, _∙_}
 use mathlib.Core.List.{List, [], _∷_, _++_, append-assoc, append-nil}
 use Prim.Native.Nat.{ℕ, suc, _+_, _<_}

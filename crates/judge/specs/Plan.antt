@@ -1,4 +1,4 @@
--- Judging one plan after another, each in pieces, on a card that was tested once: the answer is that of judging the whole plan. Assumes nothing.
+-- Judging one plan after another, each in pieces, on a card that was tested once: the answer is that of judging the whole plan.
 use mathlib.Core.Path.{_≡_}
 use mathlib.Core.Logic.{_⊎_, _≢_}
 use mathlib.Core.List.{List, _++_}

@@ -1,4 +1,4 @@
--- An answer as a line of text: "`allowed`, `unfinished`, `hopeless K` or `refused N`, one a line". Assumes nothing.
+-- An answer as a line of text: "`allowed`, `unfinished`, `hopeless K` or `refused N`, one a line".
 use mathlib.Core.Path.{_≡_}
 use mathlib.Core.List.{List, [], _∷_, _++_}
 use Prim.Native.Nat.{ℕ, _+_, _≤_}

@@ -1,4 +1,4 @@
--- Expressions, and the reader of a choice: choice, blend, chain, item and atom call each other. A byte is its number; spaces are gone already.
+-- Expressions as a tree. What they mean is in Matches.antt, what they make in Makes.antt; the reader is in the crate `book`.
 use Prim.Native.Nat.{ℕ}
 use mathlib.Core.Bool.{Bool}
 use mathlib.Core.List.{List}

@@ -1,4 +1,4 @@
--- Laws of one class that arrives: the search for its number, and its place in the order. Assumes nothing.
+-- Laws of one class that arrives: the search for its number, and its place in the order.
 use mathlib.Core.Path.{_≡_, refl, sym, ap, _∙_}
 use mathlib.Core.Logic.{_⊎_, inl, inr, _≢_}
 use mathlib.Core.List.{List, [], _∷_, _++_}

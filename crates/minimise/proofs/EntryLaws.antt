@@ -1,4 +1,4 @@
--- Laws of entries: flags as 0 or 1, cells of a table, lists after a store. Assumes nothing.
+-- Laws of entries: flags as 0 or 1, cells of a table, lists after a store.
 use mathlib.Core.Path.{_≡_, refl, sym, _∙_}
 use mathlib.Core.Bool.{Bool, true, false}
 use mathlib.Core.List.{List}

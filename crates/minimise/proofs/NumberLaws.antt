@@ -1,4 +1,4 @@
--- Laws of the numbering: the order is the listing of the classes, row by row, and the table that is written is the smallest machine. Assumes nothing.
+-- Laws of the numbering: the order is the listing of the classes, row by row, and the table that is written is the smallest machine.
 use mathlib.Core.Path.{_≡_, refl, sym, ap, _∙_}
 use mathlib.Core.Bool.{Bool, true, false}
 use mathlib.Core.Logic.{_⊎_, inl, inr}

@@ -1,4 +1,4 @@
--- Laws of the rounds of partition refinement: a whole round, and that a round which parts no class leaves the classes of equivalent states. Assumes nothing.
+-- Laws of the rounds of partition refinement: a whole round, and that a round which parts no class leaves the classes of equivalent states.
 use mathlib.Core.Path.{_≡_, refl, sym, ap, _∙_}
 use mathlib.Core.Bool.{Bool, true, false, cond}
 use mathlib.Core.Logic.{_⊎_, inl, inr, _≢_}

@@ -1,4 +1,4 @@
--- Laws of one round of partition refinement: comparing two states, searching the leaders of a class, placing a state. Assumes nothing.
+-- Laws of one round of partition refinement: comparing two states, searching the leaders of a class, placing a state.
 use mathlib.Core.Path.{_≡_, refl, sym, ap, _∙_}
 use mathlib.Core.Bool.{Bool, true, false, not, true≢false, false≢true}
 use mathlib.Core.Logic.{inl, inr, _≢_}

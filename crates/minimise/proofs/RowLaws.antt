@@ -1,4 +1,4 @@
--- Laws of one row of the numbered machine, column by column. Assumes nothing.
+-- Laws of one row of the numbered machine, column by column.
 use mathlib.Core.Path.{_≡_, refl, sym, ap, _∙_}
 use mathlib.Core.Logic.{inl, inr, _≢_}
 use mathlib.Core.List.{List}

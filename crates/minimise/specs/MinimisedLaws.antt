@@ -1,4 +1,4 @@
--- What each answer of minimising a table says, for callers. Assumes nothing.
+-- What each answer of minimising a table says, for callers.
 use mathlib.Core.Path.{_≡_, sym, _∙_}
 use mathlib.Core.Logic.{inl, inr}
 use mathlib.Core.List.{List}

@@ -1,4 +1,4 @@
--- The table of columns, filled from the last letter on. Assumes nothing.
+-- The table of columns, filled from the last letter on.
 use mathlib.Core.Path.{_≡_, refl, sym, ap, _∙_}
 use mathlib.Core.Bool.{true, false}
 use mathlib.Core.Logic.{_⊎_, inl, inr}

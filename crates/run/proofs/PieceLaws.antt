@@ -1,4 +1,4 @@
--- Runs: past a dead state, the start, one piece more, and the answer at the end. Assumes nothing.
+-- Runs: past a dead state, the start, one piece more, and the answer at the end.
 use mathlib.Core.Path.{_≡_, refl, sym, ap, _∙_}
 use mathlib.Core.Logic.{_≢_}
 use mathlib.Core.List.{List, [], _∷_}

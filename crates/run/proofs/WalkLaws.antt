@@ -1,4 +1,4 @@
--- The walk over a card that loads: letter by letter, and past a dead state. Assumes nothing.
+-- The walk over a card that loads: letter by letter, and past a dead state.
 use mathlib.Core.Path.{_≡_, refl, sym, ap, subst, _∙_}
 use mathlib.Core.Bool.{true, false}
 use mathlib.Core.Logic.{_⊎_, inl, inr, _≢_}

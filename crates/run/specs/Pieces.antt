@@ -1,5 +1,5 @@
 -- Pieces one after the other judge as the whole: a run over one piece and then another is the run over both, and the answer at the end is that of
--- judging the whole plan. Assumes nothing.
+-- judging the whole plan.
 use mathlib.Core.Path.{_≡_, sym, ap, _∙_}
 use mathlib.Core.List.{List, _++_}
 use Prim.Native.Nat.{ℕ}

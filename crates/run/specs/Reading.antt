@@ -1,5 +1,4 @@
 -- The walk's values, each read as that of the card's definitions; and for each case of the answer the paper's number and values (card, Answer.antt).
--- Assumes nothing.
 use Rattle.card.specs.Verdict.{Verdict, allowed, unfinished, hopeless}
 use Rattle.card.specs.Judge.{Place, none, found, Reply, verdict, refused}
 use Rattle.card.specs.Run.{Run}

@@ -1,4 +1,4 @@
--- What the parts of the walk require and say. Assumes nothing.
+-- What the parts of the walk require and say.
 use mathlib.Core.Path.{_≡_}
 use mathlib.Core.List.{List}
 use Prim.Native.Nat.{ℕ, _+_, _≤_, _<_}

@@ -1,4 +1,4 @@
--- What a view and its counts say, as the paper's numbers of loading: a refusal's number or 0, the letters and the states. Assumes nothing.
+-- What a view and its counts say, as the paper's numbers of loading: a refusal's number or 0, the letters and the states.
 use Rattle.card.specs.Answer.{Numbers}
 use Rattle.view.specs.declared.Counted.{Counted}
 use Rattle.view.specs.declared.View.{View}

@@ -1,4 +1,4 @@
--- Laws of one state that arrives, and of one row. Assumes nothing.
+-- Laws of one state that arrives, and of one row.
 use mathlib.Core.Path.{_≡_, refl, sym, ap, _∙_}
 use mathlib.Core.Logic.{_⊎_, inl, inr, _≢_}
 use mathlib.Core.List.{List, [], _∷_, _++_}

@@ -1,4 +1,4 @@
--- Laws of a part that is laid down byte by byte, and of parts laid down one behind the other. Assumes nothing.
+-- Laws of a part that is laid down byte by byte, and of parts laid down one behind the other.
 use mathlib.Core.Path.{_≡_, refl, sym, ap, _∙_}
 use mathlib.Core.List.{List, [], _∷_, _++_, append-nil, append-assoc}
 use Prim.Native.Nat.{ℕ, suc, _+_, _-_, _*_, _≤_, _<_}

@@ -1,4 +1,4 @@
--- Laws of the marks bytes: by the table alone, and that they are those of the restriction to letters. Assumes nothing.
+-- Laws of the marks bytes: by the table alone, and that they are those of the restriction to letters.
 use mathlib.Core.Path.{_≡_, sym, ap, _∙_}
 use mathlib.Core.Bool.{true, false}
 use mathlib.Core.Logic.{_⊎_, inl, inr, _≢_}

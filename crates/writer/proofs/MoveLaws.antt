@@ -1,4 +1,4 @@
--- Laws of the moves: row by row the numbers of what letters lead to are the moves of the restriction. Assumes nothing.
+-- Laws of the moves: row by row the numbers of what letters lead to are the moves of the restriction.
 use mathlib.Core.Path.{_≡_, refl, sym, ap, ap₂, _∙_}
 use mathlib.Core.List.{List, [], _∷_, _++_, append-nil, append-assoc}
 use Prim.Native.Nat.{ℕ, suc, _+_, _*_, _%_, _≤_, _<_}

@@ -1,4 +1,4 @@
--- Laws of the numbering as a whole: turn by turn it is the listing of the states that letters reach. Assumes nothing.
+-- Laws of the numbering as a whole: turn by turn it is the listing of the states that letters reach.
 use mathlib.Core.Path.{_≡_, sym, ap, _∙_}
 use mathlib.Core.Logic.{_⊎_, inl, inr}
 use mathlib.Core.List.{List}

@@ -1,4 +1,4 @@
--- Laws of the restriction to letters by the order of its states: state i is the i-th of the order. Assumes nothing.
+-- Laws of the restriction to letters by the order of its states: state i is the i-th of the order.
 use mathlib.Core.Path.{_≡_, sym, ap, _∙_}
 use mathlib.Core.List.{List, []}
 use Prim.Native.Nat.{ℕ, suc, _≤_, _<_}

@@ -1,4 +1,4 @@
--- Laws of the card as a whole: its length, and that its parts laid one behind the other are the card. Assumes nothing.
+-- Laws of the card as a whole: its length, and that its parts laid one behind the other are the card.
 use mathlib.Core.Path.{_≡_, ap, _∙_}
 use mathlib.Core.List.{List, _++_}
 use Prim.Native.Nat.{ℕ, suc, _+_, _*_, _≤_, _<_}

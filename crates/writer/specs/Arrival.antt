@@ -1,5 +1,5 @@
 -- Numbering the states that letters reach, by first arrival, as code keeps it in two arrays: the states in the order of their numbers, and for each state its
--- number, which counts only where the state stands in the order at that number. Assumes nothing.
+-- number, which counts only where the state stands in the order at that number.
 use mathlib.Core.Path.{_≡_}
 use mathlib.Core.List.{List}
 use Prim.Native.Nat.{ℕ, suc, _+_, _≤_, _<_}

@@ -1,4 +1,4 @@
--- A part of a list is overwritten: what stands before it and behind it stays. Assumes nothing.
+-- A part of a list is overwritten: what stands before it and behind it stays.
 use mathlib.Core.Path.{_≡_}
 use mathlib.Core.List.{List, _++_}
 use Prim.Native.Nat.{ℕ}

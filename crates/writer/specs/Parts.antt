@@ -1,4 +1,4 @@
--- The parts of a kept machine's card behind its letters. Assumes nothing.
+-- The parts of a kept machine's card behind its letters.
 use mathlib.Core.List.{List}
 use Prim.Native.Nat.{ℕ, _+_}
 use lib.ListN.{getD}

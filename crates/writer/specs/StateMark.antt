@@ -1,5 +1,4 @@
 -- A state's marks byte by what the table says of the state alone: in a canonical machine a state is dead just when it does not accept and every letter stays.
--- Assumes nothing.
 use mathlib.Core.Path.{_≡_}
 use mathlib.Core.Bool.{true, false}
 use mathlib.Core.Logic.{_≢_}

@@ -1,4 +1,4 @@
--- What the card writer is given and what it answers. Assumes nothing.
+-- What the card writer is given and what it answers.
 use mathlib.Core.Path.{_≡_}
 use mathlib.Core.List.{List, _++_}
 use Prim.Native.Nat.{ℕ, suc, _≤_}

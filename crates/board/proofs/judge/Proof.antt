@@ -1,4 +1,4 @@
--- `judge` meets its contract: the card is tested once, and the whole plan is one piece. Assumes nothing.
+-- `judge` meets its contract: the card is tested once, and the whole plan is one piece.
 use mathlib.Core.Path.{sym, ap, _∙_}
 use borrow.Author.Needs.{needs}
 use Rattle.run.specs.Pieces.{after-start, after-reply}

@@ -1,4 +1,4 @@
--- `load` meets its contract. Assumes nothing.
+-- `load` meets its contract.
 use mathlib.Core.Path.{sym, _∙_}
 use borrow.Author.Needs.{needs}
 use Rattle.card.proofs.ReadLaws.{of-counted, bad-counted}

@@ -1,4 +1,4 @@
--- `step` meets its contract, test by test. Assumes nothing.
+-- `step` meets its contract, test by test.
 use mathlib.Core.Path.{sym, _∙_}
 use Prim.Native.Nat.{_+_, _*_}
 use native.Mathlib.Omega.{arith}

@@ -1,4 +1,4 @@
--- `column` meets its contract: none of the letters passed is the letter. Assumes nothing.
+-- `column` meets its contract: none of the letters passed is the letter.
 use Prim.Native.Nat.{_≤_, _-_}
 use native.Mathlib.Omega.{arith}
 use lib.ListN.{length}

@@ -1,4 +1,4 @@
--- `contents` meets its contract: each test is one of the contents' conditions. Assumes nothing.
+-- `contents` meets its contract: each test is one of the contents' conditions.
 use native.Mathlib.Omega.{arith}
 use borrow.Author.Needs.{needs}
 use Rattle.card.proofs.ReadLaws.{counts-bad, counts-moves, counts-long, counts-right, cells-most}

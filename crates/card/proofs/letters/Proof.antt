@@ -1,4 +1,4 @@
--- `letters` meets its contract. Assumes nothing.
+-- `letters` meets its contract.
 use borrow.Author.Needs.{needs}
 use Rattle.card.proofs.ReadLaws.{letters-part}
 use Rattle.card.proofs.letters.Statement.{statement}

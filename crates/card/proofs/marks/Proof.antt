@@ -1,4 +1,4 @@
--- `marks` meets its contract. Assumes nothing.
+-- `marks` meets its contract.
 use borrow.Author.Needs.{needs}
 use Rattle.card.proofs.ReadLaws.{marks-part}
 use Rattle.card.proofs.marks.Statement.{statement}

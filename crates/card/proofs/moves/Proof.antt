@@ -1,4 +1,4 @@
--- `moves` meets its contract. Assumes nothing.
+-- `moves` meets its contract.
 use borrow.Author.Needs.{needs}
 use Rattle.card.proofs.ReadLaws.{moves-part}
 use Rattle.card.proofs.moves.Statement.{statement}

@@ -1,4 +1,4 @@
--- `number` meets its contract. Assumes nothing.
+-- `number` meets its contract.
 use Prim.Native.Nat.{_+_}
 use native.Mathlib.Numerals.{add-one}
 use native.Mathlib.Omega.{arith}

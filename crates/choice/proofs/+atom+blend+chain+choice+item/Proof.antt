@@ -1,4 +1,4 @@
--- choice, blend, chain, item and atom meet their contracts: each loop keeps what comes of the part ahead (`Ahead`). Assumes nothing.
+-- choice, blend, chain, item and atom meet their contracts: each loop keeps what comes of the part ahead (`Ahead`).
 use Prim.Native.Nat.{ℕ, _+_, _*_, _-_, _<_}
 use native.Mathlib.Omega.{arith}
 use mathlib.Core.Path.{refl}

@@ -1,4 +1,4 @@
--- `choice::negate` meets its contract: the complements that are due, of what is written, stay the same expression. Assumes nothing.
+-- `choice::negate` meets its contract: the complements that are due, of what is written, stay the same expression.
 use native.Mathlib.Omega.{arith}
 use Rattle.choice.proofs.StepLaws.{Negating, negating-start, negating-turn, negating-done}
 use Rattle.choice.proofs.negate.Statement.{statement}

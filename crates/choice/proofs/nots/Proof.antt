@@ -1,4 +1,4 @@
--- `choice::nots` meets its contract: the loop keeps that only `!` were passed, and how many. Assumes nothing.
+-- `choice::nots` meets its contract: the loop keeps that only `!` were passed, and how many.
 use mathlib.Core.Path.{_∙_}
 use Prim.Native.Nat.{_-_}
 use native.Mathlib.Omega.{arith}

@@ -1,4 +1,4 @@
--- `choice::put` meets its contract. Assumes nothing.
+-- `choice::put` meets its contract.
 use mathlib.Core.Path.{refl}
 use native.Mathlib.Numerals.{add-one}
 use lib.Seq.{take-suc-set}

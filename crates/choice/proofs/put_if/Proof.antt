@@ -1,4 +1,4 @@
--- `choice::put_if` meets its contract. Assumes nothing.
+-- `choice::put_if` meets its contract.
 use mathlib.Core.Bool.{true≢false}
 use mathlib.Core.Path.{refl, sym, _∙_}
 use borrow.Author.Needs.{needs}

@@ -1,4 +1,4 @@
--- `choice::suffixed` meets its contract: each turn writes the code of one sign. Assumes nothing.
+-- `choice::suffixed` meets its contract: each turn writes the code of one sign.
 use mathlib.Core.Path.{refl}
 use Prim.Native.Nat.{_-_}
 use native.Mathlib.Omega.{arith}

@@ -1,4 +1,4 @@
--- `choice_main::show` meets its contract: the code lies within the buffer. Assumes nothing.
+-- `choice_main::show` meets its contract: the code lies within the buffer.
 use mathlib.Core.Path.{sym}
 use lib.Seq.{length-take-le}
 use native.Mathlib.Omega.{arith}

@@ -1,4 +1,4 @@
--- `delivery::deliver` meets its contract: demand 3, from the contracts of the entries. Assumes nothing.
+-- `delivery::deliver` meets its contract: demand 3, from the contracts of the entries.
 use Rattle.delivery.proofs.DeliveryLaws.{card-within, delivers}
 use borrow.Author.Needs.{needs}
 use Rattle.delivery.proofs.deliver.Statement.{statement}

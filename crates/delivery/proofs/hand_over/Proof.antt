@@ -1,4 +1,4 @@
--- `delivery::hand_over` meets its contract: the board has just the card's bytes. Assumes nothing.
+-- `delivery::hand_over` meets its contract: the board has just the card's bytes.
 use Rattle.delivery.proofs.DeliveryLaws.{within, taken, hands-card, hands-refusal}
 use borrow.Author.Needs.{needs}
 use Rattle.delivery.proofs.hand_over.Statement.{statement}

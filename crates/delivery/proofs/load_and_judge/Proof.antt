@@ -1,4 +1,4 @@
--- `delivery::load_and_judge` meets its contract. Assumes nothing.
+-- `delivery::load_and_judge` meets its contract.
 use Rattle.delivery.proofs.DeliveryLaws.{board-judges, board-refuses}
 use borrow.Author.Needs.{needs}
 use Rattle.delivery.proofs.load_and_judge.Statement.{statement}

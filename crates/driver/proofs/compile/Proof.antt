@@ -1,4 +1,4 @@
--- `driver::compile` meets its contract: 1 and 2 come first. Assumes nothing.
+-- `driver::compile` meets its contract: 1 and 2 come first.
 use Rattle.driver.proofs.EntryLaws.{too-long, too-short, compiled, lent}
 use Rattle.driver.specs.Entry.{lentLengths}
 use borrow.Author.Tests.{not-true, not-false}

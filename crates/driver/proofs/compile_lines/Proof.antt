@@ -1,4 +1,4 @@
--- `driver::compile_lines` meets its contract: the lines behind line 1, then the card. Assumes nothing.
+-- `driver::compile_lines` meets its contract: the lines behind line 1, then the card.
 use Rattle.driver.proofs.EntryLaws.{drafted-start, going-start, writable, lines-put, lines-stop}
 use native.Mathlib.Omega.{arith}
 use mathlib.Core.Path.{refl}

@@ -1,4 +1,4 @@
--- `driver::compile_text` meets its contract: line 1, then the others. Assumes nothing.
+-- `driver::compile_text` meets its contract: line 1, then the others.
 use Rattle.driver.proofs.EntryLaws.{no-bytes, headed, head-stops}
 use native.Mathlib.Omega.{arith}
 use borrow.Author.Needs.{needs}

@@ -1,4 +1,4 @@
--- `driver::long_enough` meets its contract: each of the eight lengths is tested. Assumes nothing.
+-- `driver::long_enough` meets its contract: each of the eight lengths is tested.
 use Rattle.driver.proofs.EntryLaws.{short-1, short-2, short-3, short-4, short-5, short-6, short-7, short-8, all-long}
 use native.Mathlib.Omega.{arith}
 use Rattle.driver.proofs.long_enough.Statement.{statement}

@@ -1,4 +1,4 @@
--- `driver::put_card` meets its contract: the writer's answer as the entry's. Assumes nothing.
+-- `driver::put_card` meets its contract: the writer's answer as the entry's.
 use Rattle.driver.proofs.EntryLaws.{slot-long, kept, puts-card, puts-none}
 use native.Mathlib.Omega.{arith}
 use borrow.Author.Needs.{needs}

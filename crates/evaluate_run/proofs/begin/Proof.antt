@@ -1,4 +1,4 @@
--- `evaluate_run::begin` meets its contract: the registers below i hold machines. Assumes nothing.
+-- `evaluate_run::begin` meets its contract: the registers below i hold machines.
 use mathlib.Core.Path.{_≡_, refl, _∙_}
 use Prim.Native.Nat.{_≤_, _-_, _*_, _+_, suc}
 use native.Mathlib.Omega.{arith}

@@ -1,4 +1,4 @@
--- `evaluate_run::begin_lines` is safe: what was tested is what the lines ask. Assumes nothing.
+-- `evaluate_run::begin_lines` is safe: what was tested is what the lines ask.
 use native.Mathlib.Omega.{arith}
 use borrow.Author.Needs.{needs}
 use Rattle.evaluate_run.proofs.begin_lines.Statement.{statement}

@@ -1,4 +1,4 @@
--- `evaluate_run::lines` is safe and ends: the registers hold machines behind each line, and each line starts behind the one before. Assumes nothing.
+-- `evaluate_run::lines` is safe and ends: the registers hold machines behind each line, and each line starts behind the one before.
 use mathlib.Core.Path.{refl, _∙_}
 use Prim.Native.Nat.{_-_}
 use native.Mathlib.Omega.{arith}

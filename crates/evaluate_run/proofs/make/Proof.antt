@@ -1,4 +1,4 @@
--- `evaluate_run::make` meets its contract: the run leaves machines in the registers. Assumes nothing.
+-- `evaluate_run::make` meets its contract: the run leaves machines in the registers.
 use borrow.Author.Needs.{needs}
 use borrow.Author.Tests.{not-false}
 use Rattle.evaluate_run.specs.ReadyLaws.{running, one-machine}

@@ -1,4 +1,4 @@
--- `evaluate_run::nameless` meets its contract: none of the codes passed is a name. Assumes nothing.
+-- `evaluate_run::nameless` meets its contract: none of the codes passed is a name.
 use Prim.Native.Nat.{_≤_, _-_}
 use native.Mathlib.Omega.{arith}
 use borrow.Author.Needs.{needs}

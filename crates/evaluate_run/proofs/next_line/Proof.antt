@@ -1,4 +1,4 @@
--- `evaluate_run::next_line` meets its contract: a line that is read has its program in the buffer. Assumes nothing.
+-- `evaluate_run::next_line` meets its contract: a line that is read has its program in the buffer.
 use borrow.Author.Needs.{needs}
 use Rattle.evaluate_run.specs.ReadyLaws.{read-name, read-rule}
 use Rattle.evaluate_run.proofs.next_line.Statement.{statement}

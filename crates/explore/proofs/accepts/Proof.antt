@@ -1,4 +1,4 @@
--- `accepts` meets its contract: a case for each operation. Assumes nothing.
+-- `accepts` meets its contract: a case for each operation.
 use Rattle.explore.proofs.FitLaws.{is-concatenation, is-star, is-erase}
 use Rattle.explore.proofs.accepts.Statement.{statement}
 use Rattle.explore.proofs.accepts.Tie as tie

@@ -1,4 +1,4 @@
--- `advance` meets its contract: an earlier transition is copied, or the row is made. Assumes nothing.
+-- `advance` meets its contract: an earlier transition is copied, or the row is made.
 use mathlib.Core.Path.{refl}
 use native.Mathlib.Omega.{arith}
 use borrow.Author.Needs.{needs}

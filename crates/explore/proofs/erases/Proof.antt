@@ -1,4 +1,4 @@
--- `erases` meets its contract. Assumes nothing.
+-- `erases` meets its contract.
 use Rattle.explore.proofs.FitLaws.{is-erase}
 use borrow.Author.Tests.{ltb-true}
 use mathlib.Core.Bool.{false≢true}

@@ -1,4 +1,4 @@
--- `explore` meets its contract: the transitions are laid out one by one, then the flags. Assumes nothing.
+-- `explore` meets its contract: the transitions are laid out one by one, then the flags.
 use mathlib.Core.Path.{_≡_, refl, sym, _∙_}
 use Prim.Native.Nat.{_*_, _-_, _<_}
 use native.Mathlib.Omega.{arith}

@@ -1,4 +1,4 @@
--- `flag` meets its contract. Assumes nothing.
+-- `flag` meets its contract.
 use Rattle.explore.specs.Rows.{bit}
 use borrow.Author.Needs.{needs}
 use mathlib.Core.Path.{sym, ap, _∙_}

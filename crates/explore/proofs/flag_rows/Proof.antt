@@ -1,4 +1,4 @@
--- `flag_rows` meets its contract: the flags before p are laid out. Assumes nothing.
+-- `flag_rows` meets its contract: the flags before p are laid out.
 use Prim.Native.Nat.{_-_, _<_, _≤_}
 use Rattle.explore.proofs.TurnLaws.{row-source, flagged-none, flagged-more, flagging-row}
 use Rattle.explore.specs.Answer.{rowsFor, Flagged}

@@ -1,4 +1,4 @@
--- `gather` meets its contract: a case for each kind of row. Assumes nothing.
+-- `gather` meets its contract: a case for each kind of row.
 use mathlib.Core.Path.{ap}
 use native.Mathlib.Omega.{arith}
 use lib.ListN.{length, length-drop}

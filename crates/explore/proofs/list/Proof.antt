@@ -1,4 +1,4 @@
--- `list` meets its contract. Assumes nothing.
+-- `list` meets its contract.
 use borrow.Author.Needs.{needs}
 use Rattle.explore.proofs.RowLaws.{row-part}
 use Rattle.explore.proofs.TurnLaws.{row-source}

@@ -1,4 +1,4 @@
--- `next_row` meets its contract: a case for each operation. Assumes nothing.
+-- `next_row` meets its contract: a case for each operation.
 use borrow.Author.Needs.{needs}
 use Rattle.explore.proofs.FitLaws.{is-concatenation, is-star, is-erase}
 use Rattle.explore.proofs.next_row.Statement.{statement}

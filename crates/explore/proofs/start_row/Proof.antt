@@ -1,4 +1,4 @@
--- `start_row` meets its contract: a case for each operation. Assumes nothing.
+-- `start_row` meets its contract: a case for each operation.
 use borrow.Author.Needs.{needs}
 use Rattle.explore.proofs.FitLaws.{is-concatenation, is-star, is-erase}
 use Rattle.explore.proofs.start_row.Statement.{statement}

@@ -1,4 +1,4 @@
--- `turn` meets its contract: the row is made, looked up, and put behind the others where it is new. Assumes nothing.
+-- `turn` meets its contract: the row is made, looked up, and put behind the others where it is new.
 use mathlib.Core.Path.{refl, _∙_}
 use native.Mathlib.Omega.{arith}
 use borrow.Author.Needs.{needs}

@@ -1,4 +1,4 @@
--- `turn_pair` meets its contract: one turn by the numbers of a pair. Assumes nothing.
+-- `turn_pair` meets its contract: one turn by the numbers of a pair.
 use mathlib.Core.Path.{refl}
 use Prim.Native.Nat.{_*_, _≤_}
 use native.Mathlib.Omega.{arith}

@@ -1,4 +1,4 @@
--- `reader_run::later` is safe and ends: each line starts behind the one before. Assumes nothing.
+-- `reader_run::later` is safe and ends: each line starts behind the one before.
 use mathlib.Core.Path.{_≡_, _∙_}
 use mathlib.Core.Logic.{⊎-elim}
 use Prim.Native.Nat.{_+_, _*_, _-_, _≤_}

@@ -1,4 +1,4 @@
--- `reader_run::report_all` is safe and ends. Assumes nothing.
+-- `reader_run::report_all` is safe and ends.
 use mathlib.Core.Path.{_≡_, ap, _∙_}
 use mathlib.Core.Logic.{⊎-elim}
 use Prim.Native.Nat.{_-_, _≤_}

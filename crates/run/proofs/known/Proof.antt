@@ -1,4 +1,4 @@
--- `known` meets its contract: the letters passed are on the card. Assumes nothing.
+-- `known` meets its contract: the letters passed are on the card.
 use Prim.Native.Nat.{_≤_, _-_}
 use native.Mathlib.Omega.{arith}
 use lib.ListN.{length, getD}

@@ -1,4 +1,4 @@
--- `next` meets its contract: a place of the part behind the first i is that place, i further. Assumes nothing.
+-- `next` meets its contract: a place of the part behind the first i is that place, i further.
 use Prim.Native.Nat.{_*_}
 use native.Mathlib.Omega.{arith}
 use Rattle.run.proofs.WalkLaws.{column-at}

@@ -1,4 +1,4 @@
--- `past_dead` meets its contract. Assumes nothing.
+-- `past_dead` meets its contract.
 use mathlib.Core.Path.{sym}
 use native.Mathlib.Omega.{arith}
 use borrow.Author.Needs.{needs}

@@ -1,4 +1,4 @@
--- `piece` meets its contract, case by case. Assumes nothing.
+-- `piece` meets its contract, case by case.
 use mathlib.Core.Path.{ap}
 use native.Mathlib.Omega.{arith}
 use lib.ListN.{length}

@@ -1,4 +1,4 @@
--- `reply` meets its contract. Assumes nothing.
+-- `reply` meets its contract.
 use mathlib.Core.Path.{sym, _∙_}
 use borrow.Author.Needs.{needs}
 use Rattle.run.proofs.WalkLaws.{ready-counted, mark-room, mark-is}

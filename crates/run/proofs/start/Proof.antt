@@ -1,4 +1,4 @@
--- `start` meets its contract. Assumes nothing.
+-- `start` meets its contract.
 use mathlib.Core.Path.{sym, _∙_}
 use borrow.Author.Needs.{needs}
 use Rattle.run.proofs.WalkLaws.{ready-counted, mark-room, mark-is, some-state}

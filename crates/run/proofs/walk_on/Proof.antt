@@ -1,4 +1,4 @@
--- `walk_on` meets its contract: after k letters the walk is in s, and no state on the way is dead. Assumes nothing.
+-- `walk_on` meets its contract: after k letters the walk is in s, and no state on the way is dead.
 use mathlib.Core.Path.{_≡_, sym, ap, _∙_}
 use Prim.Native.Nat.{_+_, _*_, _≤_, _<_, _-_}
 use native.Mathlib.Omega.{arith}

@@ -1,4 +1,4 @@
--- `stages_run::apply` meets its contract. Assumes nothing.
+-- `stages_run::apply` meets its contract.
 use Rattle.stages_run.specs.Stack.{stack-ready, stack-stage}
 use borrow.Author.Needs.{needs}
 use Rattle.stages_run.proofs.apply.Statement.{statement}

@@ -1,4 +1,4 @@
--- `stages_run::push` meets its contract. Assumes nothing.
+-- `stages_run::push` meets its contract.
 use mathlib.Core.Path.{refl}
 use Prim.Native.Nat.{_+_, _*_, _≤_}
 use native.Mathlib.Omega.{arith}

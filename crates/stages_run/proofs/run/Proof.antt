@@ -1,4 +1,4 @@
--- `stages_run::run` meets its contract. Assumes nothing.
+-- `stages_run::run` meets its contract.
 use mathlib.Core.Path.{_≡_, refl, _∙_}
 use Prim.Native.Nat.{_-_, _≤_}
 use native.Mathlib.Omega.{arith}

@@ -1,4 +1,4 @@
--- `stages_run::work_on` meets its contract. Assumes nothing.
+-- `stages_run::work_on` meets its contract.
 use Prim.Native.Nat.{_≤_}
 use native.Mathlib.Omega.{arith}
 use Rattle.stages_run.specs.Stack.{stack-taken}

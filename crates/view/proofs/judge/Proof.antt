@@ -1,5 +1,5 @@
 -- `view::judge` meets its contract: a walk of its MIR, by hand. The bytes are taken out of the struct, and `board::judge` is called on them and on the plan.
--- The struct and the plan are Copy: what each owns is had twice, once for the callee and once for the exit. Assumes nothing.
+-- The struct and the plan are Copy: what each owns is had twice, once for the callee and once for the exit.
 use mathlib.Core.Path.{_≡_, refl}
 use Prim.Native.Nat.{ℕ}
 use mathlib.Core.List.{List, [], _∷_}

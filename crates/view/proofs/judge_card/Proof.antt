@@ -1,6 +1,6 @@
 -- `view::judge_card` meets its contract: a walk of its MIR, by hand. The view that `load` returns is held in a local and passed to `judge`. All that
 -- the proof knows of the two is that each meets its contract. In a local MIR erases the lifetime of the struct's type, so the value is shown to have the
--- type at `erased`. `load` is lent the token of the card's lifetime alone, and gives it back. Assumes nothing.
+-- type at `erased`. `load` is lent the token of the card's lifetime alone, and gives it back.
 use mathlib.Core.Path.{_≡_, refl, ap, _∙_}
 use Prim.Native.Nat.{ℕ}
 use mathlib.Core.List.{List, [], _∷_}

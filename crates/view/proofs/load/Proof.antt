@@ -1,5 +1,5 @@
 -- `view::load` meets its contract: a walk of its MIR, by hand. `counts` is called on the bytes, and the struct is made of the bytes and of what it gave.
--- The bytes are Copy: what they own is had three times, for the callee, for the exit and inside the struct. Assumes nothing.
+-- The bytes are Copy: what they own is had three times, for the callee, for the exit and inside the struct.
 use mathlib.Core.Path.{_≡_, refl, ap, subst}
 use Prim.Native.Nat.{ℕ, _<_, _^_}
 use mathlib.Core.List.{List, [], _∷_}

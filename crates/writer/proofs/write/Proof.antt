@@ -1,4 +1,4 @@
--- `write` meets its contract: the length is the card's, and the parts, one behind the other, are the card. Assumes nothing.
+-- `write` meets its contract: the length is the card's, and the parts, one behind the other, are the card.
 use native.Mathlib.Omega.{arith}
 use borrow.Author.Needs.{needs}
 use Rattle.writer.proofs.WriteLaws.{count-small, write-short, write-full}

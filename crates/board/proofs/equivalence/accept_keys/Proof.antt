@@ -1,4 +1,4 @@
--- `accept_keys` meets its contract. Assumes nothing.
+-- `accept_keys` meets its contract.
 use Prim.Native.Nat.{_≤_, _-_}
 use native.Mathlib.Omega.{arith}
 use lib.ListN.{length}

@@ -1,4 +1,4 @@
--- `column_keys` meets its contract. Assumes nothing.
+-- `column_keys` meets its contract.
 use mathlib.Core.Path.{_≡_, refl}
 use Prim.Native.Nat.{_+_, _*_, _≤_, _-_}
 use native.Mathlib.Omega.{arith}

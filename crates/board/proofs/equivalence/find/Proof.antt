@@ -1,4 +1,4 @@
--- `find` meets its contract: each state with the key is still ahead. Assumes nothing.
+-- `find` meets its contract: each state with the key is still ahead.
 use Prim.Native.Nat.{_-_}
 use native.Mathlib.Omega.{arith}
 use borrow.Author.Needs.{needs}

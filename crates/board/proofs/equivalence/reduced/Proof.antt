@@ -1,4 +1,4 @@
--- `reduced` meets its contract. The measure: each pass but the last leaves more classes, and a pass has at most 26 columns. Assumes nothing.
+-- `reduced` meets its contract. The measure: each pass but the last leaves more classes, and a pass has at most 26 columns.
 use mathlib.Core.Path.{_≡_}
 use Prim.Native.Nat.{_+_, _*_, _≤_, _-_}
 use native.Mathlib.Omega.{arith}

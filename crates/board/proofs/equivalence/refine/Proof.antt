@@ -1,4 +1,4 @@
--- `refine` meets its contract. Assumes nothing.
+-- `refine` meets its contract.
 use borrow.Author.Needs.{needs}
 use Rattle.board.proofs.KeyLaws.{refined}
 use Rattle.board.proofs.equivalence.refine.Statement.{statement}

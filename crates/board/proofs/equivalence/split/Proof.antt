@@ -1,4 +1,4 @@
--- `split` meets its contract: the states below p are split, and the classes from p on are the old ones. Assumes nothing.
+-- `split` meets its contract: the states below p are split, and the classes from p on are the old ones.
 use mathlib.Core.Path.{_≡_}
 use Prim.Native.Nat.{_≤_, _-_}
 use native.Mathlib.Nat.{le-refl}

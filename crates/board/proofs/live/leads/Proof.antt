@@ -1,4 +1,4 @@
--- `leads` meets its contract: none of the moves passed leads to a flag. Assumes nothing.
+-- `leads` meets its contract: none of the moves passed leads to a flag.
 use Prim.Native.Nat.{_+_, _≤_, _-_}
 use native.Mathlib.Omega.{arith}
 use borrow.Author.Needs.{needs}

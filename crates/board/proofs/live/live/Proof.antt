@@ -1,4 +1,4 @@
--- `live` meets its contract. Assumes nothing.
+-- `live` meets its contract.
 use Prim.Native.Nat.{_≤_, _-_}
 use native.Mathlib.Omega.{arith}
 use lib.ListN.{length}

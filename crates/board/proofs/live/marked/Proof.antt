@@ -1,4 +1,4 @@
--- `marked` meets its contract: the marks bytes below p are right. Assumes nothing.
+-- `marked` meets its contract: the marks bytes below p are right.
 use mathlib.Core.Logic.{⊎-elim}
 use Prim.Native.Nat.{_≤_, _-_}
 use native.Mathlib.Omega.{arith}

@@ -1,4 +1,4 @@
--- `round` meets its contract: the invariant says what the states from p on became. Assumes nothing.
+-- `round` meets its contract: the invariant says what the states from p on became.
 use mathlib.Core.Path.{_≡_, subst}
 use mathlib.Core.Bool.{Bool}
 use mathlib.Core.List.{List}

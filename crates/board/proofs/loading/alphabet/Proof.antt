@@ -1,4 +1,4 @@
--- `alphabet` meets its contract: what is left says the same as the whole. Assumes nothing.
+-- `alphabet` meets its contract: what is left says the same as the whole.
 use mathlib.Core.Path.{_≡_, sym, _∙_}
 use Prim.Native.Nat.{_≤_, _-_}
 use native.Mathlib.Omega.{arith}

@@ -1,4 +1,4 @@
--- `inside` meets its contract: the moves passed are to states. Assumes nothing.
+-- `inside` meets its contract: the moves passed are to states.
 use Prim.Native.Nat.{_≤_, _-_}
 use native.Mathlib.Omega.{arith}
 use lib.ListN.{length}

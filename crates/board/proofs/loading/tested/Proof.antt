@@ -1,4 +1,4 @@
--- `tested` meets its contract, test by test. Assumes nothing.
+-- `tested` meets its contract, test by test.
 use borrow.Author.Needs.{needs}
 use Rattle.board.proofs.LoadLaws.{load-22, alphabet-right, load-23, inside-right, card-table, letters-most, load-24, numbered-right, marked-right, load-25, load-26, load-0}
 use Rattle.board.proofs.loading.tested.Statement.{statement}

@@ -1,4 +1,4 @@
--- `numbered` meets its contract: the invariant says that the rows below p are in order, and how many states are seen. Assumes nothing.
+-- `numbered` meets its contract: the invariant says that the rows below p are in order, and how many states are seen.
 use Prim.Native.Nat.{_≤_, _-_}
 use native.Mathlib.Omega.{arith}
 use mathlib.Core.Path.{_≡_}

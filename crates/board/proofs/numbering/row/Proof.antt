@@ -1,4 +1,4 @@
--- `row` meets its contract: the invariant says how many states are seen after the first i moves. Assumes nothing.
+-- `row` meets its contract: the invariant says how many states are seen after the first i moves.
 use mathlib.Core.Logic.{⊎-elim}
 use Prim.Native.Nat.{_+_, _≤_, _-_}
 use native.Mathlib.Omega.{arith}

@@ -1,6 +1,5 @@
 -- `choice::kinds::kind` meets its contract: a byte with an entry of its own has its kind by computing, and the others of a row by a test at each byte
 -- of the row, which antt computes.
--- Assumes nothing.
 use mathlib.Core.Path.{sym, ap}
 use mathlib.Core.List.{[], _∷_}
 use native.Mathlib.Omega.{arith}

@@ -1,4 +1,4 @@
--- `choice::lexer::past_spaces` meets its contract: as the loop passes spaces, the tokens left stay the same. Assumes nothing.
+-- `choice::lexer::past_spaces` meets its contract: as the loop passes spaces, the tokens left stay the same.
 use mathlib.Core.Path.{_≡_, refl, _∙_}
 use Prim.Native.Nat.{_≤_, _-_}
 use native.Mathlib.Omega.{arith}

@@ -1,4 +1,4 @@
--- `driver::line::define` meets its contract: the draft behind a definition. Assumes nothing.
+-- `driver::line::define` meets its contract: the draft behind a definition.
 use Rattle.driver.proofs.LineLaws.{define-goes, form-stops}
 use Rattle.driver.specs.Lines.{IsDefine}
 use native.Mathlib.Omega.{arith}

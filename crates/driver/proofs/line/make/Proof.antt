@@ -1,4 +1,4 @@
--- `driver::line::make` meets its contract: what the run of the line's program answers is what its stages make. Assumes nothing.
+-- `driver::line::make` meets its contract: what the run of the line's program answers is what its stages make.
 use Rattle.driver.proofs.RunLaws.{running, one-machine, stages-made, stages-stopped}
 use borrow.Author.Needs.{needs}
 use Rattle.driver.proofs.line.make.Statement.{statement}

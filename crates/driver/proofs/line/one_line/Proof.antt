@@ -1,4 +1,4 @@
--- `driver::line::one_line` meets its contract: a line read, then compiled. Assumes nothing.
+-- `driver::line::one_line` meets its contract: a line read, then compiled.
 use Rattle.driver.proofs.LineLaws.{named, line-defined, line-ruled, line-stops, runs-define, runs-rule}
 use borrow.Author.Needs.{needs}
 use Rattle.driver.proofs.line.one_line.Statement.{statement}

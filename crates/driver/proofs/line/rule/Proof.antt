@@ -1,4 +1,4 @@
--- `driver::line::rule` meets its contract: the draft behind a rule. Assumes nothing.
+-- `driver::line::rule` meets its contract: the draft behind a rule.
 use Rattle.driver.proofs.LineLaws.{rule-goes, form-stops}
 use Rattle.driver.specs.Lines.{IsRule}
 use native.Mathlib.Omega.{arith}

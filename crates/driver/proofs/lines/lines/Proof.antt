@@ -1,5 +1,5 @@
 -- `driver::lines::lines` meets its contract. The loop's invariant: the lines that are left, with the draft that the buffers hold, give what all the lines give. The
--- measure is what is left of the text. Assumes nothing.
+-- measure is what is left of the text.
 use Rattle.driver.proofs.LinesLaws.{Lengths, Reached, reached-start, reached-next, place-next, lines-off, lines-done, lines-none, going-again}
 use Rattle.driver.specs.Lines.{Placed}
 use borrow.Author.Tests.{not-true, not-false}

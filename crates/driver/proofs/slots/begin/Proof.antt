@@ -1,4 +1,4 @@
--- `driver::slots::begin` meets its contract: `.*` is copied into each register. Assumes nothing.
+-- `driver::slots::begin` meets its contract: `.*` is copied into each register.
 use Rattle.driver.proofs.SlotLaws.{registers-begin}
 use borrow.Author.Needs.{needs}
 use Rattle.driver.proofs.slots.begin.Statement.{statement}

@@ -1,4 +1,4 @@
--- `driver::slots::copy` meets its contract. The loop's invariant: the bytes before i are copied. Assumes nothing.
+-- `driver::slots::copy` meets its contract. The loop's invariant: the bytes before i are copied.
 use Rattle.stages.specs.Slot.{Written, written-none, written-more}
 use lib.ListN.{getD}
 use borrow.Author.Needs.{needs}

@@ -1,4 +1,4 @@
--- `driver::slots::store` meets its contract: the name's slot is written, and the other names' slots stay. Assumes nothing.
+-- `driver::slots::store` meets its contract: the name's slot is written, and the other names' slots stay.
 use Rattle.driver.proofs.SlotLaws.{store-low, store-high}
 use Rattle.reader.proofs.SymbolLaws.{name-byte}
 use native.Mathlib.Omega.{arith}

@@ -1,4 +1,4 @@
--- `clear` meets its contract: the first i flags are 0. Assumes nothing.
+-- `clear` meets its contract: the first i flags are 0.
 use Prim.Native.Nat.{_-_, _<_, _≤_}
 use borrow.Author.Fill.{fill-more}
 use borrow.Author.Needs.{needs}

@@ -1,4 +1,4 @@
--- `gather_long` meets its contract: the members before q are listed; what stands behind them is free. Assumes nothing.
+-- `gather_long` meets its contract: the members before q are listed; what stands behind them is free.
 use mathlib.Core.Logic.{⊎-elim}
 use mathlib.Core.Path.{_≡_, refl, _∙_}
 use Prim.Native.Nat.{_-_, _≤_}

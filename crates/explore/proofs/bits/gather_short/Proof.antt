@@ -1,4 +1,4 @@
--- `gather_short` meets its contract: the members before q are listed. Assumes nothing.
+-- `gather_short` meets its contract: the members before q are listed.
 use mathlib.Core.Logic.{⊎-elim}
 use mathlib.Core.Path.{_≡_, refl, ap, _∙_}
 use Prim.Native.Nat.{_-_, _≤_}

@@ -1,4 +1,4 @@
--- `lead` meets its contract. Assumes nothing.
+-- `lead` meets its contract.
 use mathlib.Core.Path.{sym, ap, _∙_}
 use Prim.Native.Nat.{ℕ}
 use native.Mathlib.Omega.{arith}

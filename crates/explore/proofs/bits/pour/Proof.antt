@@ -1,4 +1,4 @@
--- `pour` meets its contract: the flags set so far are those that the members before i lead to. Assumes nothing.
+-- `pour` meets its contract: the flags set so far are those that the members before i lead to.
 use mathlib.Core.Bool.{true}
 use mathlib.Core.Logic.{⊎-elim}
 use mathlib.Core.Path.{_≡_, refl, sym, _∙_}

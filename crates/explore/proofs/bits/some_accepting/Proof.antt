@@ -1,4 +1,4 @@
--- `some_accepting` meets its contract: no state before q is both in the row and accepting. Assumes nothing.
+-- `some_accepting` meets its contract: no state before q is both in the row and accepting.
 use Prim.Native.Nat.{_-_, _≤_}
 use Rattle.explore.proofs.FlagLaws.{accepting-here, NoneYet, none-out, none-no, accepting-none}
 use borrow.Author.Count.{below-more, below-none}

@@ -1,4 +1,4 @@
--- `chase` meets its contract: each turn sets one flag more. Assumes nothing.
+-- `chase` meets its contract: each turn sets one flag more.
 use Prim.Native.Nat.{_-_, _<_}
 use native.Mathlib.Omega.{arith}
 use borrow.Author.Needs.{needs}

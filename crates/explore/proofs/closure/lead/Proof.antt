@@ -1,4 +1,4 @@
--- `lead` meets its contract: the flags set so far are those that the members before i lead to. Assumes nothing.
+-- `lead` meets its contract: the flags set so far are those that the members before i lead to.
 use mathlib.Core.Bool.{true}
 use mathlib.Core.Path.{_≡_, refl}
 use Prim.Native.Nat.{ℕ, _-_, _≤_}

@@ -1,4 +1,4 @@
--- `alike` meets its contract: the states before q lead to the same place by both columns. Assumes nothing.
+-- `alike` meets its contract: the states before q lead to the same place by both columns.
 use Prim.Native.Nat.{ℕ, _-_, _<_, _≤_}
 use Rattle.explore.proofs.RowLaws.{cell-within}
 use Rattle.explore.specs.Steps.{cell}

@@ -1,4 +1,4 @@
--- `first` meets its contract: a column that is as c in both operands is its twin. Assumes nothing.
+-- `first` meets its contract: a column that is as c in both operands is its twin.
 use Prim.Native.Nat.{_-_, _≤_}
 use borrow.Author.Needs.{needs}
 use native.Mathlib.Omega.{arith}

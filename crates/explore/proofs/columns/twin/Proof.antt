@@ -1,4 +1,4 @@
--- `twin` meets its contract. Assumes nothing.
+-- `twin` meets its contract.
 use borrow.Author.Needs.{needs}
 use native.Mathlib.Omega.{arith}
 use Rattle.explore.proofs.columns.twin.Statement.{statement}

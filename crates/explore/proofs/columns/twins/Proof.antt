@@ -1,4 +1,4 @@
--- `twins` meets its contract: the columns before c have their twins, the others none. Assumes nothing.
+-- `twins` meets its contract: the columns before c have their twins, the others none.
 use Prim.Native.Nat.{_-_}
 use borrow.Author.Needs.{needs}
 use Rattle.explore.proofs.TwinLaws.{TwinsTo, twins-none, twins-more, twins-all}

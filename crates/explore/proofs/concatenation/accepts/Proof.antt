@@ -1,4 +1,4 @@
--- `accepts` of a concatenation meets its contract. Assumes nothing.
+-- `accepts` of a concatenation meets its contract.
 use Rattle.explore.proofs.ConcatLaws.{concat-long, concat-flags, concat-accepts}
 use borrow.Author.Needs.{needs}
 use native.Mathlib.Omega.{arith}

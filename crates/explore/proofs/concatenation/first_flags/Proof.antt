@@ -1,4 +1,4 @@
--- `first_flags` of a concatenation meets its contract. Assumes nothing.
+-- `first_flags` of a concatenation meets its contract.
 use mathlib.Core.Path.{ap, _∙_}
 use native.Mathlib.Omega.{arith}
 use lib.ListN.{length}

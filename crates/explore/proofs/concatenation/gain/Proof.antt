@@ -1,4 +1,4 @@
--- `gain` meets its contract. Assumes nothing.
+-- `gain` meets its contract.
 use mathlib.Core.Path.{_∙_}
 use borrow.Author.Needs.{needs}
 use Rattle.explore.proofs.ConcatLaws.{gain-yes, gain-no}

@@ -1,4 +1,4 @@
--- `next` of a concatenation meets its contract. Assumes nothing.
+-- `next` of a concatenation meets its contract.
 use native.Mathlib.Omega.{arith}
 use borrow.Author.Needs.{needs}
 use Rattle.explore.proofs.ConcatLaws.{tail-long, concat-room, concat-tail, concat-long, concat-cell, concat-flag, concat-small, concat-put, concat-asks, concat-next}

@@ -1,4 +1,4 @@
--- `next_flags` of a concatenation meets its contract. Assumes nothing.
+-- `next_flags` of a concatenation meets its contract.
 use mathlib.Core.Path.{ap, _∙_}
 use borrow.Author.Needs.{needs}
 use Rattle.explore.specs.Steps.{withZero}

@@ -1,4 +1,4 @@
--- `start` of a concatenation meets its contract. Assumes nothing.
+-- `start` of a concatenation meets its contract.
 use native.Mathlib.Omega.{arith}
 use borrow.Author.Needs.{needs}
 use Rattle.explore.proofs.ConcatLaws.{tail-long, concat-room, concat-tail, concat-put, concat-start}

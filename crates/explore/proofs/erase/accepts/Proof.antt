@@ -1,4 +1,4 @@
--- `accepts` of an erase meets its contract. Assumes nothing.
+-- `accepts` of an erase meets its contract.
 use Rattle.explore.proofs.EraseLaws.{erase-width, erase-accepts}
 use native.Mathlib.Omega.{arith}
 use Rattle.explore.proofs.erase.accepts.Statement.{statement}

@@ -1,4 +1,4 @@
--- `next` of an erase meets its contract. Assumes nothing.
+-- `next` of an erase meets its contract.
 use mathlib.Core.Path.{sym, ap, _∙_}
 use native.Mathlib.Omega.{arith}
 use lib.ListN.{length}

@@ -1,4 +1,4 @@
--- `start` of an erase meets its contract. Assumes nothing.
+-- `start` of an erase meets its contract.
 use mathlib.Core.Path.{_∙_}
 use native.Mathlib.Omega.{arith}
 use lib.ListN.{length}

@@ -1,4 +1,4 @@
--- `read` meets its contract: both bytes are below 256, so the sum fits. Assumes nothing.
+-- `read` meets its contract: both bytes are below 256, so the sum fits.
 use Prim.Native.Nat.{_+_}
 use borrow.Author.Needs.{needs}
 use native.Mathlib.Omega.{arith}

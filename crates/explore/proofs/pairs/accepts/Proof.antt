@@ -1,4 +1,4 @@
--- `accepts` of a pair meets its contract. Assumes nothing.
+-- `accepts` of a pair meets its contract.
 use Rattle.explore.proofs.PairLaws.{pair-long, left-flag, right-flag, pair-accepts}
 use borrow.Author.Needs.{needs}
 use native.Mathlib.Omega.{arith}

@@ -1,4 +1,4 @@
--- `append` of a pair meets its contract. Assumes nothing.
+-- `append` of a pair meets its contract.
 use borrow.Author.Needs.{needs}
 use Rattle.explore.proofs.PairLaws.{pair-appended}
 use Rattle.explore.proofs.pairs.append.Statement.{statement}

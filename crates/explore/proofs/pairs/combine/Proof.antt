@@ -1,4 +1,4 @@
--- `combine` meets its contract: a case for each branch. Assumes nothing.
+-- `combine` meets its contract: a case for each branch.
 use Rattle.explore.proofs.PairLaws.{answer-either, answer-both, answer-without}
 use Rattle.explore.proofs.pairs.combine.Statement.{statement}
 use Rattle.explore.proofs.pairs.combine.Tie as tie

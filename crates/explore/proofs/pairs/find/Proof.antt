@@ -1,4 +1,4 @@
--- `find` of a pair meets its contract: from `next` on no row is the one looked for. Assumes nothing.
+-- `find` of a pair meets its contract: from `next` on no row is the one looked for.
 use mathlib.Core.Bool.{false≢true}
 use mathlib.Core.Path.{sym, _∙_}
 use Prim.Native.Nat.{_-_}

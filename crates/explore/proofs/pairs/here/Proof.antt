@@ -1,4 +1,4 @@
--- `here` meets its contract: a row of four bytes is told by its two numbers. Assumes nothing.
+-- `here` meets its contract: a row of four bytes is told by its two numbers.
 use mathlib.Core.Bool.{false≢true}
 use mathlib.Core.Path.{sym, _∙_, subst}
 use native.Mathlib.Omega.{arith}

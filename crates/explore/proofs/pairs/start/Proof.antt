@@ -1,4 +1,4 @@
--- `start` of a pair meets its contract. Assumes nothing.
+-- `start` of a pair meets its contract.
 use native.Mathlib.Omega.{arith}
 use borrow.Author.Needs.{needs}
 use Rattle.explore.proofs.PairLaws.{pair-room, pair-start}

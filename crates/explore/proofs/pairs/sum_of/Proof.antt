@@ -1,4 +1,4 @@
--- `sum_of` meets its contract. Assumes nothing.
+-- `sum_of` meets its contract.
 use native.Mathlib.Omega.{arith}
 use borrow.Author.Needs.{needs}
 use Rattle.explore.proofs.PairLaws.{pair-sum}

@@ -1,4 +1,4 @@
--- `append` meets its contract: the copied part is the row at its place. Assumes nothing.
+-- `append` meets its contract: the copied part is the row at its place.
 use Rattle.explore.proofs.RowLaws.{appended}
 use borrow.Author.Needs.{needs}
 use Rattle.explore.proofs.rows.append.Statement.{statement}

@@ -1,4 +1,4 @@
--- `find` meets its contract: from `next` on no row is the one looked for; a row of another chain has another hash. Assumes nothing.
+-- `find` meets its contract: from `next` on no row is the one looked for; a row of another chain has another hash.
 use Prim.Native.Nat.{_-_}
 use Rattle.explore.proofs.HashLaws.{Seeking, pred-suc, seek-first, seek-next}
 use Rattle.explore.proofs.RowLaws.{row-within, row-part}

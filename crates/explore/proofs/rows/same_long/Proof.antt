@@ -1,4 +1,4 @@
--- `same_long` meets its contract: the bytes before i are equal, or `other` is not 0. Assumes nothing.
+-- `same_long` meets its contract: the bytes before i are equal, or `other` is not 0.
 use mathlib.Core.List.{List}
 use mathlib.Core.Logic.{⊎-elim}
 use mathlib.Core.Path.{subst, _≡_, sym, ap, _∙_}

@@ -1,4 +1,4 @@
--- `accepts` of a star meets its contract. Assumes nothing.
+-- `accepts` of a star meets its contract.
 use Rattle.explore.proofs.StarLaws.{star-width, star-accepts}
 use mathlib.Core.Path.{refl}
 use native.Mathlib.Omega.{arith}

@@ -1,4 +1,4 @@
--- `next` of a star meets its contract. Assumes nothing.
+-- `next` of a star meets its contract.
 use mathlib.Core.List.{List}
 use mathlib.Core.Path.{sym, ap, _∙_}
 use Prim.Native.Nat.{ℕ}

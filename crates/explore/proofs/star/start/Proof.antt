@@ -1,4 +1,4 @@
--- `start` of a star meets its contract. Assumes nothing.
+-- `start` of a star meets its contract.
 use mathlib.Core.List.{List}
 use mathlib.Core.Path.{ap, _∙_}
 use Prim.Native.Nat.{ℕ}

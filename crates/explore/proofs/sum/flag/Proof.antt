@@ -1,4 +1,4 @@
--- `flag` meets its contract. Assumes nothing.
+-- `flag` meets its contract.
 use mathlib.Core.Path.{refl}
 use native.Mathlib.Omega.{arith}
 use borrow.Author.Needs.{needs}

@@ -1,4 +1,4 @@
--- `weigh` meets its contract. Assumes nothing.
+-- `weigh` meets its contract.
 use native.Mathlib.Omega.{arith}
 use borrow.Author.Needs.{needs}
 use Rattle.explore.proofs.SumLaws.{weight-small, weight-fits, weight-is}

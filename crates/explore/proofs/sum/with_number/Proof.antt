@@ -1,4 +1,4 @@
--- `with_number` meets its contract. Assumes nothing.
+-- `with_number` meets its contract.
 use mathlib.Core.Path.{ap₂}
 use Prim.Native.Nat.{ℕ, _+_, _*_, _/_, _%_}
 use native.Mathlib.Nat.{mul-le-mul}

@@ -1,4 +1,4 @@
--- `step` meets its contract: a u16 fits. Assumes nothing.
+-- `step` meets its contract: a u16 fits.
 use Prim.Native.Nat.{_+_, _*_}
 use borrow.Author.Needs.{needs}
 use native.Mathlib.Omega.{arith}

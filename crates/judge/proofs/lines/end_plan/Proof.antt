@@ -1,4 +1,4 @@
--- `end_plan` meets its contract. Assumes nothing.
+-- `end_plan` meets its contract.
 use mathlib.Core.Path.{sym}
 use lib.Seq.{length-take-le}
 use mathlib.Core.Logic.{inl, inr}

@@ -1,4 +1,4 @@
--- `feed` meets its contract: the card was tested, and what waits is within the buffer. Assumes nothing.
+-- `feed` meets its contract: the card was tested, and what waits is within the buffer.
 use mathlib.Core.Path.{_≡_, _∙_}
 use Prim.Native.Nat.{_≤_, _-_}
 use native.Mathlib.Omega.{arith}

@@ -1,4 +1,4 @@
--- `finish` meets its contract. Assumes nothing.
+-- `finish` meets its contract.
 use mathlib.Core.Path.{sym}
 use lib.Seq.{length-take-le}
 use borrow.Author.Needs.{needs}

@@ -1,4 +1,4 @@
--- `judge_all` meets its contract: the card was tested, and what waits is within the buffer. Assumes nothing.
+-- `judge_all` meets its contract: the card was tested, and what waits is within the buffer.
 use mathlib.Core.Path.{_≡_, sym, _∙_}
 use Prim.Native.Nat.{_≤_}
 use native.Mathlib.Omega.{arith}

@@ -1,4 +1,4 @@
--- `line_end` meets its contract. Assumes nothing.
+-- `line_end` meets its contract.
 use Prim.Native.Nat.{_≤_, _-_}
 use native.Mathlib.Omega.{arith}
 use lib.ListN.{length}

@@ -1,4 +1,4 @@
--- `answer` meets its contract. Assumes nothing.
+-- `answer` meets its contract.
 use borrow.Author.Needs.{needs}
 use Rattle.judge.proofs.PlanLaws.{answers-ready, answers-refused}
 use Rattle.judge.proofs.plan.answer.Statement.{statement}

@@ -1,4 +1,4 @@
--- `more` meets its contract. Assumes nothing.
+-- `more` meets its contract.
 use borrow.Author.Needs.{needs}
 use Rattle.judge.proofs.PlanLaws.{more-ready, more-refused}
 use Rattle.judge.proofs.plan.more.Statement.{statement}

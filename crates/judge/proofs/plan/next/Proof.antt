@@ -1,4 +1,4 @@
--- `next` meets its contract. Assumes nothing.
+-- `next` meets its contract.
 use borrow.Author.Needs.{needs}
 use Rattle.judge.proofs.PlanLaws.{begins-ready, still-refused}
 use Rattle.judge.proofs.plan.next.Statement.{statement}

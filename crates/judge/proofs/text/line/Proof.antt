@@ -1,4 +1,4 @@
--- `line` meets its contract, answer by answer. Assumes nothing.
+-- `line` meets its contract, answer by answer.
 use native.Mathlib.Omega.{arith}
 use borrow.Author.Needs.{needs}
 use Rattle.judge.proofs.TextLaws.{line-allowed, line-unfinished, line-hopeless, line-refused}

@@ -1,4 +1,4 @@
--- `put` meets its contract: the first i bytes of the text are put. Assumes nothing.
+-- `put` meets its contract: the first i bytes of the text are put.
 use mathlib.Core.Path.{_≡_}
 use Prim.Native.Nat.{_≤_, _-_}
 use native.Mathlib.Omega.{arith}

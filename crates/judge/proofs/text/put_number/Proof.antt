@@ -1,4 +1,4 @@
--- `put_number` meets its contract: a number has at most 20 digits. Assumes nothing.
+-- `put_number` meets its contract: a number has at most 20 digits.
 use native.Mathlib.Omega.{arith}
 use borrow.Author.Needs.{needs}
 use Rattle.judge.proofs.PlanLaws.{digits-few}

@@ -1,4 +1,4 @@
--- `at` meets its contract: an entry of 16 bits fits. Assumes nothing.
+-- `at` meets its contract: an entry of 16 bits fits.
 use native.Mathlib.Omega.{arith}
 use borrow.Author.Needs.{needs}
 use Rattle.minimise.proofs.entries.at.Statement.{statement}

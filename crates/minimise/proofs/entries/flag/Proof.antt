@@ -1,4 +1,4 @@
--- `flag` meets its contract. Assumes nothing.
+-- `flag` meets its contract.
 use mathlib.Core.Path.{sym, _∙_}
 use Rattle.minimise.proofs.EntryLaws.{bit-none, bit-some}
 use borrow.Author.Needs.{needs}

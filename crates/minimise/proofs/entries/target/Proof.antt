@@ -1,4 +1,4 @@
--- `target` meets its contract: the cell lies in the table. Assumes nothing.
+-- `target` meets its contract: the cell lies in the table.
 use native.Mathlib.Omega.{arith}
 use Rattle.minimise.proofs.EntryLaws.{cell-inside, cell-target}
 use Rattle.minimise.proofs.entries.target.Statement.{statement}

@@ -1,4 +1,4 @@
--- `arrive` meets its contract: a class that has a number, a new one, one too many. Assumes nothing.
+-- `arrive` meets its contract: a class that has a number, a new one, one too many.
 use Rattle.minimise.proofs.ArriveLaws.{arrive-old, arrive-new, arrive-full}
 use borrow.Author.Needs.{needs}
 use Rattle.minimise.proofs.number.arrive.Statement.{statement}

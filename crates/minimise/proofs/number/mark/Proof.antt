@@ -1,4 +1,4 @@
--- `mark` meets its contract. The loop: the flags below i are written. Assumes nothing.
+-- `mark` meets its contract. The loop: the flags below i are written.
 use borrow.Author.Needs.{needs}
 use mathlib.Core.Path.{_≡_, refl, ap, _∙_}
 use Prim.Native.Nat.{ℕ, _+_, _-_, _≤_, _<_}

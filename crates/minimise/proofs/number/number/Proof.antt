@@ -1,4 +1,4 @@
--- `number` meets its contract. The loop: i rows are written, and the order is the listing after i turns. Assumes nothing.
+-- `number` meets its contract. The loop: i rows are written, and the order is the listing after i turns.
 use borrow.Author.Needs.{needs}
 use mathlib.Core.Path.{_≡_, refl, _∙_}
 use Prim.Native.Nat.{_-_}

@@ -1,4 +1,4 @@
--- `number_of` meets its contract. Assumes nothing.
+-- `number_of` meets its contract.
 use mathlib.Core.Path.{_∙_}
 use native.Mathlib.Omega.{arith}
 use Rattle.minimise.proofs.ArriveLaws.{number-none}

@@ -1,4 +1,4 @@
--- `row` meets its contract. The loop: the columns below c are written, all that they lead to is in the order, and x is the number of the last one's. Assumes nothing.
+-- `row` meets its contract. The loop: the columns below c are written, all that they lead to is in the order, and x is the number of the last one's.
 use borrow.Author.Needs.{needs}
 use mathlib.Core.Path.{_≡_, refl, sym, _∙_}
 use mathlib.Core.Logic.{⊎-elim}

@@ -1,4 +1,4 @@
--- `adopt` meets its contract. The loop: the entries below i are copied, those from n on are as they were. Assumes nothing.
+-- `adopt` meets its contract. The loop: the entries below i are copied, those from n on are as they were.
 use borrow.Author.Needs.{needs}
 use mathlib.Core.Path.{_≡_, refl, _∙_}
 use Prim.Native.Nat.{ℕ, _+_, _-_, _≤_, _<_}

@@ -1,4 +1,4 @@
--- `agree` meets its contract. Assumes nothing.
+-- `agree` meets its contract.
 use borrow.Author.Needs.{needs}
 use Rattle.minimise.proofs.RoundLaws.{agree-no, agree-yes}
 use Rattle.minimise.proofs.refine.agree.Statement.{statement}

@@ -1,4 +1,4 @@
--- `alike` meets its contract. The loop: the columns passed lead to one class. Assumes nothing.
+-- `alike` meets its contract. The loop: the columns passed lead to one class.
 use borrow.Author.Needs.{needs}
 use mathlib.Core.Path.{_≡_}
 use Prim.Native.Nat.{_+_, _-_, _≤_}

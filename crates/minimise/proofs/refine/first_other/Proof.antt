@@ -1,4 +1,4 @@
--- `first_other` meets its contract: the states before i answer as state 0 does. Assumes nothing.
+-- `first_other` meets its contract: the states before i answer as state 0 does.
 use borrow.Author.Count.{below-more}
 use borrow.Author.Needs.{needs}
 use mathlib.Core.Path.{_≡_, sym, _∙_}

@@ -1,4 +1,4 @@
--- `leader` meets its contract. The loop: r leads a class, and no later leader goes with p; the measure is r, since the links go down. Assumes nothing.
+-- `leader` meets its contract. The loop: r leads a class, and no later leader goes with p; the measure is r, since the links go down.
 use Prim.Native.Nat.{_<_}
 use native.Mathlib.Omega.{arith}
 use lib.ListN.{take}

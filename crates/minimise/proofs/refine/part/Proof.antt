@@ -1,4 +1,4 @@
--- `part` meets its contract: the states before i have their classes. Assumes nothing.
+-- `part` meets its contract: the states before i have their classes.
 use borrow.Author.Needs.{needs}
 use mathlib.Core.Path.{_≡_, _∙_}
 use Prim.Native.Nat.{ℕ, _-_, _≤_, _<_}

@@ -1,4 +1,4 @@
--- `place` meets its contract: the three ways to place a state. Assumes nothing.
+-- `place` meets its contract: the three ways to place a state.
 use Prim.Native.Nat.{_+_}
 use native.Mathlib.Omega.{arith}
 use Rattle.minimise.proofs.RoundLaws.{class-low, place-head, place-joins, place-leads}

@@ -1,4 +1,4 @@
--- `refine` meets its contract. The loop: equivalent states are in one class; the number of classes grows with each turn. Assumes nothing.
+-- `refine` meets its contract. The loop: equivalent states are in one class; the number of classes grows with each turn.
 use borrow.Author.Needs.{needs}
 use mathlib.Core.Path.{_≡_, refl, _∙_}
 use Prim.Native.Nat.{_-_}

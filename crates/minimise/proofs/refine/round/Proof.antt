@@ -1,4 +1,4 @@
--- `round` meets its contract. The loop: the states below p are placed and their leaders counted. Assumes nothing.
+-- `round` meets its contract. The loop: the states below p are placed and their leaders counted.
 use borrow.Author.Needs.{needs}
 use mathlib.Core.Path.{_≡_, refl, _∙_}
 use Prim.Native.Nat.{_-_, _≤_}

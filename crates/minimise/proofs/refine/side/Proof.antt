@@ -1,4 +1,4 @@
--- `side` meets its contract. Assumes nothing.
+-- `side` meets its contract.
 use mathlib.Core.Path.{sym, _∙_}
 use Rattle.minimise.proofs.RefineLaws.{side-same, side-other}
 use borrow.Author.Needs.{needs}

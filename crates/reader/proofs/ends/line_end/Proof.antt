@@ -1,4 +1,4 @@
--- `reader::ends::line_end` meets its contract: no byte passed is a line end. Assumes nothing.
+-- `reader::ends::line_end` meets its contract: no byte passed is a line end.
 use mathlib.Core.Path.{sym, _∙_}
 use Prim.Native.Nat.{_-_, _≤_}
 use native.Mathlib.Omega.{arith}

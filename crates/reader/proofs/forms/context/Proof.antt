@@ -1,4 +1,4 @@
--- `reader::forms::context` meets its contract: each answer is one case of `contextOf`. Assumes nothing.
+-- `reader::forms::context` meets its contract: each answer is one case of `contextOf`.
 use native.Mathlib.Omega.{arith}
 use borrow.Author.Needs.{needs}
 use Rattle.choice.proofs.TokenLaws.{seen-token, seen-end}

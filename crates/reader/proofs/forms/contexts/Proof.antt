@@ -1,4 +1,4 @@
--- `reader::forms::contexts` meets its contract: as the loop passes a context, what is left of the rule's form stays the same. Assumes nothing.
+-- `reader::forms::contexts` meets its contract: as the loop passes a context, what is left of the rule's form stays the same.
 use mathlib.Core.Path.{_≡_, refl, _∙_}
 use Prim.Native.Nat.{_-_}
 use native.Mathlib.Omega.{arith}

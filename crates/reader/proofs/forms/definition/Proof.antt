@@ -1,4 +1,4 @@
--- `reader::forms::definition` meets its contract: each answer is one case of `defineOf`. Assumes nothing.
+-- `reader::forms::definition` meets its contract: each answer is one case of `defineOf`.
 use native.Mathlib.Omega.{arith}
 use borrow.Author.Needs.{needs}
 use Rattle.choice.proofs.TokenLaws.{seen-token, seen-end}

@@ -1,4 +1,4 @@
--- `reader::forms::form` meets its contract, by the kind of the line's first byte. Assumes nothing.
+-- `reader::forms::form` meets its contract, by the kind of the line's first byte.
 use borrow.Author.Needs.{needs}
 use Rattle.reader.proofs.FormLaws.{form-empty, form-neither}
 use Rattle.reader.proofs.forms.form.Statement.{statement}

@@ -1,4 +1,4 @@
--- `reader::forms::put_row` meets its contract: the codes passed stand behind the code so far. Assumes nothing.
+-- `reader::forms::put_row` meets its contract: the codes passed stand behind the code so far.
 use Prim.Native.Nat.{_-_}
 use borrow.Author.Needs.{needs}
 use lib.ListN.{length}

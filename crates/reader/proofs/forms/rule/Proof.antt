@@ -1,4 +1,4 @@
--- `reader::forms::rule` meets its contract: a pattern that is read begins the rule. Assumes nothing.
+-- `reader::forms::rule` meets its contract: a pattern that is read begins the rule.
 use mathlib.Core.Path.{_∙_}
 use native.Mathlib.Omega.{arith}
 use borrow.Author.Needs.{needs}

@@ -1,4 +1,4 @@
--- `reader::head::is_head` meets its contract: each answer is one test of line 1. Assumes nothing.
+-- `reader::head::is_head` meets its contract: each answer is one test of line 1.
 use mathlib.Core.Path.{sym, _∙_}
 use Rattle.reader.proofs.LineLaws.{head-none, head-sign, head-short, head-long, head-rises}
 use borrow.Author.Needs.{needs}

@@ -1,4 +1,4 @@
--- `reader::head::read_head` meets its contract: the tests of the line, then those of line 1. Assumes nothing.
+-- `reader::head::read_head` meets its contract: the tests of the line, then those of line 1.
 use mathlib.Core.Path.{sym, _∙_}
 use Rattle.reader.proofs.LineLaws.{head-tested, head-letters, head-malformed, head-length}
 use borrow.Author.Needs.{needs}

@@ -1,4 +1,4 @@
--- `reader::head::rises` meets its contract: what is left rises above the last letter exactly when the whole rises. Assumes nothing.
+-- `reader::head::rises` meets its contract: what is left rises above the last letter exactly when the whole rises.
 use mathlib.Core.Path.{_≡_, sym, _∙_}
 use Prim.Native.Nat.{_-_}
 use borrow.Author.Needs.{needs}

@@ -1,4 +1,4 @@
--- `reader::line::check` meets its contract: 3 to 7 in their order. Assumes nothing.
+-- `reader::line::check` meets its contract: 3 to 7 in their order.
 use native.Mathlib.Omega.{arith}
 use borrow.Author.Tests.{not-true, not-false}
 use borrow.Author.Needs.{needs}

@@ -1,4 +1,4 @@
--- `reader::line::read_line` meets its contract: the line's own answer, with the place behind its end. Assumes nothing.
+-- `reader::line::read_line` meets its contract: the line's own answer, with the place behind its end.
 use Rattle.reader.proofs.CheckLaws.{next-name, next-rule, next-not}
 use borrow.Author.Needs.{needs}
 use Rattle.reader.proofs.line.read_line.Statement.{statement}

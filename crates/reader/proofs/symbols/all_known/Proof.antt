@@ -1,4 +1,4 @@
--- `reader::symbols::all_known` meets its contract: the codes passed are known. Assumes nothing.
+-- `reader::symbols::all_known` meets its contract: the codes passed are known.
 use Prim.Native.Nat.{_-_}
 use lib.ListN.{length}
 use borrow.Author.Tests.{not-true, not-false}

@@ -1,4 +1,4 @@
--- `reader::symbols::has_letter` meets its contract: the letters passed are others. Assumes nothing.
+-- `reader::symbols::has_letter` meets its contract: the letters passed are others.
 use mathlib.Core.Path.{_≡_, sym, _∙_}
 use Prim.Native.Nat.{_-_}
 use borrow.Author.Needs.{needs}

@@ -1,4 +1,4 @@
--- `reader::symbols::symbol_known` meets its contract, by the kind of the code. Assumes nothing.
+-- `reader::symbols::symbol_known` meets its contract, by the kind of the code.
 use borrow.Author.Needs.{needs}
 use Rattle.reader.proofs.SymbolLaws.{is-name, symbol-letter, symbol-name, symbol-other}
 use Rattle.reader.proofs.symbols.symbol_known.Statement.{statement}

@@ -1,4 +1,4 @@
--- `reader::tests::count` meets its contract: those found and those left are all. Assumes nothing.
+-- `reader::tests::count` meets its contract: those found and those left are all.
 use mathlib.Core.Path.{_≡_}
 use mathlib.Core.Logic.{⊎-elim}
 use Prim.Native.Nat.{_+_, _-_, _≤_}

@@ -1,4 +1,4 @@
--- `reader::tests::line_test` meets its contract: each answer is one test. Assumes nothing.
+-- `reader::tests::line_test` meets its contract: each answer is one test.
 use mathlib.Core.Path.{sym, ap, _∙_}
 use native.Mathlib.Omega.{arith}
 use Rattle.reader.proofs.LineLaws.{test-deep, test-contexts, test-end}

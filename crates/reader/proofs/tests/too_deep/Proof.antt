@@ -1,4 +1,4 @@
--- `reader::tests::too_deep` meets its contract: the test of what is left, with the counts so far, is the test of the whole. Assumes nothing.
+-- `reader::tests::too_deep` meets its contract: the test of what is left, with the counts so far, is the test of the whole.
 use mathlib.Core.Path.{_≡_, sym, _∙_}
 use Prim.Native.Nat.{_-_, _≤_}
 use native.Mathlib.Omega.{arith}

@@ -1,4 +1,4 @@
--- `columns` meets its contract: the table has the columns of the letters from i on. Assumes nothing.
+-- `columns` meets its contract: the table has the columns of the letters from i on.
 use Prim.Native.Nat.{_≤_, _-_}
 use native.Mathlib.Omega.{arith}
 use lib.ListN.{length}

@@ -1,4 +1,4 @@
--- `stages::given::all` meets its contract. Assumes nothing.
+-- `stages::given::all` meets its contract.
 use Rattle.stages.specs.GivenSlots.{all-holds}
 use borrow.Author.Needs.{needs}
 use Rattle.stages.proofs.given.all.Statement.{statement}

@@ -1,4 +1,4 @@
--- `stages::given::dot` meets its contract. Assumes nothing.
+-- `stages::given::dot` meets its contract.
 use Rattle.stages.specs.GivenSlots.{dot-holds}
 use borrow.Author.Needs.{needs}
 use Rattle.stages.proofs.given.dot.Statement.{statement}

@@ -1,4 +1,4 @@
--- `stages::given::empty` meets its contract. Assumes nothing.
+-- `stages::given::empty` meets its contract.
 use Rattle.stages.specs.GivenSlots.{empty-holds}
 use borrow.Author.Needs.{needs}
 use Rattle.stages.proofs.given.empty.Statement.{statement}

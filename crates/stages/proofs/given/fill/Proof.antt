@@ -1,4 +1,4 @@
--- `stages::given::fill` meets its contract. Assumes nothing.
+-- `stages::given::fill` meets its contract.
 use mathlib.Core.Path.{_≡_, refl}
 use Prim.Native.Nat.{_-_, _≤_}
 use native.Mathlib.Omega.{arith}

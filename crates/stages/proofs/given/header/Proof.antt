@@ -1,4 +1,4 @@
--- `stages::given::header` meets its contract. Assumes nothing.
+-- `stages::given::header` meets its contract.
 use native.Mathlib.Omega.{arith}
 use lib.ListN.{length-set}
 use Rattle.stages.specs.GivenSlots.{header-written}

@@ -1,4 +1,4 @@
--- `stages::given::letter` meets its contract. Assumes nothing.
+-- `stages::given::letter` meets its contract.
 use Rattle.stages.specs.GivenSlots.{letter-holds}
 use borrow.Author.Needs.{needs}
 use Rattle.stages.proofs.given.letter.Statement.{statement}

@@ -1,4 +1,4 @@
--- `stages::given::many_signs` meets its contract. Assumes nothing.
+-- `stages::given::many_signs` meets its contract.
 use Rattle.stages.specs.GivenSlots.{many-holds}
 use borrow.Author.Needs.{needs}
 use Rattle.stages.proofs.given.many_signs.Statement.{statement}

@@ -1,4 +1,4 @@
--- `stages::given::one_sign` meets its contract. Assumes nothing.
+-- `stages::given::one_sign` meets its contract.
 use mathlib.Core.Path.{refl}
 use mathlib.Core.Logic.{inl, inr}
 use Rattle.stages.specs.GivenSlots.{one-holds}

@@ -1,4 +1,4 @@
--- `stages::given::signs` meets its contract. Assumes nothing.
+-- `stages::given::signs` meets its contract.
 use native.Mathlib.Omega.{arith}
 use Rattle.stages.specs.GivenSlots.{room-columns, signs-written}
 use borrow.Author.Needs.{needs}

@@ -1,4 +1,4 @@
--- `stages::keep::keep` meets its contract. Assumes nothing.
+-- `stages::keep::keep` meets its contract.
 use mathlib.Core.Path.{refl}
 use Prim.Native.Nat.{_+_, _*_}
 use native.Mathlib.Omega.{arith}

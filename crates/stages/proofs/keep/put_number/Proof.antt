@@ -1,4 +1,4 @@
--- `stages::keep::put_number` meets its contract. Assumes nothing.
+-- `stages::keep::put_number` meets its contract.
 use native.Mathlib.Omega.{arith}
 use lib.ListN.{length-set}
 use borrow.Author.Needs.{needs}

@@ -1,4 +1,4 @@
--- `stages::slot::load` meets its contract. Assumes nothing.
+-- `stages::slot::load` meets its contract.
 use native.Mathlib.Omega.{arith}
 use Rattle.stages.specs.Slot.{slot-cells, loaded}
 use borrow.Author.Needs.{needs}

@@ -1,4 +1,4 @@
--- `stages::slot::number` meets its contract. Assumes nothing.
+-- `stages::slot::number` meets its contract.
 use native.Mathlib.Omega.{arith}
 use Prim.Native.Nat.{_+_}
 use borrow.Author.Needs.{needs}

@@ -1,4 +1,4 @@
--- `stages::slot::unpack` meets its contract. Assumes nothing.
+-- `stages::slot::unpack` meets its contract.
 use mathlib.Core.Path.{_≡_, refl, _∙_}
 use native.Mathlib.Omega.{arith}
 use lib.ListN.{drop}

@@ -1,4 +1,4 @@
--- `stages::stage::reach` meets its contract. Assumes nothing.
+-- `stages::stage::reach` meets its contract.
 use mathlib.Core.Path.{sym}
 use Prim.Native.Nat.{ℕ, _≤_}
 use native.Mathlib.Omega.{arith}

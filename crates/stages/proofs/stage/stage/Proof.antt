@@ -1,4 +1,4 @@
--- `stages::stage::stage` meets its contract. Assumes nothing.
+-- `stages::stage::stage` meets its contract.
 use native.Mathlib.Omega.{arith}
 use Rattle.stages.specs.StageLaws.{ready-columns, ready-load, ready-reach, ready-keep, done-many, done-large, done-made}
 use borrow.Author.Needs.{needs}

@@ -1,4 +1,4 @@
--- `stages::stage::width` meets its contract. Assumes nothing.
+-- `stages::stage::width` meets its contract.
 use Prim.Native.Nat.{_≤_}
 use native.Mathlib.Numerals.{add-one}
 use native.Mathlib.Omega.{arith}

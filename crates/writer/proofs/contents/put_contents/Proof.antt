@@ -1,4 +1,4 @@
--- `put_contents` meets its contract: six numbers, one behind the other. Assumes nothing.
+-- `put_contents` meets its contract: six numbers, one behind the other.
 use borrow.Author.Needs.{needs}
 use Rattle.writer.proofs.LaidLaws.{laid-contents}
 use Rattle.writer.proofs.contents.put_contents.Statement.{statement}

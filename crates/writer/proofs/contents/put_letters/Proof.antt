@@ -1,4 +1,4 @@
--- `put_letters` meets its contract: the letters below i are laid down. Assumes nothing.
+-- `put_letters` meets its contract: the letters below i are laid down.
 use mathlib.Core.Path.{_≡_, refl}
 use Prim.Native.Nat.{_+_, _≤_, _-_}
 use native.Mathlib.Omega.{arith}

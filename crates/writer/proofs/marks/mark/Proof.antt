@@ -1,4 +1,4 @@
--- `mark` meets its contract: the letters below c lead back to the state. Assumes nothing.
+-- `mark` meets its contract: the letters below c lead back to the state.
 use mathlib.Core.Path.{sym, _∙_}
 use Prim.Native.Nat.{_≤_, _-_}
 use native.Mathlib.Omega.{arith}

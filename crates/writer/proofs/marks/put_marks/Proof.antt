@@ -1,4 +1,4 @@
--- `put_marks` meets its contract: the marks bytes of the states below i are laid down. Assumes nothing.
+-- `put_marks` meets its contract: the marks bytes of the states below i are laid down.
 use mathlib.Core.Path.{_≡_}
 use Prim.Native.Nat.{_+_, _≤_, _-_}
 use native.Mathlib.Omega.{arith}

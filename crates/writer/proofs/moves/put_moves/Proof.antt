@@ -1,4 +1,4 @@
--- `put_moves` meets its contract: the rows of the states below i are laid down. Assumes nothing.
+-- `put_moves` meets its contract: the rows of the states below i are laid down.
 use mathlib.Core.Path.{_≡_}
 use Prim.Native.Nat.{_+_, _*_, _≤_, _-_}
 use native.Mathlib.Nat.{zero-mul}

@@ -1,4 +1,4 @@
--- `put_row` meets its contract: the moves of the letters below c are laid down. Assumes nothing.
+-- `put_row` meets its contract: the moves of the letters below c are laid down.
 use mathlib.Core.Path.{_≡_, ap}
 use Prim.Native.Nat.{_+_, _≤_, _-_}
 use native.Mathlib.Omega.{arith}

@@ -1,4 +1,4 @@
--- `arrive` meets its contract. Assumes nothing.
+-- `arrive` meets its contract.
 use mathlib.Core.Path.{sym, _∙_}
 use mathlib.Core.Logic.{⊎-elim}
 use native.Mathlib.Omega.{arith}

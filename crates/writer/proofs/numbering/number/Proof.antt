@@ -1,4 +1,4 @@
--- `number` meets its contract: after i turns the order is the listing of i turns. Assumes nothing.
+-- `number` meets its contract: after i turns the order is the listing of i turns.
 use Prim.Native.Nat.{_-_}
 use native.Mathlib.Omega.{arith}
 use borrow.Author.Needs.{needs}

@@ -1,4 +1,4 @@
--- `row` meets its contract: what the letters below c lead to has numbers. Assumes nothing.
+-- `row` meets its contract: what the letters below c lead to has numbers.
 use mathlib.Core.Path.{_≡_}
 use Prim.Native.Nat.{_≤_, _-_}
 use native.Mathlib.Omega.{arith}

@@ -1,4 +1,4 @@
--- `choice::lexer::Cursor::next` meets its contract: where the spaces end, a token stands, or the bytes end. Assumes nothing.
+-- `choice::lexer::Cursor::next` meets its contract: where the spaces end, a token stands, or the bytes end.
 use mathlib.Core.Path.{sym, _∙_}
 use native.Mathlib.Omega.{arith}
 use borrow.Author.Needs.{needs}

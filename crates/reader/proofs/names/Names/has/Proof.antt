@@ -1,4 +1,4 @@
--- `reader::names::Names::has` meets its contract: a name is a byte A to Z. Assumes nothing.
+-- `reader::names::Names::has` meets its contract: a name is a byte A to Z.
 use native.Mathlib.Omega.{arith}
 use Rattle.reader.proofs.SymbolLaws.{name-byte}
 use borrow.Author.Needs.{needs}

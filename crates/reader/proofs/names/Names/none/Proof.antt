@@ -1,4 +1,4 @@
--- `reader::names::Names::none` meets its contract: no flag is set. Assumes nothing.
+-- `reader::names::Names::none` meets its contract: no flag is set.
 use mathlib.Core.Path.{refl}
 use Rattle.reader.proofs.SymbolLaws.{holds-none}
 use Rattle.reader.proofs.names.Names.none.Statement.{statement}

@@ -1,4 +1,4 @@
--- `reader::names::Names::with` meets its contract: one flag more is set. Assumes nothing.
+-- `reader::names::Names::with` meets its contract: one flag more is set.
 use mathlib.Core.Path.{refl}
 use native.Mathlib.Omega.{arith}
 use Rattle.reader.proofs.SymbolLaws.{name-byte, holds-more}
