@@ -26,7 +26,9 @@ typedef struct {
 } Texts;
 
 Texts read_texts(const char *folder); // the books of a folder, by name
-Texts large_texts(void);              // those made here
+Texts large_texts(void);              // those made here, as long as a text may be
+Texts seeded_texts(void);             // those made here from a seed
+void refine_by(int method);           // how plain C refines classes from now on
 Texts find_text(const char *folder, const char *name);
 
 Compiled product_compile(const Text *text, uint8_t *card);
@@ -47,16 +49,15 @@ typedef struct {
     double median, best;
 } Time; // nanoseconds for one run
 
-enum { MOST_ACTIONS = 3 };
+enum { MOST_ACTIONS = 5 };
 
 typedef struct {
     Time time[MOST_ACTIONS];
-    Time first, second; // the product, and the quicker of the others
+    Time first, second; // the product, and the quickest of the others
     int samples;
     long runs; // in each sample
 } Times;
 
-Times time_all(const Action *act, int count, void *with, double seconds, int most);
 Times time_both(Action product, Action twin, Action second, void *with, double seconds, int most);
 double now(void);
 
@@ -69,6 +70,9 @@ typedef struct {
     size_t letters;
     uint64_t out[3];
 } Judging;
+
+int seeded_cards(void); // how many there are
+void seeded_card(int i, Judging *j);
 
 Times time_load(Judging *j, double seconds, int most);
 Times time_judge(Judging *j, double seconds, int most);

@@ -57,14 +57,25 @@ static void line(const char *what, const Judging *j, size_t letters, Times x) {
     fflush(stdout);
 }
 
-static int same(Judging *j, Action product, Action twin) {
+static int same_by(Judging *j, Action product, Action twin, int method) {
     uint64_t p[3];
     product(j);
     memcpy(p, j->out, sizeof p);
+    refine_by(method);
     twin(j);
+    refine_by(ROUNDS);
     if (memcmp(p, j->out, sizeof p) == 0) return 1;
     printf("differs: %s: product %lu %lu %lu; C %lu %lu %lu\n", j->name, p[0], p[1], p[2], j->out[0], j->out[1], j->out[2]);
     return 0;
+}
+
+static int same(Judging *j, Action product, Action twin) { return same_by(j, product, twin, ROUNDS) && same_by(j, product, twin, HOPCROFT); }
+
+// Loading alone.
+static int load_only(Judging *j, double seconds) {
+    int differ = !same(j, load_product, load_twin);
+    if (seconds > 0) line("load", j, 0, time_load(j, seconds, 2001));
+    return differ;
 }
 
 static int one_card(Judging *j, double seconds) {
@@ -73,8 +84,7 @@ static int one_card(Judging *j, double seconds) {
     int differ = 0;
     make_plan(j, plan, sizeof plan);
     j->plan = plan;
-    differ += !same(j, load_product, load_twin);
-    if (seconds > 0) line("load", j, 0, time_load(j, seconds, 2001));
+    differ += load_only(j, seconds);
     for (int i = 0; i < 3; i++) {
         j->letters = lengths[i];
         differ += !same(j, judge_product, judge_twin);
@@ -112,6 +122,13 @@ int board_both(const char *folder, double seconds, int *compared) {
     for (size_t i = 0; i < sizeof names / sizeof *names; i++) {
         Texts t = find_text(folder, names[i]);
         if (t.count && from_text(&j, names[i], t.text->text, t.text->length)) differ += one_card(&j, seconds), *compared += 4;
+    }
+    Texts seeded = seeded_texts();
+    for (int i = 0; i < seeded.count; i++)
+        if (from_text(&j, seeded.text[i].name, seeded.text[i].text, seeded.text[i].length)) differ += load_only(&j, seconds), *compared += 1;
+    for (int i = 0; i < seeded_cards(); i++) {
+        seeded_card(i, &j);
+        differ += load_only(&j, seconds), *compared += 1;
     }
     return differ;
 }

@@ -41,10 +41,15 @@ static int same_as(const Text *text, Compiled (*other)(const Text *, uint8_t *))
 }
 
 static int same(const Text *text) {
-    int equal = same_as(text, twin_compile);
+    int equal = 1;
+    for (int method = ROUNDS; method <= HOPCROFT; method++) {
+        refine_by(method);
+        equal &= same_as(text, twin_compile);
 #ifdef WITH_SECOND
-    equal &= same_as(text, second_twin);
+        equal &= same_as(text, second_twin);
 #endif
+    }
+    refine_by(ROUNDS);
     return equal;
 }
 

@@ -4,10 +4,12 @@
 #include <stdlib.h>
 #include <string.h>
 
+enum { SETS = 3 };
+
 static int check(const char *folder) {
-    Texts sets[2] = {read_texts(folder), large_texts()};
+    Texts sets[SETS] = {read_texts(folder), large_texts(), seeded_texts()};
     int differ = 0, all = 0;
-    for (int s = 0; s < 2; s++) {
+    for (int s = 0; s < SETS; s++) {
         differ += same_cards(&sets[s]);
         all += sets[s].count;
     }
@@ -17,8 +19,8 @@ static int check(const char *folder) {
 }
 
 static int compile_all(const char *folder, double seconds) {
-    Texts sets[2] = {read_texts(folder), large_texts()};
-    for (int s = 0; s < 2; s++) {
+    Texts sets[SETS] = {read_texts(folder), seeded_texts(), large_texts()};
+    for (int s = 0; s < SETS; s++) {
         if (same_cards(&sets[s])) return 1;
         compile_times(&sets[s], seconds);
     }

@@ -96,8 +96,8 @@ Texts large_texts(void) {
 }
 
 Texts find_text(const char *folder, const char *name) {
-    Texts sets[2] = {read_texts(folder), large_texts()};
-    for (int s = 0; s < 2; s++)
+    Texts sets[3] = {read_texts(folder), large_texts(), seeded_texts()};
+    for (int s = 0; s < 3; s++)
         for (int i = 0; i < sets[s].count; i++)
             if (strcmp(sets[s].text[i].name, name) == 0) return (Texts){1, &sets[s].text[i]};
     return (Texts){0, 0};

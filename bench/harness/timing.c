@@ -27,12 +27,29 @@ static Time sum_up(double *times, int n) {
     return (Time){times[n / 2], times[0]};
 }
 
-Times time_all(const Action *act, int count, void *with, double seconds, int most) {
+#ifdef WITH_SECOND
+extern int second_method;
+#endif
+
+void refine_by(int method) {
+    plain_method = method;
+#ifdef WITH_SECOND
+    second_method = method;
+#endif
+}
+
+typedef struct {
+    Action act;
+    int method;
+} Timed;
+
+static Times time_all(const Timed *timed, int count, void *with, double seconds, int most) {
     static double times[MOST_ACTIONS][SAMPLES];
     double single = 0;
     for (int a = 0; a < count; a++) {
-        double t = sample(act[a], with, 1);
-        if (t < 1e8) t = sample(act[a], with, 1); // the first was to warm up
+        refine_by(timed[a].method);
+        double t = sample(timed[a].act, with, 1);
+        if (t < 1e8) t = sample(timed[a].act, with, 1); // the first was to warm up
         if (t > single) single = t;
     }
     const int least = single > 2e9 ? 3 : 5;
@@ -43,19 +60,23 @@ Times time_all(const Action *act, int count, void *with, double seconds, int mos
     for (; n < most && (n < least || now() < end); n++)
         for (int a = 0; a < count; a++) {
             int turn = (a + n) % count; // each goes first in its turn
-            times[turn][n] = sample(act[turn], with, runs);
+            refine_by(timed[turn].method);
+            times[turn][n] = sample(timed[turn].act, with, runs);
         }
+    refine_by(ROUNDS);
     Times out = {.samples = n, .runs = runs};
     for (int a = 0; a < count; a++) out.time[a] = sum_up(times[a], n);
     return out;
 }
 
-// The product first, then plain C by each compiler: of these the quicker one.
+// The product first, then plain C by each compiler and each way to refine: of these the quickest one.
 Times time_both(Action product, Action twin, Action second, void *with, double seconds, int most) {
-    const Action act[] = {product, twin, second};
-    Times x = time_all(act, second ? 3 : 2, with, seconds, most);
+    const Timed timed[MOST_ACTIONS] = {{product, ROUNDS}, {twin, ROUNDS}, {twin, HOPCROFT}, {second, ROUNDS}, {second, HOPCROFT}};
+    const int count = second ? 5 : 3;
+    Times x = time_all(timed, count, with, seconds, most);
     x.first = x.time[0];
     x.second = x.time[1];
-    if (second && x.time[2].median < x.second.median) x.second = x.time[2];
+    for (int a = 2; a < count; a++)
+        if (x.time[a].median < x.second.median) x.second = x.time[a];
     return x;
 }

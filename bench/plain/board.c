@@ -56,9 +56,11 @@ static int numbered(const Card *c) {
 static int marked(const Card *c) {
     uint8_t live[MOST_STATES];
     for (int p = 0; p < c->n; p++) live[p] = c->marks[p] == 1;
-    for (int changed = 1; changed;) {
+    // Downward and upward in turn: states that are far from the end may lie on either side.
+    for (int changed = 1, up = 0; changed; up = !up) {
         changed = 0;
-        for (int p = c->n; p-- > 0;) {
+        for (int turn = 0; turn < c->n; turn++) {
+            int p = up ? turn : c->n - 1 - turn;
             if (live[p]) continue;
             const uint8_t *row = &c->moves[p * c->m];
             for (int i = 0; i < c->m; i++)
@@ -95,6 +97,7 @@ static int split(int n, const uint8_t *class, const uint8_t *key, uint8_t *fresh
 
 // Partition refinement, one column at a time, each as long as it splits, until every state is alone or no column splits.
 static int reduced(const Card *c) {
+    if (plain_method == HOPCROFT) return plain_hopcroft(c->n, c->m, c->moves, 0, c->marks, c->n, 0) == c->n;
     uint8_t one[MOST_STATES] = {0}, two[MOST_STATES], key[MOST_STATES], *class = one, *fresh = two;
     for (int p = 0; p < c->n; p++) key[p] = c->marks[p] == 1;
     int count = split(c->n, class, key, fresh);

@@ -7,13 +7,14 @@ static void put16(uint8_t *at, size_t n) {
     at[1] = (uint8_t)(n >> 8);
 }
 
-// Marks 0 become 2 where no state that may end is ahead: rounds back along the moves.
+// Marks 0 become 2 where no state that may end is ahead: rounds back along the moves, downward and upward in turn.
 static void mark_dead(uint8_t *marks, const uint8_t *moves, int n, int m) {
     uint8_t live[MOST_STATES];
     for (int p = 0; p < n; p++) live[p] = marks[p];
-    for (int changed = 1; changed;) {
+    for (int changed = 1, up = 0; changed; up = !up) {
         changed = 0;
-        for (int p = n; p-- > 0;) {
+        for (int turn = 0; turn < n; turn++) {
+            int p = up ? turn : n - 1 - turn;
             if (live[p]) continue;
             for (int i = 0; i < m; i++)
                 if (live[moves[p * m + i]]) {

@@ -1,4 +1,4 @@
-// Partition refinement after Moore: in each round a state's signature is its own class and those that its columns lead to, laid out as a row of words;
+// The smallest machine of a table. Partition refinement after Moore, or after Hopcroft (hopcroft.c): in each of Moore's rounds a state's signature is its own class and those that its columns lead to, laid out as a row of words;
 // equal rows are found by hashing. States alone in their class are left as they are. The classes are then numbered by first arrival.
 #include "plain.h"
 #include <string.h>
@@ -75,13 +75,12 @@ static void adopt(Refinement *r, int count) {
     }
 }
 
-int plain_minimise(int n, int k, const uint16_t *next, const uint8_t *accepting, Machine *out) {
-    static Refinement refinement;
-    Refinement *r = &refinement;
-    r->n = n;
-    r->k = k;
-    r->words = (k + 4) / 4;
-    r->next = next;
+int plain_method = ROUNDS;
+
+// Rounds until one finds no more classes; false where there are over 120.
+static int rounds(Refinement *r, const uint8_t *accepting, int *classes) {
+    int n = r->n;
+    r->words = (r->k + 4) / 4;
     for (int p = 0; p < n; p++) r->fresh[p] = accepting[p];
     adopt(r, 2);
     int count = 0;
@@ -89,6 +88,35 @@ int plain_minimise(int n, int k, const uint16_t *next, const uint8_t *accepting,
         if (parts > MOST_STATES) return 0; // classes only grow in number
         adopt(r, parts);
     }
+    *classes = count;
+    return 1;
+}
+
+// Hopcroft's classes, numbered by their first states.
+static int partition(Refinement *r, const uint8_t *accepting, int *classes) {
+    int count = 0;
+    if (plain_hopcroft(r->n, r->k, r->next, 1, accepting, MOST_STATES, r->fresh) > MOST_STATES) return 0;
+    memset(r->size, 0, sizeof *r->size * (size_t)r->n);
+    for (int p = 0; p < r->n; p++) {
+        uint16_t *number = &r->size[r->fresh[p]]; // one more than the class's number
+        if (!*number) {
+            r->leader[count] = (uint16_t)p;
+            *number = (uint16_t)++count;
+        }
+        r->class[p] = (uint16_t)(*number - 1);
+    }
+    *classes = count;
+    return 1;
+}
+
+int plain_minimise(int n, int k, const uint16_t *next, const uint8_t *accepting, Machine *out) {
+    static Refinement refinement;
+    Refinement *r = &refinement;
+    int count;
+    r->n = n;
+    r->k = k;
+    r->next = next;
+    if (!(plain_method == HOPCROFT ? partition : rounds)(r, accepting, &count)) return 0;
     // A table's states are numbered by first arrival, so its classes are too, each by its first state.
     for (int d = 0; d < count; d++) {
         int p = r->leader[d];

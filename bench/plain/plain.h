@@ -15,6 +15,8 @@
 #define plain_load second_load
 #define plain_judge second_judge
 #define plain_walk second_walk
+#define plain_hopcroft second_hopcroft
+#define plain_method second_method
 #endif
 
 enum { MOST_TEXT = 16384, MOST_SETS = 512, MOST_STATES = 120, MOST_COLUMNS = 27 };
@@ -44,6 +46,14 @@ int plain_stage(int op, int k, const Machine *a, const Machine *b, Machine *out)
 
 // The smallest machine of a table of n states, k columns, numbered by first arrival; false where it has over 120 states.
 int plain_minimise(int n, int k, const uint16_t *next, const uint8_t *accepting, Machine *out);
+
+// How classes are refined, in minimising and in the card's test: by rounds over all states, or after Hopcroft. The benchmark times both.
+enum { ROUNDS, HOPCROFT };
+extern int plain_method;
+
+// The classes of equivalent states, of a table of bytes or of 16-bit numbers; a state accepts where its byte is 1. The number of classes, or most + 1 as soon
+// as there are more. class may be 0.
+int plain_hopcroft(int n, int k, const void *next, int wide, const uint8_t *accepting, int most, uint16_t *class);
 
 // The card of a book's machine; 0 where the room is too short.
 size_t plain_card(const Machine *book, const uint8_t *letters, int m, uint8_t *card, size_t room);

@@ -1,0 +1,193 @@
+// Books and cards made from a seed, so that nothing is tuned to one text: listed words, complements in brackets, random rows of letters, words that
+// collapse; counters that go up and down, random machines that are already smallest, machines with few classes.
+#include "bench.h"
+#include <stdio.h>
+#include <stdlib.h>
+#include <string.h>
+
+#define ALPHABET "abcdefghijklmnopqrstuvwxyz"
+
+static uint32_t state;
+
+static void begin_seed(uint32_t salt) {
+    const char *given = getenv("PIER_SEED");
+    state = 2463534242u ^ (given ? (uint32_t)strtoul(given, 0, 10) * 2654435761u : 0) ^ salt * 40503u;
+    if (!state) state = 1;
+}
+
+static int below(int n) {
+    state ^= state << 13, state ^= state >> 17, state ^= state << 5;
+    return (int)((state >> 8) % (uint32_t)n);
+}
+
+static char letter(int m) { return (char)('a' + below(m)); }
+
+// So many different words of three letters, each with a first letter of its own.
+static void words(char *out) {
+    char w[8];
+    *out = 0;
+    for (int i = 0; i < 26; i++) {
+        snprintf(w, sizeof w, "%s%c%c%c", i ? "|" : "", 'a' + i, letter(26), letter(26));
+        strcat(out, w);
+    }
+}
+
+static void listed_words(char *out, int size) {
+    char first[128], second[128];
+    (void)size;
+    words(first);
+    words(second);
+    sprintf(out, ":" ALPHABET "\n>%s\n>%s / .*%c _ .*\n", first, second, letter(26));
+}
+
+static void complements(char *out, int size) {
+    out += sprintf(out, ":abcdef\n");
+    for (int i = 0; i < 3; i++) {
+        char a = letter(size), b = letter(size), c = letter(size), d = letter(size), e = letter(size);
+        out += sprintf(out, ">(%c%c|%c(!(.*%c.*)&..)%c) / (!(.*%c%c.*)) _ (!(%c.*))\n", a, b, b, c, d, c, e, d);
+    }
+}
+
+static void row(char *out, int size) {
+    out += sprintf(out, ":" ALPHABET "\n>");
+    for (int i = 0; i < size; i++) *out++ = letter(26);
+    strcpy(out, "\n");
+}
+
+// All words of three letters out of so many, in some order: three letters in a row are too many.
+static void collapsing(char *out, int size) {
+    int word[216], count = size * size * size;
+    for (int i = 0; i < count; i++) word[i] = i;
+    out += sprintf(out, ":%.*s\n>", size, ALPHABET);
+    for (int i = count; i-- > 0;) {
+        int j = below(i + 1), w = word[j];
+        word[j] = word[i];
+        out += sprintf(out, "%c%c%c%s", 'a' + w % size, 'a' + w / size % size, 'a' + w / size / size, i ? "|" : "\n");
+    }
+}
+
+typedef struct {
+    const char *name;
+    void (*make)(char *out, int size);
+    int size;
+} Shape;
+
+static const Shape shapes[] = {
+    {"listed-words-26", listed_words, 0}, {"complements-6", complements, 6}, {"row-10", row, 10},      {"row-40", row, 40},
+    {"row-110", row, 110},                {"collapsing-3", collapsing, 3},   {"collapsing-5", collapsing, 5},
+};
+
+// The first of the seed's texts that is accepted.
+Texts seeded_texts(void) {
+    static uint8_t card[CARD];
+    Texts out = {0, calloc(sizeof shapes / sizeof *shapes, sizeof(Text))};
+    for (size_t i = 0; i < sizeof shapes / sizeof *shapes; i++) {
+        Text *t = &out.text[out.count++];
+        snprintf(t->name, sizeof t->name, "%s", shapes[i].name);
+        begin_seed((uint32_t)i);
+        do {
+            shapes[i].make((char *)t->text, shapes[i].size);
+            t->length = strlen((char *)t->text);
+        } while (plain_compile(t->text, t->length, card, CARD).number);
+    }
+    return out;
+}
+
+// ---- cards
+
+typedef struct {
+    int n, m;
+    uint8_t accepting[MOST_SETS];
+    uint16_t next[MOST_SETS * 26];
+} Table;
+
+// The table's states that are reached, numbered by first arrival; the mark's column repeats the first one.
+static int arrivals(const Table *t, uint16_t *next, uint8_t *accepting) {
+    static uint16_t order[MOST_SETS], number[MOST_SETS];
+    int n = 1, k = t->m + 1;
+    memset(number, 255, sizeof number);
+    order[0] = number[0] = 0;
+    for (int i = 0; i < n; i++) {
+        accepting[i] = t->accepting[order[i]];
+        for (int c = 0; c < t->m; c++) {
+            int q = t->next[order[i] * t->m + c];
+            if (number[q] == 65535) order[n] = (uint16_t)q, number[q] = (uint16_t)n++;
+            next[i * k + c] = number[q];
+        }
+        next[i * k + t->m] = next[i * k];
+    }
+    return n;
+}
+
+// The card of the table's machine, its smallest one or the machine as it is.
+static int card_of(const Table *t, int smallest, Judging *j) {
+    static uint16_t next[MOST_SETS * MOST_COLUMNS];
+    static uint8_t accepting[MOST_SETS];
+    static Machine machine;
+    int n = arrivals(t, next, accepting), k = t->m + 1;
+    if (!smallest && n <= MOST_STATES) {
+        machine.n = n;
+        memcpy(machine.accepting, accepting, (size_t)n);
+        for (int i = 0; i < n * k; i++) machine.next[i] = (uint8_t)next[i];
+    } else if (!plain_minimise(n, k, next, accepting, &machine)) {
+        return 0;
+    }
+    j->length = plain_card(&machine, (const uint8_t *)ALPHABET, t->m, j->card, CARD);
+    return machine.n;
+}
+
+// By a one up, by b one down, the other letters stay; the day may end where it began.
+static void up_and_down(Table *t, int n) {
+    t->n = n;
+    for (int p = 0; p < n; p++) {
+        t->accepting[p] = p == 0;
+        for (int c = 0; c < t->m; c++) t->next[p * t->m + c] = (uint16_t)(c == 0 ? (p + 1 < n ? p + 1 : p) : c == 1 ? (p ? p - 1 : 0) : p);
+    }
+}
+
+static void random_table(Table *t, int n) {
+    t->n = n;
+    for (int p = 0; p < n; p++) {
+        t->accepting[p] = (uint8_t)below(2);
+        for (int c = 0; c < t->m; c++) t->next[p * t->m + c] = (uint16_t)below(n);
+    }
+}
+
+// A random machine of five states, each of them many times over.
+static void few_classes(Table *t, int n) {
+    int lead[5 * 26], many = n / 5;
+    for (int i = 0; i < 5 * t->m; i++) lead[i] = below(5);
+    t->n = 5 * many;
+    for (int p = 0; p < t->n; p++) {
+        t->accepting[p] = p % 5 == 0;
+        for (int c = 0; c < t->m; c++) t->next[p * t->m + c] = (uint16_t)(lead[p % 5 * t->m + c] + 5 * below(many));
+    }
+}
+
+typedef struct {
+    const char *name;
+    void (*make)(Table *t, int n);
+    int letters, states, smallest;
+} CardShape;
+
+static const CardShape cards[] = {
+    {"up and down", up_and_down, 2, 30, 1},     {"up and down", up_and_down, 26, 119, 1},   {"random smallest", random_table, 2, 3, 1},
+    {"random smallest", random_table, 26, 10, 1}, {"random smallest", random_table, 6, 30, 1}, {"random smallest", random_table, 2, 60, 1},
+    {"random smallest", random_table, 26, 90, 1}, {"random smallest", random_table, 6, 120, 1}, {"few classes", few_classes, 3, 40, 0},
+    {"few classes", few_classes, 26, 120, 0},
+};
+
+int seeded_cards(void) { return (int)(sizeof cards / sizeof *cards); }
+
+// Random machines until one has so many states; those with few classes need not have all.
+void seeded_card(int i, Judging *j) {
+    static Table t;
+    const CardShape *s = &cards[i];
+    begin_seed(100 + (uint32_t)i);
+    t.m = s->letters;
+    j->name = s->name;
+    for (int got = 0; s->smallest ? got != s->states : got == 0;) {
+        s->make(&t, s->make == random_table ? s->states + below(1 + s->states / 2) : s->states);
+        got = card_of(&t, s->smallest, j);
+    }
+}
