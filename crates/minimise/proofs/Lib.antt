@@ -5,3 +5,5 @@ pub mod RefineLaws
 pub mod ArriveLaws
 pub mod RowLaws
 pub mod NumberLaws
+pub mod ChangeLaws
+pub mod SpreadLaws

@@ -1,6 +1,6 @@
 -- Laws of the rounds of partition refinement: a whole round, and that a round which parts no class leaves the classes of equivalent states.
 use mathlib.Core.Path.{_≡_, refl, sym, ap, _∙_}
-use mathlib.Core.Bool.{Bool, true, false, cond}
+use mathlib.Core.Bool.{Bool, true, false, cond, true≢false, false≢true}
 use mathlib.Core.Logic.{_⊎_, inl, inr, _≢_}
 use mathlib.Core.List.{List, [], _∷_}
 use Prim.Native.Nat.{ℕ, zero, suc, _+_, _-_, _≤_, _<_, zero-le}
@@ -17,7 +17,7 @@ use Rattle.automata.specs.Partition.{bit, classes, classes-whole, classes-low, 
 use Rattle.automata.specs.Refinement.{SameSignature, Coarse, Settled, settled-equivalent}
 use Rattle.automata.specs.Table.{flagOf, tableMachine, table-size, table-formed, table-accepting}
 use borrow.Author.Tests.{eq-eqb, ne-eqb}
-use Rattle.minimise.specs.Refine.{classOf, next, flagBit, FirstOther, sideOf, Parted, Led, Told, leaders, Placed, Partial, Sized, Begun, Under, Placing, Rounded}
+use Rattle.minimise.specs.Refine.{classOf, next, flagBit, FirstOther, sideOf, Parted, Led, Told, leaders, Placed, Partial, Sized, Refining, Turned, Begun, Under, Placing, Rounded}
 use Rattle.minimise.proofs.EntryLaws.{bit-same}
 use Rattle.minimise.proofs.RoundLaws.{together-sym, together-trans}
 
@@ -212,13 +212,6 @@ module _ (n : ℕ) (t : List ℕ) (other : ℕ) (F : FirstOther n t other) where
 
 -- ---- the rounds over a table
 
--- The classes of w after some rounds, count of them at most.
-pub record Refining (base n k : ℕ) (t w : List ℕ) (count : ℕ) : Type 0 where
-  pub led : Led n (classOf (take n w))
-  pub coarse : Coarse k (tableMachine base n k t) (classOf (take n w))
-  pub told : Told n (tableMachine base n k t) (classOf (take n w))
-  pub counted : count ≤ leaders (classOf (take n w)) n
-
 module _ {base n k : ℕ} {t w : List ℕ} (S : Sized base n k t w) where
   -- the states are parted by acceptance
   pub refine-starts : (v : List ℕ) → Parted n t v → Refining base n k t v 0
@@ -257,7 +250,7 @@ module _ {base n k : ℕ} {t w : List ℕ} (S : Sized base n k t w) where
         (omega (arith, R .counted, Q .count)))
 
     -- a round that parts one
-    pub refine-grows : r ≢ c → n - r < n - c
+    pub refine-grows : r ≢ c → c < r
     refine-grows i = omega (
       arith,
       R .counted,
@@ -287,6 +280,25 @@ module _ {base n k : ℕ} {t w : List ℕ} (S : Sized base n k t w) where
         new : Coarse k (tableMachine base n k t) (next n v′)
         new = round-coarse k n (tableMachine base n k t) (table-formed base n k t (S .closed)) (table-size base n k t (S .closed)) (classOf (take n v)) (next n v′) (R .led) (Q .placed)
             (R .coarse)
+
+-- some rounds
+pub turned-done : (base n k : ℕ) (t v : List ℕ) (most : ℕ) → take n v ≡ classes k (tableMachine base n k t) → Turned base n k t v most true
+turned-done base n k t v most e = record { done = λ _. e; way = λ z. absurd (true≢false z) }
+
+pub turned-way : (base n k : ℕ) (t v : List ℕ) (c : ℕ) {most : ℕ} → Refining base n k t v c → most ≤ n → Turned base n k t v most false
+turned-way base n k t v c R h = record {
+  done = λ z. absurd (false≢true z);
+  way = λ _. (record { led = R .led; coarse = R .coarse; told = R .told; counted = zero-le }, h);
+}
+
+-- more rounds than states are enough
+pub turned-all : (base n k : ℕ) (t v : List ℕ) (most : ℕ) (r : Bool) → n < most → Turned base n k t v most r → take n v ≡ classes k (tableMachine base n k t)
+turned-all base n k t v most true h T = T .done refl
+turned-all base n k t v most false h T = absurd (omega (arith, T .way refl .1))
+
+-- no more classes than states
+pub refine-many : (base n k : ℕ) (t v : List ℕ) (c : ℕ) → Refining base n k t v c → c ≤ n
+refine-many base n k t v c R = omega (arith, R .counted, leaders-le (classOf (take n v)) n)
 
 -- ---- arrays that are filled from the front
 

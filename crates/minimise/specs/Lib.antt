@@ -1,4 +1,5 @@
 pub mod Refine
+pub mod Change
 pub mod Number
 pub mod Minimised
 pub mod MinimisedLaws

@@ -8,8 +8,8 @@ use Prim.Native.Nat.{ℕ, zero, suc, _+_, _≤_, _<_}
 use lib.ListN.{length, getD, take}
 use lib.Dec.{eqb}
 use Rattle.automata.specs.Machine.{Machine, automaton}
-use Rattle.automata.specs.Refinement.{SameSignature}
-use Rattle.automata.specs.Partition.{bit}
+use Rattle.automata.specs.Refinement.{SameSignature, Coarse}
+use Rattle.automata.specs.Partition.{bit, classes}
 use Rattle.automata.specs.Table.{flagOf, tableMachine, ClosedTable}
 
 -- An answer says whether P holds.
@@ -115,6 +115,18 @@ pub record Sized (base n k : ℕ) (t w : List ℕ) : Type 0 where
   pub closed : ClosedTable base n k t
   pub room : n + (n + n) ≤ length w
   pub few : n < 65536
+
+-- Classes on the way, so many of them at least: each goes by its first state, equivalent states share one, and states that share one answer alike.
+pub record Refining (base n k : ℕ) (t w : List ℕ) (count : ℕ) : Type 0 where
+  pub led : Led n (classOf (take n w))
+  pub coarse : Coarse k (tableMachine base n k t) (classOf (take n w))
+  pub told : Told n (tableMachine base n k t) (classOf (take n w))
+  pub counted : count ≤ leaders (classOf (take n w)) n
+
+-- Some rounds, so many at most: the classes of equivalent states; or classes on the way, and there are more states than rounds.
+pub record Turned (base n k : ℕ) (t w : List ℕ) (most : ℕ) (r : Bool) : Type 0 where
+  pub done : r ≡ true → take n w ≡ classes k (tableMachine base n k t)
+  pub way : r ≡ false → Refining base n k t w 0 × (most ≤ n)
 
 -- These, with the classes that a round begins with.
 pub record Begun (base n k : ℕ) (t w : List ℕ) : Type 0 where

@@ -1,4 +1,5 @@
 // The smallest machine of a table, numbered by first arrival. Parts for the compiler's stages: they have requires, and are no entries.
+mod change;
 mod entries;
 mod number;
 mod refine;

@@ -1,6 +1,7 @@
-// Partition refinement over a table (Moore's algorithm): each state's class, rounds that part the classes, until a round parts none. A class goes by its first
+// Partition refinement over a table (Moore's algorithm, with a split by distances where it drags on): each state's class, rounds that part the classes, until a round parts none. A class goes by its first
 // state, its leader. In a round a state is compared only with the leaders that its old class has so far, which are linked. The work list holds three arrays of
 // n entries: the classes, the classes after the round, the links.
+use crate::change::spread;
 use crate::entries::at;
 use crate::entries::flag;
 use crate::entries::put;
@@ -12,7 +13,10 @@ ghost use Rattle.automata.specs.Machine.{automaton};
 ghost use Rattle.automata.specs.Refinement.{SameSignature};
 ghost use Rattle.automata.specs.Partition.{classes};
 ghost use Rattle.automata.specs.Table.{tableMachine, ClosedTable};
-ghost use Rattle.minimise.specs.Refine.{Says, Compared, SameClass, classOf, next, FirstOther, sideOf, Parted, Sized, Begun, Under, Leads, Placing, Rounded};
+ghost use Rattle.minimise.specs.Refine.{Says, Compared, SameClass, classOf, next, FirstOther, sideOf, Parted, Sized, Begun, Under, Leads, Placing, Rounded, Refining, Turned};
+
+// Rounds before the distances are looked at.
+const FIRST_ROUNDS: usize = 8;
 
 // Whether column c leads states p and q to one class.
 fn agree(
@@ -170,19 +174,36 @@ fn part(table: &[u16], n: usize, work: &mut [u16])
     }
 }
 
-// The classes of equivalent states, each by its first state: rounds from the two classes by acceptance on, until a round parts none.
+// Rounds until one parts no class: true; or so many of them.
+fn rounds(table: &[u16], base: usize, n: usize, k: usize, work: &mut [u16], most: usize) -> bool
+    requires { ⌜ Sized base n k (now table) (now work) ⌝ }
+    requires { ⌜ Refining base n k (now table) (now work) 0 ⌝ }
+    ensures { λ r. ⌜ Turned base n k (now (table .entry)) (now (work .exit)) most r ⌝ }
+{
+    let mut count = 0;
+    let mut i = 0;
+    while i < most {
+        let parts = round(table, base, n, k, work);
+        if parts == count {
+            return true;
+        }
+        adopt(n, work);
+        count = parts;
+        i += 1;
+    }
+    false
+}
+
+// The classes of equivalent states, each by its first state: some rounds from the two classes by acceptance on, which are enough for most tables; where
+// they drag on, classes by how far a change is, and rounds until one parts none.
 pub fn refine(table: &[u16], base: usize, n: usize, k: usize, work: &mut [u16])
     requires { ⌜ Sized base n k (now table) (now work) ⌝ }
     ensures { λ _. ⌜ take n (now (work .exit)) ≡ classes k (tableMachine base n k (now (table .entry))) ⌝ }
 {
     part(table, n, work);
-    let mut count = 0;
-    loop {
-        let parts = round(table, base, n, k, work);
-        if parts == count {
-            return;
-        }
-        adopt(n, work);
-        count = parts;
+    if rounds(table, base, n, k, work, FIRST_ROUNDS) {
+        return;
     }
+    spread(table, base, n, k, work);
+    rounds(table, base, n, k, work, n + 1);
 }

@@ -1,54 +1,58 @@
--- `refine` meets its contract. The loop: equivalent states are in one class; the number of classes grows with each turn.
+-- `refine` meets its contract: as many rounds as there are states, and one more, are enough.
 use borrow.Author.Needs.{needs}
-use mathlib.Core.Path.{_≡_, refl, _∙_}
-use Prim.Native.Nat.{_-_}
+use mathlib.Core.Path.{_∙_}
 use native.Mathlib.Omega.{arith}
-use lib.ListN.{length}
-use Rattle.minimise.proofs.RefineLaws.{Refining, refine-starts, refine-begun, refine-ends, refine-grows, refine-turns}
+use Rattle.minimise.proofs.RefineLaws.{refine-starts, turned-all}
+use Rattle.minimise.proofs.ChangeLaws.{sized-same}
 use Rattle.minimise.proofs.refine.refine.Statement.{statement}
 use Rattle.minimise.proofs.refine.refine.Tie as tie
 
-abbrev Inv-loop : tie.InvT-loop
-Inv-loop table base n k work₀ count₀ work count = Refining base n k table work count × (length work ≡ length work₀)
-
-abbrev μ-loop : tie.MeasureT-loop
-μ-loop table base n k work₀ count₀ work count = n - count
-
-part-requires : tie.Need-part-requires Inv-loop μ-loop
+-- src/refine.rt:203:5
+part-requires : tie.Need-part-requires
 part-requires c κs = (c .before .before .before .pre .closed .some, omega (arith, c .before .before .before .pre .closed .long, c .before .before .before .pre .closed .flags), omega (arith, c .before .before .before .pre .room), c .before .before .before .pre .few)
 
-loop-holds : tie.Need-loop-holds Inv-loop μ-loop
-loop-holds c = (refine-starts (c .before .before .before .before .before .before .pre) _ (c .before .before .part .ensures), refl)
+-- src/refine.rt:204:8
+rounds-requires : tie.Need-rounds-requires
+rounds-requires c κs = ((sized-same _ _ _ _ _ _ (c .before .before .before .before .before .before .before .pre) (c .before .before .before .part .kept .1 .1 .0)), refine-starts (c .before .before .before .before .before .before .before .pre) _ (c .before .before .before .part .ensures))
 
-round-requires : tie.Need-round-requires Inv-loop μ-loop
-round-requires c κs = refine-begun (c .before .before .before .before .before .before .before .before .pre) _ _ (c .before .loop .inv .1 ∙ c .before .before .before .before .part .kept .1 .1 .0) (c .before .loop .inv .0)
+-- src/refine.rt:205:9
+same-length : tie.Need-same-length
+same-length c = search needs
 
-returns : tie.Need-returns Inv-loop μ-loop
-returns c = refine-ends (c .before .before .before .before .before .before .before .before .before .before .before .before .pre) _ _ _ _ (c .before .before .before .before .before .loop .inv .1 ∙ c .before .before .before .before .before .before .before .before .part .kept .1 .1 .0) (c .before .before .before .before .before .loop .inv .0) (c .before .before .before .round .ensures) (c .if1 .taken)
+-- src/refine.rt:205:9
+returns : tie.Need-returns
+returns c = c .before .before .before .rounds .ensures .done (c .if1 .taken)
 
-adopt-requires : tie.Need-adopt-requires Inv-loop μ-loop
-adopt-requires c κs = omega (arith, c .before .before .before .before .before .before .before .before .before .before .before .before .before .pre .room, c .before .before .before .before .round .kept .1 .1 .1 .1 .0, c .before .before .before .before .before .before .loop .inv .1, c .before .before .before .before .before .before .before .before .before .part .kept .1 .1 .0)
+-- src/refine.rt:207:5
+spread-requires : tie.Need-spread-requires
+spread-requires c κs = (sized-same _ _ _ _ _ _ (c .before .before .before .before .before .before .before .before .before .before .before .before .pre) (c .before .before .before .before .rounds .kept .1 .1 .1 .1 .0 ∙ c .before .before .before .before .before .before .before .before .part .kept .1 .1 .0), c .before .before .before .before .rounds .ensures .way (c .before .if1 .left) .0)
 
-loop-less : tie.Need-loop-less Inv-loop μ-loop
-loop-less c = refine-grows (c .before .before .before .before .before .before .before .before .before .before .before .before .before .before .before .before .pre) _ _ _ _ (c .before .before .before .before .before .before .before .before .before .loop .inv .1 ∙ c .before .before .before .before .before .before .before .before .before .before .before .before .part .kept .1 .1 .0) (c .before .before .before .before .before .before .before .before .before .loop .inv .0) (c .before .before .before .before .before .before .before .round .ensures) (c .before .before .before .before .if1 .left)
+-- src/refine.rt:208:37
+add-rounds : tie.Need-add-rounds
+add-rounds c = omega (arith, c .before .before .before .before .before .before .before .before .before .before .before .before .before .before .before .before .pre .few)
 
-loop-again : tie.Need-loop-again Inv-loop μ-loop
-loop-again c = (
-  refine-turns (c .before .before .before .before .before .before .before .before .before .before .before .before .before .before .before .before .pre) _ _ _ _ (c .before .before .before .before .before .before .before .before .before .loop .inv .1 ∙ c .before .before .before .before .before .before .before .before .before .before .before .before .part .kept .1 .1 .0) (c .before .before .before .before .before .before .before .before .before .loop .inv .0) (c .before .before .before .before .before .before .before .round .ensures) _ (c .before .before .adopt .ensures),
-  c .before .before .adopt .kept .1 .0 ∙ c .before .before .before .before .before .before .before .round .kept .1 .1 .1 .1 .0 ∙ c .before .before .before .before .before .before .before .before .before .loop .inv .1,
-)
+-- src/refine.rt:208:5
+rounds-requires-2 : tie.Need-rounds-requires-2
+rounds-requires-2 c κs = (sized-same _ _ _ _ _ _ (c .before .before .before .before .before .before .before .before .before .before .before .before .before .before .before .before .pre) (c .before .before .before .spread .kept .1 .1 .1 .1 .0 ∙ c .before .before .before .before .before .before .before .before .rounds .kept .1 .1 .1 .1 .0 ∙ c .before .before .before .before .before .before .before .before .before .before .before .before .part .kept .1 .1 .0), c .before .before .before .spread .ensures)
+
+-- src/refine.rt:199:1
+same-length-2 : tie.Need-same-length-2
+same-length-2 c = search needs
+
+-- src/refine.rt:199:1
+returns-2 : tie.Need-returns-2
+returns-2 c = turned-all _ _ _ _ _ _ _ (omega arith) (c .before .before .rounds2 .ensures)
 
 pub refine-spec : {M : Type 1} → statement M
 refine-spec =
     tie.close
     (tie.spec
-    Inv-loop
-    μ-loop
     part-requires
-    loop-holds
-    round-requires
-    (λ c. search needs)
+    rounds-requires
+    same-length
     returns
-    adopt-requires
-    loop-less
-    loop-again)
+    spread-requires
+    add-rounds
+    rounds-requires-2
+    same-length-2
+    returns-2)
