@@ -1,4 +1,3 @@
-pub mod Refine
 pub mod Number
 pub mod Minimised
 pub mod MinimisedLaws

@@ -1,7 +1,7 @@
 // The smallest machine of a table, numbered by first arrival. Parts for the compiler's stages: they have requires, and are no entries.
-mod entries;
 mod number;
-mod refine;
+
+use classes::refine::refine;
 
 ghost use Rattle.automata.specs.Table.{tableMachine};
 ghost use Rattle.minimise.specs.Minimised.{Fitting, Minimised};
@@ -26,6 +26,6 @@ pub fn smallest(
     requires { ⌜ Fitting base n k most (now table) (now work) (now slot) ⌝ }
     ensures { λ r. ⌜ Minimised k most (tableMachine base n k (now (table .entry))) (now (slot .exit)) r ⌝ }
 {
-    refine::refine(table, base, n, k, work);
+    refine(table, base, n, k, work);
     number::number(table, base, n, k, most, work, slot)
 }

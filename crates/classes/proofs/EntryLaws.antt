@@ -1,0 +1,32 @@
+-- Laws of entries: flags as 0 or 1, cells of a table, lists after a store.
+use mathlib.Core.Path.{_≡_, refl, sym, _∙_}
+use mathlib.Core.Bool.{Bool, true, false}
+use mathlib.Core.List.{List}
+use Prim.Native.Nat.{ℕ, _+_, _*_, _<_}
+use native.Mathlib.Omega.{arith}
+use lib.ListN.{length, getD}
+use borrow.Author.Tests.{ne-eqb}
+use Rattle.automata.specs.Partition.{bit}
+use Rattle.automata.specs.Rows.{cell-below}
+use Rattle.automata.specs.Table.{flagOf, ClosedTable, table-step}
+use Rattle.classes.specs.Refine.{Target}
+
+pub bit-none : (x : ℕ) → x ≡ 0 → 0 ≡ bit (flagOf x)
+bit-none x e = rw e
+
+pub bit-some : (x : ℕ) → (x ≡ 0 → ⊥) → 1 ≡ bit (flagOf x)
+bit-some x h = rw (ne-eqb x 0 h)
+
+pub bit-same : (a b : Bool) → bit a ≡ bit b → a ≡ b
+bit-same true true e = refl
+bit-same true false e = absurd (omega arith)
+bit-same false true e = absurd (omega arith)
+bit-same false false e = refl
+
+-- a cell of a table lies in its list
+pub cell-inside : (base n k : ℕ) (t : List ℕ) (p c : ℕ) → ClosedTable base n k t → p < n → c < k → base + (p * k + c) < length t
+cell-inside base n k t p c C h b = omega (arith, cell-below n k p c h b, C .long)
+
+-- what stands there is the state that the column leads to
+pub cell-target : (base n k : ℕ) (t : List ℕ) (p c r : ℕ) → ClosedTable base n k t → p < n → c < k → r ≡ getD t (base + (p * k + c)) 0 → Target base n k t p c r
+cell-target base n k t p c r C h b e = record { step = e ∙ sym (table-step base n k t C p c h b); inside = rw e (C .inside p c h b) }

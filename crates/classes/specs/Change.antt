@@ -1,0 +1,112 @@
+-- How far a change is: of each state the fewest letters that are read before one which changes its answer, as an array of numbers that the moves confirm.
+-- Equivalent states are equally far from a change.
+use mathlib.Core.Path.{_≡_}
+use mathlib.Core.Bool.{Bool, true, false}
+use mathlib.Core.Logic.{_⊎_, _≢_}
+use mathlib.Core.List.{List}
+use Prim.Native.Nat.{ℕ, suc, _+_, _-_, _≤_, _<_}
+use lib.ListN.{length, getD, set}
+use lib.Dec.{eqb}
+use Rattle.automata.specs.Booleans.{choose}
+use Rattle.automata.specs.Machine.{automaton}
+use Rattle.automata.specs.Refinement.{Coarse}
+use Rattle.automata.specs.Table.{tableMachine}
+use Rattle.classes.specs.Refine.{next, flagBit, Sized}
+
+-- From a state that answers a by a move to one that answers b and has the number f: nothing is read before the change where the answers differ.
+unfoldable pub behind : ℕ → ℕ → ℕ → ℕ
+behind a b f = choose (eqb a b) (λ _. suc f) (λ _. 0)
+
+-- The same for column c of state p; the numbers stand in the second array.
+abbrev pub after : ℕ → ℕ → ℕ → List ℕ → List ℕ → ℕ → ℕ → ℕ
+after base n k t w p c =
+    let s = automaton (tableMachine base n k t) .step p c in
+    behind (flagBit t p) (flagBit t s) (next n w s)
+
+-- r is the least of what is known behind the first m columns of state p, n - 1 at most.
+pub record Nearest (base n k : ℕ) (t w : List ℕ) (p m r : ℕ) : Type 0 where
+  pub most : r < n
+  pub low : (c : ℕ) → c < m → r ≤ after base n k t w p c
+  pub met : (suc r ≡ n) ⊎ ((c : ℕ) × (c < m) × (after base n k t w p c ≡ r))
+
+-- Each number is n - 1, or a move shows no farther a change.
+pub record Backed (base n k : ℕ) (t w : List ℕ) : Type 0 where
+  pub most : (p : ℕ) → p < n → next n w p < n
+  pub back : (p : ℕ) → p < n → (suc (next n w p) ≡ n) ⊎ ((c : ℕ) × (c < k) × (after base n k t w p c ≤ next n w p))
+
+-- No move of the states below m shows a nearer change.
+pub record Closed (base n k : ℕ) (t w : List ℕ) (m : ℕ) : Type 0 where
+  pub near : (p c : ℕ) → p < m → c < k → next n w p ≤ after base n k t w p c
+
+-- Equivalent states have the same number.
+abbrev pub Alike : ℕ → ℕ → ℕ → List ℕ → List ℕ → Type 0
+Alike base n k t w = Coarse k (tableMachine base n k t) (next n w)
+
+-- A table, its arrays, and numbers that are backed.
+pub record Measured (base n k : ℕ) (t w : List ℕ) : Type 0 where
+  pub sized : Sized base n k t w
+  pub backed : Backed base n k t w
+
+-- The classes are as they were.
+pub record SameClasses (n : ℕ) (w w′ : List ℕ) : Type 0 where
+  pub long : length w′ ≡ length w
+  pub classes : (p : ℕ) → p < n → getD w′ p 0 ≡ getD w p 0
+
+-- State p's number was lowered, or nothing changed and no move of p shows a nearer change.
+pub record Lowered (base n k : ℕ) (t w w′ : List ℕ) (p : ℕ) (r : Bool) : Type 0 where
+  pub backed : Backed base n k t w′
+  pub kept : SameClasses n w w′
+  pub no : r ≡ false → (w′ ≡ w) × ((c : ℕ) → c < k → next n w p ≤ after base n k t w p c)
+
+-- A sweep keeps the numbers backed; where it lowers none, they are closed.
+pub record Swept (base n k : ℕ) (t w w′ : List ℕ) (m : ℕ) (changed : Bool) : Type 0 where
+  pub backed : Backed base n k t w′
+  pub kept : SameClasses n w w′
+  pub closed : changed ≡ false → Closed base n k t w′ m
+
+-- The numbers are settled, or say nothing.
+pub record Settling (base n k : ℕ) (t w w′ : List ℕ) (r : Bool) : Type 0 where
+  pub kept : SameClasses n w w′
+  pub most : (p : ℕ) → p < n → next n w′ p < n
+  pub alike : r ≡ true → Alike base n k t w′
+
+-- ---- classes by these numbers
+
+-- The first state with a number, plus 1, or 0: the third array, by the number.
+abbrev pub firstOf : ℕ → List ℕ → ℕ → ℕ
+firstOf n w d = getD w (n + (n + d)) 0
+
+-- p is one of the first m states, and answers so.
+pub record On (t : List ℕ) (side p m : ℕ) : Type 0 where
+  pub below : p < m
+  pub answers : flagBit t p ≡ side
+
+-- Of the states below m that answer so, each goes by the first with its number; the classes of all other states and the numbers are as they were.
+pub record Gathered (n : ℕ) (t : List ℕ) (side : ℕ) (w w′ : List ℕ) (m : ℕ) : Type 0 where
+  pub long : length w′ ≡ length w
+  pub numbers : (p : ℕ) → p < n → next n w′ p ≡ next n w p
+  pub others : (p : ℕ) → p < n → flagBit t p ≢ side → getD w′ p 0 ≡ getD w p 0
+  pub low : (p : ℕ) → On t side p m → getD w′ p 0 ≤ p
+  pub leader : (p : ℕ) → On t side p m → On t side (getD w′ p 0) m
+  pub number : (p : ℕ) → On t side p m → next n w (getD w′ p 0) ≡ next n w p
+  pub whole : (p q : ℕ) → On t side p m → On t side q m → next n w p ≡ next n w q → getD w′ p 0 ≡ getD w′ q 0
+
+-- The same on the way, with the first states so far in the third array.
+pub record Gathering (n : ℕ) (t : List ℕ) (side : ℕ) (w w′ : List ℕ) (m : ℕ) : Type 0 where
+  pub gathered : Gathered n t side w w′ m
+  pub listed : (p : ℕ) → On t side p m → firstOf n w′ (next n w p) ≡ suc (getD w′ p 0)
+  pub first : (d r : ℕ) → d < n → firstOf n w′ d ≡ suc r → On t side r m × (next n w r ≡ d)
+
+-- State p goes by the first state that has its number, or is the first one and listed.
+unfoldable pub joined : ℕ → List ℕ → ℕ → List ℕ
+joined n w p =
+    let d = next n w p in
+    let f = firstOf n w d in
+    choose (eqb f 0) (λ _. set (set w (n + (n + d)) (p + 1)) p p) (λ _. set w p (f - 1))
+
+-- A table with the numbers of its states.
+pub record Numbered (n : ℕ) (t w : List ℕ) : Type 0 where
+  pub flags : n ≤ length t
+  pub room : n + (n + n) ≤ length w
+  pub few : n < 65536
+  pub most : (p : ℕ) → p < n → next n w p < n

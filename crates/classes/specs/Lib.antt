@@ -1,0 +1,2 @@
+pub mod Refine
+pub mod Change

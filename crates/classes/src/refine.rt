@@ -1,0 +1,209 @@
+// Partition refinement over a table (Moore's algorithm, with a split by distances where it drags on): each state's class, rounds that part the classes, until a round parts none. A class goes by its first
+// state, its leader. In a round a state is compared only with the leaders that its old class has so far, which are linked. The work list holds three arrays of
+// n entries: the classes, the classes after the round, the links.
+use crate::change::spread;
+use crate::entries::at;
+use crate::entries::flag;
+use crate::entries::put;
+use crate::entries::target;
+ghost use mathlib.Core.Path.{_≡_};
+ghost use Prim.Native.Nat.{ℕ, _+_, _≤_, _<_};
+ghost use lib.ListN.{length, getD, take};
+ghost use Rattle.automata.specs.Machine.{automaton};
+ghost use Rattle.automata.specs.Refinement.{SameSignature};
+ghost use Rattle.automata.specs.Partition.{classes};
+ghost use Rattle.automata.specs.Table.{tableMachine, ClosedTable};
+ghost use Rattle.classes.specs.Refine.{Says, Compared, SameClass, classOf, next, FirstOther, sideOf, Parted, Sized, Begun, Under, Leads, Placing, Rounded, Refining, Turned};
+
+// Rounds before the distances are looked at.
+const FIRST_ROUNDS: usize = 8;
+
+// Whether column c leads states p and q to one class.
+fn agree(
+    table: &[u16],
+    base: usize,
+    n: usize,
+    k: usize,
+    work: &[u16],
+    p: usize,
+    q: usize,
+    c: usize,
+) -> bool
+    requires { ⌜ Compared base n k p q (now table) (now work) ⌝ }
+    requires { ⌜ c < k ⌝ }
+    ensures { λ r. ⌜ Says r (SameClass (tableMachine base n k (now (table .entry))) (classOf (take n (now (work .entry)))) p q c) ⌝ }
+{
+    let s = target(table, base, n, k, p, c);
+    let t = target(table, base, n, k, q, c);
+    if at(work, s) != at(work, t) {
+        return false;
+    }
+    true
+}
+
+// Whether a round sees the same of states p and q, of which both accept or neither: each column leads to one class. Two columns a turn, which takes fewer steps.
+fn alike(table: &[u16], base: usize, n: usize, k: usize, work: &[u16], p: usize, q: usize) -> bool
+    requires { ⌜ Compared base n k p q (now table) (now work) ⌝ }
+    requires { ⌜ automaton (tableMachine base n k (now table)) .accepting p ≡ automaton (tableMachine base n k (now table)) .accepting q ⌝ }
+    ensures { λ r. ⌜ Says r (SameSignature k (tableMachine base n k (now (table .entry))) (classOf (take n (now (work .entry)))) p q) ⌝ }
+{
+    let mut c = 0;
+    while c + 1 < k {
+        if !agree(table, base, n, k, work, p, q, c) {
+            return false;
+        }
+        if !agree(table, base, n, k, work, p, q, c + 1) {
+            return false;
+        }
+        c += 2;
+    }
+    if c < k {
+        return agree(table, base, n, k, work, p, q, c);
+    }
+    true
+}
+
+// The leader that p goes with, of those that its class has so far: the class's own, by which it goes in most rounds, then the others, the latest first.
+// It is p where there is none.
+fn leader(table: &[u16], base: usize, n: usize, k: usize, work: &[u16], p: usize) -> usize
+    requires { ⌜ Under base n k p (now table) (now work) ⌝ }
+    requires { ⌜ (getD (now work) p 0 ≡ p → ⊥) ⌝ }
+    ensures { λ r. ⌜ Leads k (tableMachine base n k (now (table .entry))) (classOf (take n (now (work .entry)))) (next n (now (work .entry))) p r ⌝ }
+{
+    let c = at(work, p);
+    if alike(table, base, n, k, work, c, p) {
+        return c;
+    }
+    let mut r = at(work, n + (n + c));
+    loop {
+        if r == c {
+            return p;
+        }
+        if alike(table, base, n, k, work, r, p) {
+            return r;
+        }
+        r = at(work, n + (n + r));
+    }
+}
+
+// State p is placed; 1 where it leads a class of its own.
+fn place(table: &[u16], base: usize, n: usize, k: usize, work: &mut [u16], p: usize) -> usize
+    requires { ⌜ Under base n k p (now table) (now work) ⌝ }
+    ensures { λ r. ⌜ Placing base n k p (now (table .entry)) (now (work .entry)) (now (work .exit)) r ⌝ }
+{
+    let c = at(&work[..], p);
+    if c == p {
+        put(work, n + p, p);
+        put(work, n + (n + p), p);
+        return 1;
+    }
+    let r = leader(table, base, n, k, &work[..], p);
+    put(work, n + p, r);
+    if r < p {
+        return 0;
+    }
+    let s = at(&work[..], n + (n + c));
+    put(work, n + (n + p), s);
+    put(work, n + (n + c), p);
+    1
+}
+
+// One round: each state is placed. How many classes there are then.
+fn round(table: &[u16], base: usize, n: usize, k: usize, work: &mut [u16]) -> usize
+    requires { ⌜ Begun base n k (now table) (now work) ⌝ }
+    ensures { λ r. ⌜ Rounded base n k (now (table .entry)) (now (work .entry)) (now (work .exit)) r ⌝ }
+{
+    let mut count = 0;
+    let mut p = 0;
+    while p < n {
+        count += place(table, base, n, k, work, p);
+        p += 1;
+    }
+    count
+}
+
+// The classes after the round become the classes.
+fn adopt(n: usize, work: &mut [u16])
+    requires { ⌜ n + n ≤ length (now work) ⌝ }
+    ensures { λ _. ⌜ ((p : ℕ) → p < n → getD (now (work .exit)) p 0 ≡ next n (now (work .entry)) p) ⌝ }
+{
+    let mut i = 0;
+    while i < n {
+        let x = work[n + i];
+        work[i] = x;
+        i += 1;
+    }
+}
+
+// The first state that does not answer as state 0 does, or n.
+fn first_other(table: &[u16], n: usize) -> usize
+    requires { ⌜ (1 ≤ n) × (n ≤ length (now table)) ⌝ }
+    ensures { λ r. ⌜ FirstOther n (now (table .entry)) r ⌝ }
+{
+    let mut i = 0;
+    while i < n {
+        if flag(table, i) != flag(table, 0) {
+            return i;
+        }
+        i += 1;
+    }
+    n
+}
+
+// The class of a state when states are parted by acceptance: that of state 0, or of the first other one.
+fn side(table: &[u16], other: usize, p: usize) -> usize
+    requires { ⌜ (1 ≤ length (now table)) × (p < length (now table)) ⌝ }
+    ensures { λ r. ⌜ r ≡ sideOf (now (table .entry)) other p ⌝ }
+{
+    if flag(table, p) == flag(table, 0) {
+        return 0;
+    }
+    other
+}
+
+// States parted by acceptance.
+fn part(table: &[u16], n: usize, work: &mut [u16])
+    requires { ⌜ (1 ≤ n) × (n ≤ length (now table)) × (n ≤ length (now work)) × (n < 65536) ⌝ }
+    ensures { λ _. ⌜ Parted n (now (table .entry)) (now (work .exit)) ⌝ }
+{
+    let other = first_other(table, n);
+    let mut i = 0;
+    while i < n {
+        put(work, i, side(table, other, i));
+        i += 1;
+    }
+}
+
+// Rounds until one parts no class: true; or so many of them.
+fn rounds(table: &[u16], base: usize, n: usize, k: usize, work: &mut [u16], most: usize) -> bool
+    requires { ⌜ Sized base n k (now table) (now work) ⌝ }
+    requires { ⌜ Refining base n k (now table) (now work) 0 ⌝ }
+    ensures { λ r. ⌜ Turned base n k (now (table .entry)) (now (work .exit)) most r ⌝ }
+{
+    let mut count = 0;
+    let mut i = 0;
+    while i < most {
+        let parts = round(table, base, n, k, work);
+        if parts == count {
+            return true;
+        }
+        adopt(n, work);
+        count = parts;
+        i += 1;
+    }
+    false
+}
+
+// The classes of equivalent states, each by its first state: some rounds from the two classes by acceptance on, which are enough for most tables; where
+// they drag on, classes by how far a change is, and rounds until one parts none.
+pub fn refine(table: &[u16], base: usize, n: usize, k: usize, work: &mut [u16])
+    requires { ⌜ Sized base n k (now table) (now work) ⌝ }
+    ensures { λ _. ⌜ take n (now (work .exit)) ≡ classes k (tableMachine base n k (now (table .entry))) ⌝ }
+{
+    part(table, n, work);
+    if rounds(table, base, n, k, work, FIRST_ROUNDS) {
+        return;
+    }
+    spread(table, base, n, k, work);
+    rounds(table, base, n, k, work, n + 1);
+}
