@@ -1,23 +1,28 @@
 -- The loop over all transitions: what holds where it begins, on its way and at its end.
 use mathlib.Core.Path.{_≡_, ap, _∙_}
 use mathlib.Core.List.{List}
+use mathlib.Core.Logic.{inl}
+use Rattle.automata.specs.Automaton.{Automaton}
 use Prim.Native.Nat.{ℕ, _+_, _*_, _-_, _≤_, _<_}
 use native.Mathlib.Nat.{mul-le-mul-right, suc-mul, zero-mul}
 use native.Mathlib.Numerals.{add-one}
 use native.Mathlib.Omega.{arith}
 use lib.ListN.{length, getD, set, replicate, length-set, length-replicate}
 use Rattle.automata.specs.Stage.{MoreThan}
-use Rattle.explore.specs.Rows.{rowAt, operationOf}
-use Rattle.explore.specs.Members.{Listing}
-use Rattle.explore.specs.Sums.{rowHash}
-use Rattle.explore.specs.Answer.{rowsFor, RowFits, Fits, Room, Explores, Appended, AllRows, Partial, Turning, Turned, Flagging, Flagged}
-use Rattle.explore.specs.declared.Shape.{Shape}
-use Rattle.explore.specs.declared.Explored.{Explored}
-use Rattle.explore.specs.declared.Explored.the-variants.{Sets, TooMany}
-use Rattle.explore.proofs.RowLaws.{row-within, cell-within}
-use Rattle.explore.proofs.FitLaws.{reach-fits}
-use Rattle.explore.proofs.HashLaws.{chained-none, chained-more}
-use Rattle.explore.proofs.LoopLaws.{partial-start, partial-wrap, partial-done}
+use Rattle.rows.specs.Chains.{Appended}
+use Rattle.rows.specs.Rows.{rowAt}
+use Rattle.rows.specs.Sums.{rowHash}
+use Rattle.rows.proofs.HashLaws.{chained-none, chained-more}
+use Rattle.rows.proofs.RowLaws.{row-within, cell-within}
+use Rattle.operations.specs.Fits.{Listing, rowsFor, RowFits, Fits}
+use Rattle.operations.specs.Operations.{operationOf}
+use Rattle.operations.specs.declared.Shape.{Shape}
+use Rattle.operations.proofs.FitLaws.{reach-fits}
+use Rattle.turns.specs.Partial.{Room, Partial, Turning, Turned}
+use Rattle.turns.specs.declared.Explored.{Explored}
+use Rattle.turns.specs.declared.Explored.the-variants.{Sets, TooMany}
+use Rattle.turns.proofs.LoopLaws.{partial-start, partial-wrap}
+use Rattle.explore.specs.Answer.{Explores, AllRows, Flagging, Flagged}
 
 -- The transitions before the q-th are laid out; it is that of the row p by the column c.
 pub record Running (s : Shape) (a b rows row table heads : List ℕ) (count p c q : ℕ) : Type 0 where
@@ -56,6 +61,21 @@ run-start s a b rows row table rows′ row′ table′ heads′ h E e y A x v l 
 
 pub listing-kept : {s : Shape} {members : List ℕ} → Listing s members → (members′ : List ℕ) → length members′ ≡ length members → Listing s members′
 listing-kept L members′ e = record { left = omega (arith, L .left); right = omega (arith, L .right); small = omega (arith, L .small) }
+
+-- all rows have their transitions, and the flags are laid out
+partial-done : (R : Automaton (List ℕ)) (k w limit count state column : ℕ) (rows table heads table′ : List ℕ) → count ≤ state → Partial R k w limit count state column rows table heads → Flagged R w limit count rows table table′
+    → limit + count * k ≤ length table′ → AllRows R k w limit count rows table′
+partial-done R k w limit count state column rows table heads table′ h P F l = record {
+  some = P .some;
+  within = P .within;
+  start = P .start;
+  distinct = P .distinct;
+  reached = P .reached;
+  inside = λ p c b g. rw (F .kept (limit + (p * k + c)) (omega arith)) (P .inside p c g (inl (omega arith)));
+  moves = λ p c b g. rw (F .kept (limit + (p * k + c)) (omega arith)) (P .moves p c g (inl (omega arith)));
+  flags = F .set;
+  long = l;
+}
 
 module _ (s : Shape) (a b rows row table heads : List ℕ) (count p c q : ℕ) (R : Running s a b rows row table heads count p c q) where
   module _ (h : p < count) where

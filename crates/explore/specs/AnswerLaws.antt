@@ -12,7 +12,7 @@ use Rattle.automata.specs.Automaton.{Automaton, Over, run, Reachable}
 use Rattle.automata.specs.Machine.{automaton, SameWords}
 use Rattle.automata.specs.Table.{ClosedTable, tableMachine, table-step, table-accepting, flagOf}
 use Rattle.automata.specs.Stage.{Counts}
-use Rattle.explore.specs.Rows.{rowAt, bit}
+use Rattle.rows.specs.Rows.{rowAt, bit}
 use Rattle.explore.specs.Answer.{AllRows}
 
 flag-bit : (b : Bool) → flagOf (bit b) ≡ b

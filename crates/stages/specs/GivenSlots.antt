@@ -17,7 +17,7 @@ use Rattle.automata.specs.Rows.{cell-below}
 use Rattle.automata.specs.Table.{tableMachine, flagOf, ClosedTable, table-size, table-accepting, table-step, table-formed}
 use Rattle.automata.specs.Given.{oneSign, manySigns, given, letterMachine, dotMachine, emptyMachine, allMachine}
 use Rattle.automata.specs.GivenTables.{one-written, many-written, cond-below}
-use Rattle.explore.specs.Rows.{numberAt, bit}
+use Rattle.rows.specs.Rows.{numberAt, bit}
 use Rattle.stages.specs.RowSets.{flag-bit}
 use Rattle.stages.specs.Slot.{slotMachine, Holds, Written}
 

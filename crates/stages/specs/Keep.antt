@@ -11,7 +11,7 @@ use borrow.Rule.Slice.PartMut.{same-len-mid, drop-put}
 use Rattle.automata.specs.Machine.{Machine, size}
 use Rattle.automata.specs.Smallest.{smallest}
 use Rattle.automata.specs.Table.{tableMachine, ClosedTable}
-use Rattle.explore.specs.Rows.{numberAt}
+use Rattle.rows.specs.Rows.{numberAt}
 use Rattle.minimise.specs.declared.Kept.{Kept}
 use Rattle.minimise.specs.declared.Kept.the-variants.{States, TooMany}
 use Rattle.minimise.specs.Minimised.{Minimised}

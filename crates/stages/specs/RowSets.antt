@@ -25,7 +25,9 @@ use Rattle.automata.specs.Format.{Format}
 use Rattle.automata.specs.Stage.{Made, StageResult}
 use Rattle.automata.specs.Stages.{Pairing, combine, pairStage, concatStage, starStage, eraseStage}
 use Rattle.automata.specs.Correspondence.{StandsFor, stage-by}
-use Rattle.explore.specs.Rows.{bit, flagAt, flagRow, numberAt, numberBytes, leadsTo, someAccepting, pairRow, pairRows, concatRow, concatRows, ends, starRow, starRows, marks, gained, eraseRow, eraseRows}
+use Rattle.rows.specs.Rows.{bit, flagAt, numberAt, numberBytes, pairRow}
+use Rattle.flags.specs.Flags.{flagRow, leadsTo, someAccepting}
+use Rattle.operations.specs.Operations.{pairRows, concatRow, concatRows, ends, starRow, starRows, marks, gained, eraseRow, eraseRows}
 
 -- ---- Booleans
 

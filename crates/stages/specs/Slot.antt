@@ -12,7 +12,7 @@ use Rattle.automata.specs.Basics.{SameCases, same-cases, nat-test}
 use Rattle.automata.specs.Machine.{Machine}
 use Rattle.automata.specs.Rows.{rows, cell-below}
 use Rattle.automata.specs.Table.{tableMachine, flagOf, ClosedTable}
-use Rattle.explore.specs.Rows.{numberAt}
+use Rattle.rows.specs.Rows.{numberAt}
 use Rattle.stages.specs.declared.slot.Sizes.{Sizes}
 
 -- the machine over k columns that the bytes of a slot hold

@@ -9,9 +9,10 @@ use Rattle.automata.specs.Machine.{automaton}
 use Rattle.automata.specs.Table.{ClosedTable, tableMachine}
 use Rattle.automata.specs.Format.{Format}
 use Rattle.automata.specs.Stage.{Made as Answer, made, refused}
-use Rattle.explore.specs.Rows.{Operation, pairing, concatenation, star, erase, operationOf, rowWidth, rowsOf, numberAt}
+use Rattle.rows.specs.Rows.{numberAt}
+use Rattle.operations.specs.Operations.{Operation, pairing, concatenation, star, erase, operationOf, rowWidth, rowsOf}
+use Rattle.turns.specs.declared.Explored.{Explored}
 use Rattle.explore.specs.Answer.{Answers}
-use Rattle.explore.specs.declared.Explored.{Explored}
 use Rattle.stages.specs.declared.slot.Sizes.{Sizes}
 use Rattle.stages.specs.declared.stage.Limits.{Limits}
 use Rattle.stages.specs.declared.stage.Staged.{Staged}

@@ -12,13 +12,14 @@ use Rattle.automata.specs.Smallest.{smallest}
 use Rattle.automata.specs.Table.{tableMachine, table-size, table-formed}
 use Rattle.automata.specs.Format.{Format}
 use Rattle.automata.specs.Stage.{Made as Answer, made, refused, StageResult}
-use Rattle.explore.specs.Rows.{operationOf, rowWidth, rowsOf, numberAt}
-use Rattle.explore.specs.Answer.{Answers, Explores, rowsFor}
-use Rattle.explore.specs.Members.{Listing}
+use Rattle.rows.specs.Rows.{numberAt}
+use Rattle.operations.specs.Fits.{rowsFor, Listing}
+use Rattle.operations.specs.Operations.{operationOf, rowWidth, rowsOf}
+use Rattle.operations.specs.declared.Shape.{Shape}
+use Rattle.turns.specs.declared.Explored.{Explored}
+use Rattle.turns.specs.declared.Explored.the-variants.{Sets, TooMany}
+use Rattle.explore.specs.Answer.{Answers, Explores}
 use Rattle.explore.specs.AnswerLaws.{explored-closed}
-use Rattle.explore.specs.declared.Shape.{Shape}
-use Rattle.explore.specs.declared.Explored.{Explored}
-use Rattle.explore.specs.declared.Explored.the-variants.{Sets, TooMany}
 use Rattle.minimise.specs.declared.Kept.{Kept}
 use Rattle.minimise.specs.declared.Kept.the-variants.{States, TooMany as TooLarge}
 use Rattle.stages.specs.declared.slot.Sizes.{Sizes}

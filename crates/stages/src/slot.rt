@@ -3,7 +3,7 @@
 ghost use mathlib.Core.Path.{_≡_};
 ghost use Prim.Native.Nat.{_+_, _*_, _<_, _≤_};
 ghost use lib.ListN.{length, getD, drop};
-ghost use Rattle.explore.specs.Rows.{numberAt};
+ghost use Rattle.rows.specs.Rows.{numberAt};
 ghost use Rattle.stages.specs.Slot.{Slot, Written, UnpackedAt, Loaded};
 
 // The numbers of states of the two operands.

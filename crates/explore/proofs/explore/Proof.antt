@@ -4,10 +4,11 @@ use Prim.Native.Nat.{_*_, _-_, _<_}
 use native.Mathlib.Omega.{arith}
 use lib.ListN.{length}
 use borrow.Author.Needs.{needs}
-use Rattle.explore.specs.Members.{Listed}
-use Rattle.explore.specs.Rows.{rowAt, operationOf}
+use Rattle.rows.specs.Rows.{rowAt}
+use Rattle.rows.proofs.SumLaws.{hash-is}
+use Rattle.operations.specs.Fits.{Listed}
+use Rattle.operations.specs.Operations.{operationOf}
 use Rattle.explore.proofs.ExploreLaws.{Running, first-room, run-start, run-turning, run-source, listing-kept, run-below, run-less, run-on, run-wrap, run-many, run-flagging, run-done}
-use Rattle.explore.proofs.SumLaws.{hash-is}
 use Rattle.explore.proofs.explore.Statement.{statement}
 use Rattle.explore.proofs.explore.Tie as tie
 

@@ -2,7 +2,7 @@
 use mathlib.Core.Path.{_≡_, refl, _∙_}
 use native.Mathlib.Omega.{arith}
 use lib.ListN.{drop}
-use Rattle.explore.specs.Rows.{numberAt}
+use Rattle.rows.specs.Rows.{numberAt}
 use Rattle.stages.specs.Slot.{slot-ends, number-drop, unpacked}
 use borrow.Author.Needs.{needs}
 use Rattle.stages.proofs.slot.unpack.Statement.{statement}

@@ -1,0 +1,2 @@
+-- When a transition repeats an earlier one.
+pub mod Twins

@@ -1,0 +1,2 @@
+-- The rows and transitions of a stage while they are laid out.
+pub mod Partial
