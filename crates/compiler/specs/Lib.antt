@@ -1,8 +1,9 @@
 -- A book compiled: its lines in order, its refusals, what it allows, and that the kept machine is right.
 pub mod Allows
 pub mod Book
-pub mod BookLaws
-pub mod Bounds
 pub mod Outcome
 pub mod Table
+pub mod BookLaws
+pub mod Bounds
+pub mod BookStages
 pub mod Peak
