@@ -2,6 +2,7 @@
 pub mod Allows
 pub mod Book
 pub mod Outcome
+pub mod Lent
 pub mod Table
 pub mod BookLaws
 pub mod Bounds
