@@ -19,18 +19,13 @@ use Rattle.language.specs.Restriction.{restricts}
 use Rattle.language.specs.Environment.{namesOf}
 use Rattle.language.specs.Expression.{Expr, letter, name, dot, empty, pair, join, star, plus, option, complement}
 use Rattle.language.specs.Makes.{Pairs, Joins, Stars, Erasing, Makes, MakesMarked, MakesContexts, MakesRule}
-use Rattle.book.specs.Text.{Line, linesOf, lettersOf, Form, define, rule, malformed, formOf}
-use Rattle.book.specs.Line as L
-use Rattle.book.specs.Line.{LineRead, reads, stops, HeadRead, letters}
-use Rattle.book.specs.LineGrammar.{form-whole}
-use Rattle.book.specs.LineLaws as LL
-use Rattle.book.specs.LineLaws.{LineSays}
-use Rattle.book.specs.HeadLaws as HL
-use Rattle.book.specs.HeadLaws.{HeadSays, head-letters}
+use Rattle.book.specs.Text.{Line, linesOf, lettersOf, Form, define, rule, malformed}
+use Rattle.book.specs.Line.{reads, letters}
+use Rattle.book.specs.HeadLaws.{head-letters}
 use Rattle.compiler.specs.Allows.{bookLetters}
 use Rattle.compiler.specs.Book.{Draft, BookResult, done, stopped, startDraft, compileBook}
 use Rattle.compiler.specs.Outcome.{most}
-use Rattle.compiler.specs.Table.{MakesLine, advance, LinesSay, line-stops, stage-stops, goes-on, no-rule, all-lines, BookSays, no-bytes, head-stops, head-goes, book-says}
+use Rattle.compiler.specs.Table.{MakesLine, advance, LinesSay, line-stops, stage-stops, goes-on, no-rule, all-lines, BookSays, no-bytes, head-stops, head-goes, line-form, head-form, accepted-says}
 use Rattle.compiler.specs.BookStages.{Stage, pairs, joins, stars, erases, Reaches, Leaves, Row, gives, makes, andThen, StageIn, first, later, expressionStages, markedStages, contextStages, ruleStages, formStages, lineStages, bookStages, Peak}
 
 -- No count is greater.
@@ -215,21 +210,8 @@ module _ (fmt : Format) (ls : List ℕ) where
   lines-counted (l ∷ rest) at d b (line-stops s) = tt
   lines-counted (l ∷ rest) at d b (stage-stops F s m) = tt
   lines-counted (l ∷ rest) at d b (goes-on F counts M s m t) =
-      subst (λ G. BehindLines (formStages ls (d .env) (d .kept) G (λ env₁ kept₁. lineStages rest ls env₁ kept₁)) d b) (sym (form-of (reads F) s))
+      subst (λ G. BehindLines (formStages ls (d .env) (d .kept) G (λ env₁ kept₁. lineStages rest ls env₁ kept₁)) d b) (sym (line-form ls (namesOf (d .env)) l (reads F) s .0))
       (form-counted d F _ counts M m b (lines-counted rest (suc at) (advance fmt d F counts M) b t))
-    where
-      Form-is : LineRead → Type 0
-      Form-is (reads F) = formOf (l .bytes) ≡ F
-      Form-is (stops r) = Unit {0}
-
-      form-of : (q : LineRead) → LineSays ls (namesOf (d .env)) l q → Form-is q
-      form-of q (LL.LineSays.nesting-too-deep p) = tt
-      form-of q (LL.LineSays.too-many-contexts n h) = tt
-      form-of q (LL.LineSays.no-line-end C t) = tt
-      form-of q (LL.LineSays.malformed-line C t n) = tt
-      form-of q (LL.LineSays.undefined-symbol C t F f k) = tt
-      form-of q (LL.LineSays.duplicate-name C t F f k n) = tt
-      form-of q (LL.LineSays.says C t F f k n) = form-whole (l .bytes) F f
 
 -- ---- the peak
 
@@ -241,19 +223,8 @@ book-counted : (fmt : Format) (lines : List Line) (b : BookResult) → BookSays 
 unfolding BookCounted
 book-counted fmt lines b no-bytes = tt
 book-counted fmt (l ∷ rest) b (head-stops s) = tt
-book-counted fmt (l ∷ rest) b (head-goes ls s t) = go b (head-of (letters ls) s) (lines-counted fmt ls rest 2 (startDraft (length ls)) b t)
+book-counted fmt (l ∷ rest) b (head-goes ls s t) = go b (head-letters fmt l ls (head-form fmt l (letters ls) s)) (lines-counted fmt ls rest 2 (startDraft (length ls)) b t)
   where
-    Letters-are : HeadRead → Type 0
-    Letters-are (letters ls) = lettersOf l ≡ ls
-    Letters-are (L.HeadRead.stops r) = Unit {0}
-
-    head-of : (q : HeadRead) → HeadSays fmt l q → Letters-are q
-    head-of q (HL.HeadSays.nesting-too-deep p) = tt
-    head-of q (HL.HeadSays.too-many-contexts n h) = tt
-    head-of q (HL.HeadSays.no-line-end C t) = tt
-    head-of q (HL.HeadSays.malformed-line C t n) = tt
-    head-of q (HL.HeadSays.says C t ls f) = head-letters fmt l ls f
-
     go : (b : BookResult) → lettersOf l ≡ ls → BehindLines fmt ls (lineStages rest ls [] (allMachine (length ls))) (startDraft (length ls)) b → BookCounted (l ∷ rest) b
     go (done ls′ d) e B =
         let c : Counted (length ls) (lineStages rest ls [] (allMachine (length ls))) (d .counts) (d .kept) = rw (B .counts) (B .counted) in
@@ -262,7 +233,7 @@ book-counted fmt (l ∷ rest) b (head-goes ls s t) = go b (head-of (letters ls) 
 
 -- THE PEAK of an accepted book, of its stages.
 pub book-peak : (fmt : Format) (text ls : List ℕ) (d : Draft) → compileBook fmt text ≡ done ls d → Peak text (most (d .counts))
-unfolding compileBook BookCounted
+unfolding BookCounted
 book-peak fmt text ls d e = record {
   reached =
       let (i, h, q) = most-attained (d .counts) (c .1) in
@@ -277,4 +248,4 @@ book-peak fmt text ls d e = record {
     m = length (bookLetters (linesOf text))
 
     c : BookCounted (linesOf text) (done ls d)
-    c = book-counted fmt (linesOf text) (done ls d) (subst (BookSays fmt (linesOf text)) e (book-says fmt (linesOf text)))
+    c = book-counted fmt (linesOf text) (done ls d) (accepted-says fmt text ls d e)

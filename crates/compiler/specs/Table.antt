@@ -22,11 +22,14 @@ use Rattle.language.specs.Environment.{namesOf}
 use Rattle.language.specs.Evaluate.{evaluate, evaluateRule}
 use Rattle.language.specs.Makes.{Pairs, Makes, MakesRule, makes-exactly, rule-exactly, pairs-exactly}
 use Rattle.card.specs.Same.{cardOf}
-use Rattle.book.specs.Text.{Line, linesOf, Form, define, rule, malformed, unless}
+use Rattle.book.specs.Text.{Line, linesOf, Form, define, rule, malformed, formOf, unless}
 use Rattle.book.specs.Line as L
 use Rattle.book.specs.Line.{LineRead, reads, stops, readLine, HeadRead, letters, readHead}
-use Rattle.book.specs.LineLaws.{LineSays, line-says, line-says-only}
-use Rattle.book.specs.HeadLaws.{HeadSays, head-says, head-says-only}
+use Rattle.book.specs.LineGrammar.{form-whole}
+use Rattle.book.specs.LineLaws as LL
+use Rattle.book.specs.LineLaws.{KnownForm, LineSays, line-says, line-says-only}
+use Rattle.book.specs.HeadLaws as HL
+use Rattle.book.specs.HeadLaws.{HeadForm, HeadSays, head-says, head-says-only}
 use Rattle.compiler.specs.Book.{Draft, LineResult, on, off, onMade, compileForm, afterRead, compileLine, BookResult, done, stopped, afterLine, compileLines, startDraft, afterHead, compileHead, compileText, compileBook}
 use Rattle.compiler.specs.Outcome.{Outcome, card, stop, most, enough, written, outcome}
 
@@ -144,6 +147,37 @@ book-says-only fmt lines b no-bytes = refl
 book-says-only fmt (l ∷ rest) b (head-stops {r = r} s) = ap (λ q. afterHead q (λ ls. compileLines fmt ls rest 2 (startDraft (length ls)))) (head-says-only fmt l (L.HeadRead.stops r) s)
 book-says-only fmt (l ∷ rest) b (head-goes ls s t) =
     ap (λ q. afterHead q (λ ls. compileLines fmt ls rest 2 (startDraft (length ls)))) (head-says-only fmt l (letters ls) s) ∙ lines-say-only fmt ls rest 2 (startDraft (length ls)) b t
+
+pub accepted-says : (fmt : Format) (text ls : List ℕ) (d : Draft) → compileBook fmt text ≡ done ls d → BookSays fmt (linesOf text) (done ls d)
+unfolding compileBook
+accepted-says fmt text ls d e = subst (BookSays fmt (linesOf text)) e (book-says fmt (linesOf text))
+
+-- ---- what was read
+
+-- The form of a line that is read, with letters and names that are known.
+abbrev pub Read : List ℕ → List ℕ → Line → LineRead → Type 0
+Read ls names l (reads F) = (formOf (l .bytes) ≡ F) × KnownForm ls names F
+Read ls names l (stops r) = Unit {0}
+
+pub line-form : (ls names : List ℕ) (l : Line) (q : LineRead) → LineSays ls names l q → Read ls names l q
+line-form ls names l q (LL.LineSays.nesting-too-deep p) = tt
+line-form ls names l q (LL.LineSays.too-many-contexts n h) = tt
+line-form ls names l q (LL.LineSays.no-line-end C t) = tt
+line-form ls names l q (LL.LineSays.malformed-line C t n) = tt
+line-form ls names l q (LL.LineSays.undefined-symbol C t F f k) = tt
+line-form ls names l q (LL.LineSays.duplicate-name C t F f k n) = tt
+line-form ls names l q (LL.LineSays.says C t F f k n) = (form-whole (l .bytes) F f, k)
+
+abbrev pub HeadIs : Format → Line → HeadRead → Type 0
+HeadIs fmt l (letters ls) = HeadForm fmt (l .bytes) ls
+HeadIs fmt l (L.HeadRead.stops r) = Unit {0}
+
+pub head-form : (fmt : Format) (l : Line) (q : HeadRead) → HeadSays fmt l q → HeadIs fmt l q
+head-form fmt l q (HL.HeadSays.nesting-too-deep p) = tt
+head-form fmt l q (HL.HeadSays.too-many-contexts n h) = tt
+head-form fmt l q (HL.HeadSays.no-line-end C t) = tt
+head-form fmt l q (HL.HeadSays.malformed-line C t n) = tt
+head-form fmt l q (HL.HeadSays.says C t ls f) = f
 
 -- ---- the table
 
