@@ -60,10 +60,6 @@ nothing = 12 ∷ 0 ∷ 2 ∷ 0 ∷ 14 ∷ 0 ∷ 1 ∷ 0 ∷ 15 ∷ 0 ∷ 2 ∷ 0
 abbrev pub everything : List ℕ
 everything = 12 ∷ 0 ∷ 2 ∷ 0 ∷ 14 ∷ 0 ∷ 1 ∷ 0 ∷ 15 ∷ 0 ∷ 2 ∷ 0 ∷ 97 ∷ 98 ∷ 1 ∷ 0 ∷ 0 ∷ []
 
--- `>a / .* _ .*b.*`
-abbrev pub afterA : List ℕ
-afterA = 12 ∷ 0 ∷ 2 ∷ 0 ∷ 14 ∷ 0 ∷ 2 ∷ 0 ∷ 16 ∷ 0 ∷ 4 ∷ 0 ∷ 97 ∷ 98 ∷ 1 ∷ 0 ∷ 1 ∷ 0 ∷ 1 ∷ 0 ∷ []
-
 -- `:abc`, `>b / a _ a / c _ c`
 abbrev pub twoContexts : List ℕ
 twoContexts = 12 ∷ 0 ∷ 3 ∷ 0 ∷ 15 ∷ 0 ∷ 8 ∷ 0 ∷ 23 ∷ 0 ∷ 24 ∷ 0 ∷ 97 ∷ 98 ∷ 99 ∷ 1 ∷ 1 ∷ 2 ∷ 1 ∷ 1 ∷ 0 ∷ 0 ∷ 1 ∷ 1 ∷ 2 ∷ 3 ∷ 4 ∷ 5 ∷ 4 ∷ 2 ∷ 2 ∷ 2 ∷ 4 ∷ 6 ∷ 4 ∷ 4 ∷ 2 ∷ 4 ∷ 7 ∷ 2 ∷ 2 ∷ 2 ∷ 2 ∷ 7 ∷ 2 ∷ 2 ∷ 2 ∷ []
@@ -83,6 +79,10 @@ firstPlans = ("ab", verdict allowed) ∷ ("abb", verdict (hopeless 3)) ∷ ("b",
 
 abbrev pub nothingBook : String
 nothingBook = ":ab\n>@ / a _ .*\n"
+
+-- "every plan hopeless 0"
+abbrev pub alwaysHopeless : Case
+alwaysHopeless = always (bytesOf nothingBook) (hopeless 0)
 
 abbrev pub twoBook : String
 twoBook = ":abc\n>b / a _ a / c _ c\n"
@@ -105,7 +105,7 @@ cases =
     ∷ compiles ":ab\n>a\n" (card noA 7)
     ∷ compiles ":ab\n>a|ab / @ _ b\n" (card noA 12)
     ∷ compiles nothingBook (card nothing 8)
-    ∷ always (bytesOf nothingBook) (hopeless 0)
+    ∷ alwaysHopeless
     ∷ compiles ":ab\n>a / .* _ .*\n" (card everything 7)
     ∷ judges ":ab\n>a / .* _ .*b.*\n" (("a", verdict unfinished) ∷ ("ab", verdict allowed) ∷ [])
     ∷ judges twoBook twoPlans
@@ -116,7 +116,8 @@ cases =
     ∷ compiles twoBook (card twoContexts 16)
     -- a definition's stages count
     ∷ compiles ":ab\n=Aaaaaaa\n>a\n" (card noA 9)
-    -- 1: a text over 16,384 bytes, also with a short bench; 2: one buffer short, also with no text, or one missing; 11 and a buffer just long enough; 10 before 11
+    -- 1: over 16,384 bytes, also with a short buffer, and not over; 2: one buffer short, also with no text, or one missing or too many; 11, and a card
+    -- buffer just long enough; 10 before 11
     ∷ answered (bytes 16385 97) documented wide (stop 1 0)
     ∷ answered (bytes 16385 97) firstShort wide (stop 1 0)
     ∷ answered (bytes 16384 97) documented wide (stop 5 1)
@@ -124,6 +125,7 @@ cases =
     ∷ answered (bytesOf ":ab\n>a\n") lastShort wide (stop 2 0)
     ∷ answered [] lastShort wide (stop 2 0)
     ∷ answered (bytesOf ":ab\n>a\n") (take 7 documented) wide (stop 2 0)
+    ∷ answered (bytesOf ":ab\n>a\n") (documented ++ (0 ∷ [])) wide (stop 2 0)
     ∷ answered (bytesOf firstBook) documented 22 (stop 11 0)
     ∷ answered (bytesOf firstBook) documented 23 (card firstCard 9)
     ∷ answered (bytesOf ":ab\n") documented 0 (stop 10 0)
@@ -205,7 +207,7 @@ dead-at-once : (plan : List ℕ) → planVerdict narrow nothing plan ≡ hopeles
 dead-at-once [] = refl
 dead-at-once (l ∷ plan) = refl
 
-always-hopeless : Holds (always (bytesOf nothingBook) (hopeless 0))
+always-hopeless : Holds alwaysHopeless
 unfolding judge unless lettersOf
 always-hopeless plan k = rw (nothing-card, nothing-loads, known-count (97 ∷ 98 ∷ []) plan k, nat-test .whole (length plan), dead-at-once plan)
 
@@ -234,7 +236,7 @@ pub cases-hold : AllHold cases
 unfolding explore exploreFrom listing turn addTo add classes settle rounds refine firsts smallest smallestBy tabulated smallestOf subset gains pair-test stage keep pairStage concatStage starStage eraseStage lineTest formOf readHead readLine checkForm evaluate markedStages minusContexts eraseAndExclude evaluateRule compileForm compileLine compileLines compileHead compileText compileBook outcome cardOf restrict encode marks live liveRound liveNext loadTest contentsTest insideTest rowInside marksTest numberedTest reducedTest judge lettersOf marksOf movesOf machineOf unless alphabetTest rowNumbered seen across
 cases-hold =
     first-card and first-judged and refl and refl and nothing-card and always-hopeless and refl and refl and
-    two-judged and five-sets and refl and refl and two-card and refl and refl and refl and refl and refl and refl and refl and
+    two-judged and five-sets and refl and refl and two-card and refl and refl and refl and refl and refl and refl and refl and refl and
     refl and refl and refl and refl and refl and refl and refl and refl and refl and refl and refl and refl and refl and refl and refl and refl and
     refl and refl and refl and refl and refl and refl and refl and refl and refl and refl and refl and refl and refl and refl and refl and refl and
     refl and refl and refl and refl and refl and refl and refl and refl and none

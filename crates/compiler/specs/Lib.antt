@@ -1,4 +1,4 @@
--- A book compiled: its lines in order, its refusals, what it allows, and that the kept machine is right.
+-- A book compiled: its lines in order, its refusals, what it allows, its stages and their peak, and that the kept machine is right.
 pub mod Allows
 pub mod Book
 pub mod Outcome

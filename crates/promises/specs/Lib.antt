@@ -1,4 +1,4 @@
--- The customer's demands, joined from the laws of the other crates; and the starred cases of 01.
+-- The customer's demands, joined from the laws of the other crates.
 pub mod Accepted
 pub mod Refusals
 pub mod PlanCuts
