@@ -1,22 +1,20 @@
 -- The starred cases of "Ten days on paper", and short texts that pin the small numbers of the definitions, from the texts: one theorem over one list.
 use Prim.Native.Nat.{ℕ, suc}
 use Prim.Native.String.{String}
-use mathlib.Core.Path.{_≡_, refl, ap, _∙_}
+use mathlib.Core.Path.{_≡_, refl}
 use mathlib.Core.List.{List, [], _∷_, _++_, map}
 use lib.ListN.{length, take, drop}
 use native.Mathlib.Omega.{arith}
 use Rattle.automata.specs.Format.{narrow}
 use Rattle.automata.specs.Automaton.{Automaton}
 use Rattle.automata.specs.Basics.{nat-test}
-use Rattle.automata.specs.Flags.{flags-test}
 use Rattle.automata.specs.Listing.{explore, exploreFrom, listing, turn, addTo, add}
 use Rattle.automata.specs.Partition.{classes, settle, rounds, refine, firsts}
 use Rattle.automata.specs.Smallest.{smallest, smallestBy, tabulated, smallestOf}
 use Rattle.automata.specs.Subset.{subset, gains}
-use Rattle.automata.specs.Operations.{concatNFA, pair-test}
+use Rattle.automata.specs.Operations.{pair-test}
 use Rattle.automata.specs.Restrict.{restrict}
 use Rattle.automata.specs.Live.{live, liveRound, liveNext}
-use Rattle.automata.specs.Machine.{Machine}
 use Rattle.automata.specs.Stage.{Made, made, refused, stage, keep, Counts, StageResult, kept-one, too-many-sets, too-many-states}
 use Rattle.automata.specs.Given.{allMachine, markMachine}
 use Rattle.automata.specs.Stages.{pairStage, concatStage, starStage, eraseStage}
@@ -29,7 +27,7 @@ use Rattle.card.specs.Judge.{Reply, judge, planVerdict, verdict}
 use Rattle.automata.specs.Decide.{unless}
 use Rattle.automata.specs.Numbering.{seen, across}
 use Rattle.automata.specs.NumberingTest.{numberedTest, rowNumbered}
-use Rattle.card.specs.Alphabet.{alphabetTest, Known}
+use Rattle.card.specs.Alphabet.{alphabetTest}
 use Rattle.card.specs.Allowed.{known-count}
 use Rattle.automata.specs.ReducedTest.{reducedTest}
 use Rattle.card.specs.Same.{cardOf}
@@ -39,7 +37,6 @@ use Rattle.book.specs.Line.{readHead, readLine, checkForm}
 use Rattle.compiler.specs.Book.{compileForm, compileLine, compileLines, compileHead, compileText, compileBook}
 use Rattle.compiler.specs.Outcome.{card, stop, outcome}
 use Rattle.compiler.specs.Lent.{documented}
-use Rattle.compiler.specs.BookStages.{joins, Reaches}
 use Rattle.cases.specs.Case.{bytesOf, bytes, Case, answered, judged, always, joining, wide, Holds, AllHold, none, _and_, compiles, judges}
 
 -- ---- the cards

@@ -1,7 +1,7 @@
 -- "The peak, carried in the result, is the most sets that one stage of this book made": some stage of an accepted book reaches that many sets, and every
 -- stage of it reaches no more. The counts of a book are those of its stages (BookStages.antt), one by one.
 use mathlib.Core.Path.{_≡_, refl, sym, subst, _∙_}
-use mathlib.Core.Bool.{true, false, false≢true}
+use mathlib.Core.Bool.{true, false≢true}
 use mathlib.Core.Logic.{inl, inr}
 use mathlib.Core.List.{List, [], _∷_, _++_, append-assoc, append-nil}
 use Prim.Native.Nat.{ℕ, zero, suc, _≤_, _<_, max, suc-le-suc}
@@ -11,7 +11,7 @@ use lib.ListN.{length, getD, length-append}
 use Rattle.automata.specs.Format.{Format}
 use Rattle.automata.specs.Basics.{LtCases, lt-cases}
 use Rattle.automata.specs.Machine.{Machine}
-use Rattle.automata.specs.Stage.{Made, made, refused, after, StageResult, kept-one, too-many-sets, too-many-states, smallest-one}
+use Rattle.automata.specs.Stage.{Made, made, refused, after, kept-one, too-many-sets, too-many-states, smallest-one}
 use Rattle.automata.specs.Exactly.{Then, goes, fails, Given, given}
 use Rattle.automata.specs.Given.{allMachine}
 use Rattle.automata.specs.Stages.{Pairing, both}

@@ -1,23 +1,21 @@
 -- "What stops a book", line by line of the table, as a relation: each of 1 to 11 in exactly its case, in its order, with its line; and what an accepted
 -- book gives. `outcome` answers what the table says, and one answer only is right. The relation knows a line by its form
 -- (inductive grammar), a stage by the sets that it reaches and the states of its smallest machine; it computes nothing.
-use mathlib.Core.Path.{_≡_, refl, sym, ap, ap₂, _∙_, subst}
+use mathlib.Core.Path.{_≡_, refl, sym, ap, _∙_, subst}
 use mathlib.Core.Bool.{Bool, true, false}
 use mathlib.Core.Logic.{inl, inr, _⊎_}
-use mathlib.Core.List.{List, [], _∷_, _++_, head-eq-of-cons-eq, tail-eq-of-cons-eq}
+use mathlib.Core.List.{List, [], _∷_, _++_}
 use Prim.Native.Nat.{ℕ, suc, _≤_, _<_}
-use native.Mathlib.Omega.{arith}
-use lib.Dec.{ltb, leb}
+use lib.Dec.{ltb}
 use lib.ListN.{length}
 use Rattle.automata.specs.Format.{Format}
 use Rattle.automata.specs.Booleans.{choose, bool-cases}
 use Rattle.automata.specs.Basics.{LtCases, lt-cases, lt-ltb, ltb-false}
-use Rattle.automata.specs.Decide.{contradict}
 use Rattle.automata.specs.Machine.{Machine}
 use Rattle.automata.specs.Stage.{Made, made, refused, thenMade}
 use Rattle.automata.specs.Exactly.{Exactly, Then, then-exactly}
 use Rattle.automata.specs.Stages.{both, pairStage}
-use Rattle.language.specs.Restriction.{RuleKind, restricts}
+use Rattle.language.specs.Restriction.{restricts}
 use Rattle.language.specs.Environment.{namesOf}
 use Rattle.language.specs.Evaluate.{evaluate, evaluateRule}
 use Rattle.language.specs.Makes.{Pairs, Makes, MakesRule, makes-exactly, rule-exactly, pairs-exactly}
@@ -25,12 +23,9 @@ use Rattle.card.specs.Same.{cardOf}
 use Rattle.book.specs.Text.{Line, linesOf, Form, define, rule, malformed, formOf, unless}
 use Rattle.book.specs.Line as L
 use Rattle.book.specs.Line.{LineRead, reads, stops, readLine, HeadRead, letters, readHead}
-use Rattle.book.specs.LineGrammar.{form-whole}
-use Rattle.book.specs.LineLaws as LL
-use Rattle.book.specs.LineLaws.{KnownForm, LineSays, line-says, line-says-only}
-use Rattle.book.specs.HeadLaws as HL
-use Rattle.book.specs.HeadLaws.{HeadForm, HeadSays, head-says, head-says-only}
-use Rattle.compiler.specs.Book.{Draft, LineResult, on, off, onMade, compileForm, afterRead, compileLine, BookResult, done, stopped, afterLine, compileLines, startDraft, afterHead, compileHead, compileText, compileBook}
+use Rattle.book.specs.LineLaws.{KnownForm, LineSays, line-says, line-says-only, line-elim}
+use Rattle.book.specs.HeadLaws.{HeadForm, HeadSays, head-says, head-says-only, head-elim}
+use Rattle.compiler.specs.Book.{Draft, on, onMade, compileForm, afterRead, compileLine, BookResult, done, stopped, afterLine, compileLines, startDraft, afterHead, compileHead, compileText, compileBook}
 use Rattle.compiler.specs.Outcome.{Outcome, card, stop, most, enough, written, outcome}
 
 module _ (fmt : Format) where
@@ -160,24 +155,14 @@ Read ls names l (reads F) = (formOf (l .bytes) ≡ F) × KnownForm ls names F
 Read ls names l (stops r) = Unit {0}
 
 pub line-form : (ls names : List ℕ) (l : Line) (q : LineRead) → LineSays ls names l q → Read ls names l q
-line-form ls names l q (LL.LineSays.nesting-too-deep p) = tt
-line-form ls names l q (LL.LineSays.too-many-contexts n h) = tt
-line-form ls names l q (LL.LineSays.no-line-end C t) = tt
-line-form ls names l q (LL.LineSays.malformed-line C t n) = tt
-line-form ls names l q (LL.LineSays.undefined-symbol C t F f k) = tt
-line-form ls names l q (LL.LineSays.duplicate-name C t F f k n) = tt
-line-form ls names l q (LL.LineSays.says C t F f k n) = (form-whole (l .bytes) F f, k)
+line-form ls names l q s = subst (Read ls names l) (line-says-only ls names l q s) (line-elim ls names l (Read ls names l) (λ r. tt) (λ F k n e. (e, k)))
 
 abbrev pub HeadIs : Format → Line → HeadRead → Type 0
 HeadIs fmt l (letters ls) = HeadForm fmt (l .bytes) ls
 HeadIs fmt l (L.HeadRead.stops r) = Unit {0}
 
 pub head-form : (fmt : Format) (l : Line) (q : HeadRead) → HeadSays fmt l q → HeadIs fmt l q
-head-form fmt l q (HL.HeadSays.nesting-too-deep p) = tt
-head-form fmt l q (HL.HeadSays.too-many-contexts n h) = tt
-head-form fmt l q (HL.HeadSays.no-line-end C t) = tt
-head-form fmt l q (HL.HeadSays.malformed-line C t n) = tt
-head-form fmt l q (HL.HeadSays.says C t ls f) = f
+head-form fmt l q s = subst (HeadIs fmt l) (head-says-only fmt l q s) (head-elim fmt l (HeadIs fmt l) (λ r. tt) (λ ls f. f))
 
 -- ---- the table
 
