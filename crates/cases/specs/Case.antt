@@ -35,8 +35,8 @@ pub data Case : Type 0 where
   joining : (letters sets : ℕ) → Case
 
 -- a card buffer that is long enough for every book here
-abbrev pub wide : ℕ
-wide = 4096
+abbrev pub ample : ℕ
+ample = 4096
 
 abbrev pub cardIn : Outcome → List ℕ
 cardIn (card c peak) = c
@@ -44,7 +44,7 @@ cardIn (stop r at) = []
 
 -- the card of a text, compiled with the documented lengths
 abbrev pub cardFor : List ℕ → List ℕ
-cardFor text = cardIn (outcome narrow documented text documented wide)
+cardFor text = cardIn (outcome narrow documented text documented ample)
 
 abbrev pub Holds : Case → Type 0
 Holds (answered text lent room o) = outcome narrow documented text lent room ≡ o
@@ -60,7 +60,7 @@ pub data AllHold : List Case → Type 0 where
 -- ---- cases with the documented lengths
 
 abbrev pub compiles : String → Outcome → Case
-compiles book o = answered (bytesOf book) documented wide o
+compiles book o = answered (bytesOf book) documented ample o
 
 abbrev pub judges : String → List (String × Reply) → Case
 judges book plans = judged (bytesOf book) plans

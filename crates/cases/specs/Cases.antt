@@ -37,7 +37,7 @@ use Rattle.book.specs.Line.{readHead, readLine, checkForm}
 use Rattle.compiler.specs.Book.{compileForm, compileLine, compileLines, compileHead, compileText, compileBook}
 use Rattle.compiler.specs.Outcome.{card, stop, outcome}
 use Rattle.compiler.specs.Lent.{documented}
-use Rattle.cases.specs.Case.{bytesOf, bytes, Case, answered, judged, always, joining, wide, Holds, AllHold, none, _and_, compiles, judges}
+use Rattle.cases.specs.Case.{bytesOf, bytes, Case, answered, judged, always, joining, ample, Holds, AllHold, none, _and_, compiles, judges}
 
 -- ---- the cards
 
@@ -115,14 +115,14 @@ cases =
     ∷ compiles ":ab\n=Aaaaaaa\n>a\n" (card noA 9)
     -- 1: over 16,384 bytes, also with a short buffer, and not over; 2: one buffer short, also with no text, or one missing or too many; 11, and a card
     -- buffer just long enough; 10 before 11
-    ∷ answered (bytes 16385 97) documented wide (stop 1 0)
-    ∷ answered (bytes 16385 97) firstShort wide (stop 1 0)
-    ∷ answered (bytes 16384 97) documented wide (stop 5 1)
-    ∷ answered (bytesOf ":ab\n>a\n") firstShort wide (stop 2 0)
-    ∷ answered (bytesOf ":ab\n>a\n") lastShort wide (stop 2 0)
-    ∷ answered [] lastShort wide (stop 2 0)
-    ∷ answered (bytesOf ":ab\n>a\n") (take 7 documented) wide (stop 2 0)
-    ∷ answered (bytesOf ":ab\n>a\n") (documented ++ (0 ∷ [])) wide (stop 2 0)
+    ∷ answered (bytes 16385 97) documented ample (stop 1 0)
+    ∷ answered (bytes 16385 97) firstShort ample (stop 1 0)
+    ∷ answered (bytes 16384 97) documented ample (stop 5 1)
+    ∷ answered (bytesOf ":ab\n>a\n") firstShort ample (stop 2 0)
+    ∷ answered (bytesOf ":ab\n>a\n") lastShort ample (stop 2 0)
+    ∷ answered [] lastShort ample (stop 2 0)
+    ∷ answered (bytesOf ":ab\n>a\n") (take 7 documented) ample (stop 2 0)
+    ∷ answered (bytesOf ":ab\n>a\n") (documented ++ (0 ∷ [])) ample (stop 2 0)
     ∷ answered (bytesOf firstBook) documented 22 (stop 11 0)
     ∷ answered (bytesOf firstBook) documented 23 (card firstCard 9)
     ∷ answered (bytesOf ":ab\n") documented 0 (stop 10 0)
@@ -182,7 +182,7 @@ two-card : Holds (compiles twoBook (card twoContexts 16))
 unfolding explore exploreFrom listing turn addTo add classes settle rounds refine firsts smallest smallestBy tabulated smallestOf subset gains pair-test stage keep pairStage concatStage starStage eraseStage lineTest formOf readHead readLine checkForm evaluate markedStages minusContexts eraseAndExclude evaluateRule compileForm compileLine compileLines compileHead compileText compileBook outcome cardOf restrict encode marks live liveRound liveNext loadTest contentsTest insideTest rowInside marksTest numberedTest reducedTest judge lettersOf marksOf movesOf machineOf unless alphabetTest rowNumbered seen across
 two-card = refl
 
-by-card : (text c : List ℕ) (peak : ℕ) (plans : List (String × Reply)) → Holds (answered text documented wide (card c peak))
+by-card : (text c : List ℕ) (peak : ℕ) (plans : List (String × Reply)) → Holds (answered text documented ample (card c peak))
     → map (λ p. judge narrow c (bytesOf (p .0))) plans ≡ map (λ p. p .1) plans → Holds (judged text plans)
 by-card text c peak plans e h = rw e h
 
