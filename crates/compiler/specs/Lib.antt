@@ -1,8 +1,10 @@
--- A book compiled: its lines in order, its refusals, what it allows, and that the kept machine is right.
+-- A book compiled: its lines in order, its refusals, what it allows, its stages and their peak, and that the kept machine is right.
 pub mod Allows
 pub mod Book
+pub mod Outcome
+pub mod Lent
+pub mod Table
 pub mod BookLaws
 pub mod Bounds
-pub mod Outcome
-pub mod Table
+pub mod BookStages
 pub mod Peak

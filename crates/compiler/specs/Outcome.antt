@@ -21,7 +21,8 @@ abbrev pub most : List ℕ → ℕ
 most [] = 0
 most (c ∷ cs) = max c (most cs)
 
--- every lent buffer has its documented length at least
+-- every lent buffer has its documented length at least (`enough-iff`). As many are lent as are documented, eight: the entry's parameters say it, so that
+-- the two answers for lists that are not alike in length are never given.
 abbrev pub enough : List ℕ → List ℕ → Bool
 enough [] [] = true
 enough [] (l ∷ ls) = false

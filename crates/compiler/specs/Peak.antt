@@ -1,28 +1,32 @@
--- "The peak, carried in the result, is the most sets that one stage of this book made": it is the count of one of the book's stages, and no stage of the
--- book made more.
-use mathlib.Core.Path.{_≡_, refl, sym, subst}
-use mathlib.Core.Bool.{Bool, true, false, false≢true}
+-- "The peak, carried in the result, is the most sets that one stage of this book made": some stage of an accepted book reaches that many sets, and every
+-- stage of it reaches no more. The counts of a book are those of its stages (BookStages.antt), one by one.
+use mathlib.Core.Path.{_≡_, refl, sym, subst, _∙_}
+use mathlib.Core.Bool.{true, false≢true}
 use mathlib.Core.Logic.{inl, inr}
-use mathlib.Core.List.{List, [], _∷_, _++_}
-use Prim.Native.Nat.{ℕ, zero, suc, _+_, _≤_, _<_, max, suc-le-suc}
+use mathlib.Core.List.{List, [], _∷_, _++_, append-assoc, append-nil}
+use Prim.Native.Nat.{ℕ, zero, suc, _≤_, _<_, max, suc-le-suc}
 use native.Mathlib.Nat.{not-suc-le-zero, le-of-suc-le-suc, zero-lt-suc}
 use native.Mathlib.Omega.{arith}
 use lib.ListN.{length, getD, length-append}
 use Rattle.automata.specs.Format.{Format}
-use Rattle.automata.specs.Booleans.{choose}
-use Rattle.automata.specs.Basics.{Test, LtCases, lt-cases}
-use Rattle.automata.specs.Automaton.{Automaton}
+use Rattle.automata.specs.Basics.{LtCases, lt-cases}
 use Rattle.automata.specs.Machine.{Machine}
-use Rattle.automata.specs.Stage.{Made, made, refused, after, thenMade, stage, StageResult, kept-one, too-many-sets, too-many-states, stage-result}
-use Rattle.automata.specs.Stages.{both, pairStage}
-use Rattle.language.specs.Restriction.{RuleKind, restricts}
+use Rattle.automata.specs.Stage.{Made, made, refused, after, kept-one, too-many-sets, too-many-states, smallest-one}
+use Rattle.automata.specs.Exactly.{Then, goes, fails, Given, given}
+use Rattle.automata.specs.Given.{allMachine}
+use Rattle.automata.specs.Stages.{Pairing, both}
+use Rattle.language.specs.Restriction.{restricts}
 use Rattle.language.specs.Environment.{namesOf}
-use Rattle.language.specs.Evaluate.{evaluate, evaluateRule}
-use Rattle.book.specs.Text.{Line, linesOf, Form, define, rule, malformed}
-use Rattle.book.specs.Line.{LineRead, reads, stops, readLine, HeadRead, letters, readHead}
-use Rattle.compiler.specs.Book.{Draft, LineResult, on, off, onMade, compileForm, afterRead, compileLine, BookResult, done, stopped, afterLine, compileLines, startDraft, afterHead, compileHead, compileText, compileBook}
-use Rattle.compiler.specs.BookLaws.{Accepts}
+use Rattle.language.specs.Expression.{Expr, letter, name, dot, empty, pair, join, star, plus, option, complement}
+use Rattle.language.specs.Makes.{Pairs, Joins, Stars, Erasing, Makes, MakesMarked, MakesContexts, MakesRule}
+use Rattle.book.specs.Text.{Line, linesOf, lettersOf, Form, define, rule, malformed}
+use Rattle.book.specs.Line.{reads, letters}
+use Rattle.book.specs.HeadLaws.{head-letters}
+use Rattle.compiler.specs.Allows.{bookLetters}
+use Rattle.compiler.specs.Book.{Draft, BookResult, done, stopped, startDraft, compileBook}
 use Rattle.compiler.specs.Outcome.{most}
+use Rattle.compiler.specs.Table.{MakesLine, advance, LinesSay, line-stops, stage-stops, goes-on, no-rule, all-lines, BookSays, no-bytes, head-stops, head-goes, line-form, head-form, accepted-says}
+use Rattle.compiler.specs.BookStages.{Stage, pairs, joins, stars, erases, Reaches, Leaves, Row, gives, makes, andThen, StageIn, first, later, expressionStages, markedStages, contextStages, ruleStages, formStages, lineStages, bookStages, Peak}
 
 -- No count is greater.
 pub most-greatest : (cs : List ℕ) (i : ℕ) → i < length cs → getD cs i 0 ≤ most cs
@@ -40,82 +44,208 @@ most-attained (c ∷ d ∷ cs) h = go (lt-cases c (most (d ∷ cs))) (most-attai
     go (inl p) (i, b, e) = (suc i, suc-le-suc b, omega arith)
     go (inr p) x = (zero, zero-lt-suc (suc (length cs)), omega arith)
 
--- ---- an accepted book has a stage
+-- ---- a row that was made, its stages counted
 
-abbrev Counted : Made → Type 0
-Counted (made cs M) = 0 < length cs
-Counted (refused r) = Unit {0}
+-- The numbers are the reachable sets of the row's stages, one by one, and N is what it gives.
+pub data Counted (m : ℕ) : Row → List ℕ → Machine → Type 0 where
+  none : (M : Machine) → Counted m (gives M) [] M
+  one : (s : Stage) (f : Machine → Row) (n : ℕ) (M : Machine) (ns : List ℕ) (N : Machine) → Reaches m s n → Leaves m s M → Counted m (f M) ns N → Counted m (makes s f) (n ∷ ns) N
 
-stage-counted : {S : Type 0} (E : Test S) (fmt : Format) (k : ℕ) (A : Automaton S) → Counted (stage E fmt k A)
-stage-counted {S} E fmt k A = go (stage E fmt k A) (stage-result E fmt k A)
-  where
-    go : (r : Made) → StageResult fmt k A r → Counted r
-    go r (kept-one n M C b s t) = omega arith
-    go r (too-many-sets c) = tt
-    go r (too-many-states n M C b s t) = tt
+module _ (m : ℕ) where
+  -- what a stage keeps is one machine
+  leaves-one : (s : Stage) (M N : Machine) → Leaves m s M → Leaves m s N → M ≡ N
+  leaves-one (pairs o A B) M N a b = smallest-one (suc m) _ M N a b
+  leaves-one (joins A B) M N a b = smallest-one (suc m) _ M N a b
+  leaves-one (stars A) M N a b = smallest-one (suc m) _ M N a b
+  leaves-one (erases U) M N a b = smallest-one (suc m) _ M N a b
 
-after-counted : (cs : List ℕ) (r : Made) → Counted r → Counted (after cs r)
-after-counted cs (made ds M) c = omega (arith, length-append cs ds)
-after-counted cs (refused r) c = tt
+  -- each number is that of a stage,
+  number-stage : (p : Row) (ns : List ℕ) (N : Machine) → Counted m p ns N → (i : ℕ) → i < length ns → (s : Stage) × StageIn m p s × Reaches m s (getD ns i 0)
+  number-stage p ns N (none M) i h = absurd (not-suc-le-zero h)
+  number-stage p ns N (one s f n M ms K r l c) zero h = (s, first s f, r)
+  number-stage p ns N (one s f n M ms K r l c) (suc i) h =
+      let (t, x, q) = number-stage (f M) ms K c i (le-of-suc-le-suc h) in
+      (t, later s t f M l x, q)
 
-then-counted : (r : Made) (f : Machine → Made) → ((M : Machine) → Counted (f M)) → Counted (thenMade r f)
-then-counted (made cs M) f g = after-counted cs (f M) (g M)
-then-counted (refused r) f g = tt
+  -- and each stage has its number.
+  stage-number : (p : Row) (t : Stage) → StageIn m p t → (ns : List ℕ) (N : Machine) → Counted m p ns N → (i : ℕ) × (i < length ns) × Reaches m t (getD ns i 0)
+  stage-number p t (first s f) ns N (one s′ f′ n M ms K r l c) = (zero, zero-lt-suc (length ms), r)
+  stage-number p t (later s t′ f M l x) ns N (one s′ f′ n K ms N′ r k c) =
+      let (i, h, q) = stage-number (f M) t x ms N (subst (λ K. Counted m (f K) ms N) (leaves-one s K M k l) c) in
+      (suc i, suc-le-suc h, q)
 
--- Where there was a rule there was a stage.
-abbrev RuledCounted : Draft → Type 0
-RuledCounted d = d .ruled ≡ true → 0 < length (d .counts)
+  counted-then : (p : Row) (f : Machine → Row) (cs : List ℕ) (A : Machine) (ds : List ℕ) (N : Machine) → Counted m p cs A → Counted m (f A) ds N → Counted m (andThen p f) (cs ++ ds) N
+  counted-then p f cs A ds N (none M) d = d
+  counted-then p f cs A ds N (one s g n M ns B r l c) d = one s (λ K. andThen (g K) f) n M (ns ++ ds) N r l (counted-then (g M) f ns B ds N c d)
+
+  -- a row that ends with a stage has one
+  has-stage : (p : Row) (s : Machine → Stage) (cs : List ℕ) (N : Machine) → Counted m (andThen p λ R. makes (s R) gives) cs N → 0 < length cs
+  has-stage (gives M) s cs N (one t f n K ns L r l c) = zero-lt-suc (length ns)
+  has-stage (makes u g) s cs N (one t f n K ns L r l c) = zero-lt-suc (length ns)
+
+  -- The same of what was made, if it was.
+  abbrev Made-of : Row → Made → Type 0
+  Made-of p (made counts M) = Counted m p counts M
+  Made-of p (refused r) = Unit {0}
+
+  given-made : (M : Machine) (r : Made) → Given M r → Made-of (gives M) r
+  given-made M r given = none M
+
+  then-made : (p : Row) (f : Machine → Row) (P : Made → Type 0) (Q : Machine → Made → Type 0) → ((r : Made) → P r → Made-of p r) → ((M : Machine) (r : Made) → Q M r → Made-of (f M) r)
+      → (r : Made) → Then P Q r → Made-of (andThen p f) r
+  then-made p f P Q a b r (goes counts M s x y) = behind s (b M s y)
+    where
+      behind : (s : Made) → Made-of (f M) s → Made-of (andThen p f) (after counts s)
+      behind (made more N) c = counted-then p f counts M more N (a (made counts M) x) c
+      behind (refused r) c = tt
+  then-made p f P Q a b r (fails n x) = tt
+
+-- ---- the stages of expressions, rules and lines are counted
+
+module _ (fmt : Format) (m : ℕ) where
+  pairs-made : (o : Pairing) (A B : Machine) (r : Made) → Pairs fmt (suc m) o A B r → Made-of m (makes (pairs o A B) gives) r
+  pairs-made o A B r (kept-one n M C h s b) = one (pairs o A B) gives n M [] M C s (none M)
+  pairs-made o A B r (too-many-sets c) = tt
+  pairs-made o A B r (too-many-states n M C h s b) = tt
+
+  joins-made : (A B : Machine) (r : Made) → Joins fmt (suc m) A B r → Made-of m (makes (joins A B) gives) r
+  joins-made A B r (kept-one n M C h s b) = one (joins A B) gives n M [] M C s (none M)
+  joins-made A B r (too-many-sets c) = tt
+  joins-made A B r (too-many-states n M C h s b) = tt
+
+  stars-made : (A : Machine) (r : Made) → Stars fmt (suc m) A r → Made-of m (makes (stars A) gives) r
+  stars-made A r (kept-one n M C h s b) = one (stars A) gives n M [] M C s (none M)
+  stars-made A r (too-many-sets c) = tt
+  stars-made A r (too-many-states n M C h s b) = tt
+
+  erases-made : (U : Machine) (r : Made) → Erasing fmt m U r → Made-of m (makes (erases U) gives) r
+  erases-made U r (kept-one n M C h s b) = one (erases U) gives n M [] M C s (none M)
+  erases-made U r (too-many-sets c) = tt
+  erases-made U r (too-many-states n M C h s b) = tt
+
+module _ (fmt : Format) (ls : List ℕ) (env : List (ℕ × Machine)) where
+  abbrev m : ℕ
+  m = length ls
+
+  abbrev E : Expr → Row
+  E = expressionStages ls env
+
+  expression-made : (e : Expr) (r : Made) → Makes fmt ls env e r → Made-of m (expressionStages ls env e) r
+  expression-made (letter b) = given-made m _
+  expression-made (name b) = given-made m _
+  expression-made dot = given-made m _
+  expression-made empty = given-made m _
+  expression-made (pair o e f) = then-made m (E e) _ _ _ (expression-made e) λ A. then-made m (E f) _ _ _ (expression-made f) λ B. pairs-made fmt m o A B
+  expression-made (join e f) = then-made m (E e) _ _ _ (expression-made e) λ A. then-made m (E f) _ _ _ (expression-made f) λ B. joins-made fmt m A B
+  expression-made (star e) = then-made m (E e) _ _ _ (expression-made e) λ A. stars-made fmt m A
+  expression-made (plus e) = then-made m (E e) _ _ _ (expression-made e) λ A. then-made m _ _ _ _ (stars-made fmt m A) λ B. joins-made fmt m A B
+  expression-made (option e) = then-made m (E e) _ _ _ (expression-made e) λ A. pairs-made fmt m _ _ A
+  expression-made (complement e) = then-made m (E e) _ _ _ (expression-made e) λ A. pairs-made fmt m _ _ A
+
+  marked-made : (L P R : Machine) (r : Made) → MakesMarked fmt ls env L P R r → Made-of m (markedStages (length ls) L P R) r
+  marked-made L P R =
+      then-made m _ _ _ _ (joins-made fmt m L _) λ A.
+      then-made m _ _ _ _ (joins-made fmt m A P) λ B.
+      then-made m _ _ _ _ (joins-made fmt m B _) λ C.
+      joins-made fmt m C R
+
+  contexts-made : (P : Machine) (cs : List (Expr × Expr)) (X : Machine) (r : Made) → MakesContexts fmt ls env P cs X r → Made-of m (contextStages ls env P cs X) r
+  contexts-made P [] X = given-made m X
+  contexts-made P (c ∷ cs) X =
+      then-made m (E (c .0)) _ _ _ (expression-made (c .0)) λ L.
+      then-made m (E (c .1)) _ _ _ (expression-made (c .1)) λ R.
+      then-made m (markedStages (length ls) L P R) _ _ _ (marked-made L P R) λ C.
+      then-made m _ _ _ _ (pairs-made fmt m _ X C) λ Y.
+      contexts-made P cs Y
+
+  rule-made : (p : Expr) (cs : List (Expr × Expr)) (r : Made) → MakesRule fmt ls env p cs r → Made-of m (ruleStages ls env p cs) r
+  rule-made p cs =
+      then-made m (E p) _ _ _ (expression-made p) λ P.
+      then-made m (markedStages (length ls) (allMachine (length ls)) P (allMachine (length ls))) _ _ _ (marked-made (allMachine (length ls)) P (allMachine (length ls))) λ X.
+      then-made m (contextStages ls env P cs X) _ _ _ (contexts-made P cs X) λ Y.
+      then-made m _ _ _ _ (erases-made fmt m Y) λ E.
+      pairs-made fmt m _ _ E
+
+-- ---- the stages of a book are counted
 
 module _ (fmt : Format) (ls : List ℕ) where
-  abbrev LineCounted : LineResult → Type 0
-  LineCounted (on d) = RuledCounted d
-  LineCounted (off r) = Unit {0}
+  -- Behind the lines the counts are those of their stages; and where there was a rule there was a stage.
+  record Behind (p : Row) (d d′ : Draft) : Type 0 where
+    numbers : List ℕ
+    counts : d′ .counts ≡ d .counts ++ numbers
+    counted : Counted (length ls) p numbers (d′ .kept)
+    ruled : (d .ruled ≡ true → 0 < length (d .counts)) → 0 < length (d′ .counts)
 
-  form-counted : (d : Draft) → RuledCounted d → (F : Form) → LineCounted (compileForm fmt ls d F)
-  unfolding compileForm pairStage
-  form-counted d h malformed = tt
-  form-counted d h (define x e) = go (evaluate fmt ls (d .env) e)
+  abbrev BehindLines : Row → Draft → BookResult → Type 0
+  BehindLines p d (done ls′ d′) = Behind p d d′
+  BehindLines p d (stopped r at) = Unit {0}
+
+  -- a line's own stages in front
+  behind : (p : Row) (f : Machine → Row) (d d₁ : Draft) (counts : List ℕ) (M : Machine) → Counted (length ls) p counts M → d₁ .counts ≡ d .counts ++ counts
+      → ((d .ruled ≡ true → 0 < length (d .counts)) → d₁ .ruled ≡ true → 0 < length (d₁ .counts)) → (b : BookResult) → BehindLines (f M) d₁ b → BehindLines (andThen p f) d b
+  behind p f d d₁ counts M c e g (done ls′ d′) B = record {
+    numbers = counts ++ B .numbers;
+    counts = B .counts ∙ (λ i. e i ++ B .numbers) ∙ append-assoc (d .counts) counts (B .numbers);
+    counted = counted-then (length ls) p f counts M (B .numbers) (d′ .kept) c (B .counted);
+    ruled = λ h. B .ruled (g h);
+  }
+  behind p f d d₁ counts M c e g (stopped r at) B = tt
+
+  form-counted : (d : Draft) (F : Form) (rest : List (ℕ × Machine) → Machine → Row) (counts : List ℕ) (M : Machine) → MakesLine fmt ls d F (made counts M)
+      → (b : BookResult) → BehindLines (rest (advance fmt d F counts M .env) (advance fmt d F counts M .kept)) (advance fmt d F counts M) b → BehindLines (formStages ls (d .env) (d .kept) F rest) d b
+  form-counted d (define x e) rest counts M h =
+      behind (expressionStages ls (d .env) e) (λ M. rest ((x, M) ∷ d .env) (d .kept)) d _ counts M (expression-made fmt ls (d .env) e (made counts M) h) refl
+      (λ g t. omega (arith, g t, length-append (d .counts) counts))
+  form-counted d (rule restricts p cs) rest counts M h =
+      behind (andThen (ruleStages ls (d .env) p cs) λ R. makes (pairs both (d .kept) R) gives) (λ M. rest (d .env) M) d _ counts M rule-counted refl
+      (λ g t. omega (arith, has-stage (length ls) (ruleStages ls (d .env) p cs) (pairs both (d .kept)) counts M rule-counted, length-append (d .counts) counts))
     where
-      go : (r : Made) → LineCounted (onMade r λ counts M. on (record { env = (x, M) ∷ d .env; counts = d .counts ++ counts; ruled = d .ruled; kept = d .kept }))
-      go (made counts M) = λ t. omega (arith, h t, length-append (d .counts) counts)
-      go (refused r) = tt
-  form-counted d h (rule restricts p cs) =
-      go (thenMade (evaluateRule fmt ls (d .env) p cs) (λ R. pairStage fmt (suc (length ls)) both (d .kept) R)) (then-counted (evaluateRule fmt ls (d .env) p cs) _ (λ R. stage-counted _ fmt (suc (length ls)) _))
-    where
-      go : (r : Made) → Counted r → LineCounted (onMade r λ counts M. on (record { env = d .env; counts = d .counts ++ counts; ruled = true; kept = M }))
-      go (made counts M) c = λ t. omega (arith, c, length-append (d .counts) counts)
-      go (refused r) c = tt
+      rule-counted : Counted (length ls) (andThen (ruleStages ls (d .env) p cs) λ R. makes (pairs both (d .kept) R) gives) counts M
+      rule-counted = then-made (length ls) (ruleStages ls (d .env) p cs) _ _ _ (rule-made fmt ls (d .env) p cs) (λ R. pairs-made fmt (length ls) both (d .kept) R) (made counts M) h
+  form-counted d malformed rest counts M h = λ b B. absurd h
 
-  lines-counted : (lines : List Line) (at : ℕ) (d : Draft) → RuledCounted d → Accepts (λ ls d. 0 < length (d .counts)) (compileLines fmt ls lines at d)
-  unfolding compileLines compileLine
-  lines-counted [] at d h = go (d .ruled) h
-    where
-      go : (b : Bool) → (b ≡ true → 0 < length (d .counts)) → Accepts (λ ls d. 0 < length (d .counts)) (choose b (λ _. done ls d) (λ _. stopped 10 0))
-      go true f = f refl
-      go false f = tt
-  lines-counted (l ∷ rest) at d h = go (readLine ls (namesOf (d .env)) l) (lines-counted rest (suc at))
-    where
-      Rest : Type 0
-      Rest = (d₁ : Draft) → RuledCounted d₁ → Accepts (λ ls d. 0 < length (d .counts)) (compileLines fmt ls rest (suc at) d₁)
+  lines-counted : (lines : List Line) (at : ℕ) (d : Draft) (b : BookResult) → LinesSay fmt ls lines at d b → BehindLines (lineStages lines ls (d .env) (d .kept)) d b
+  lines-counted lines at d b (no-rule e) = tt
+  lines-counted lines at d b (all-lines e) = record { numbers = []; counts = sym (append-nil (d .counts)); counted = none (d .kept); ruled = λ h. h e }
+  lines-counted (l ∷ rest) at d b (line-stops s) = tt
+  lines-counted (l ∷ rest) at d b (stage-stops F s m) = tt
+  lines-counted (l ∷ rest) at d b (goes-on F counts M s m t) =
+      subst (λ G. BehindLines (formStages ls (d .env) (d .kept) G (λ env₁ kept₁. lineStages rest ls env₁ kept₁)) d b) (sym (line-form ls (namesOf (d .env)) l (reads F) s .0))
+      (form-counted d F _ counts M m b (lines-counted rest (suc at) (advance fmt d F counts M) b t))
 
-      after-line : (r : LineResult) → LineCounted r → Rest → Accepts (λ ls d. 0 < length (d .counts)) (afterLine r (λ d₁. compileLines fmt ls rest (suc at) d₁) (λ r. stopped r at))
-      after-line (on d₁) w f = f d₁ w
-      after-line (off r) w f = tt
+-- ---- the peak
 
-      go : (r : LineRead) → Rest → Accepts (λ ls d. 0 < length (d .counts)) (afterLine (afterRead r (compileForm fmt ls d)) (λ d₁. compileLines fmt ls rest (suc at) d₁) (λ r. stopped r at))
-      go (reads F) f = after-line (compileForm fmt ls d F) (form-counted d h F) f
-      go (stops r) f = tt
+BookCounted : List Line → BookResult → Type 0
+BookCounted lines (done ls d) = Counted (length (bookLetters lines)) (bookStages lines) (d .counts) (d .kept) × (0 < length (d .counts))
+BookCounted lines (stopped r at) = Unit {0}
 
-pub book-counted : (fmt : Format) (text ls : List ℕ) (d : Draft) → compileBook fmt text ≡ done ls d → 0 < length (d .counts)
-book-counted fmt text ls d e = subst (Accepts (λ ls d. 0 < length (d .counts))) e book
+book-counted : (fmt : Format) (lines : List Line) (b : BookResult) → BookSays fmt lines b → BookCounted lines b
+unfolding BookCounted
+book-counted fmt lines b no-bytes = tt
+book-counted fmt (l ∷ rest) b (head-stops s) = tt
+book-counted fmt (l ∷ rest) b (head-goes ls s t) = go b (head-letters fmt l ls (head-form fmt l (letters ls) s)) (lines-counted fmt ls rest 2 (startDraft (length ls)) b t)
   where
-    head : (r : HeadRead) (rest : List Line) → Accepts (λ ls d. 0 < length (d .counts)) (afterHead r (λ ls. compileLines fmt ls rest 2 (startDraft (length ls))))
-    head (letters ls) rest = lines-counted fmt ls rest 2 (startDraft (length ls)) (λ t. absurd (false≢true t))
-    head (Rattle.book.specs.Line.HeadRead.stops r) rest = tt
+    go : (b : BookResult) → lettersOf l ≡ ls → BehindLines fmt ls (lineStages rest ls [] (allMachine (length ls))) (startDraft (length ls)) b → BookCounted (l ∷ rest) b
+    go (done ls′ d) e B =
+        let c : Counted (length ls) (lineStages rest ls [] (allMachine (length ls))) (d .counts) (d .kept) = rw (B .counts) (B .counted) in
+        (rw e c, B .ruled (λ t. absurd (false≢true t)))
+    go (stopped r at) e B = tt
 
-    text-counted : (ts : List Line) → Accepts (λ ls d. 0 < length (d .counts)) (compileText fmt ts)
-    text-counted [] = unfold compileText in tt
-    text-counted (l ∷ rest) = unfold compileText compileHead in head (readHead fmt l) rest
+-- THE PEAK of an accepted book, of its stages.
+pub book-peak : (fmt : Format) (text ls : List ℕ) (d : Draft) → compileBook fmt text ≡ done ls d → Peak text (most (d .counts))
+unfolding BookCounted
+book-peak fmt text ls d e = record {
+  reached =
+      let (i, h, q) = most-attained (d .counts) (c .1) in
+      let (s, x, r) = number-stage m (bookStages (linesOf text)) (d .counts) (d .kept) (c .0) i h in
+      (s, x, rw q at r);
+  most = λ s x.
+      let (i, h, r) = stage-number m (bookStages (linesOf text)) s x (d .counts) (d .kept) (c .0) in
+      (getD (d .counts) i 0, r, most-greatest (d .counts) i h);
+}
+  where
+    m : ℕ
+    m = length (bookLetters (linesOf text))
 
-    book : Accepts (λ ls d. 0 < length (d .counts)) (compileBook fmt text)
-    book = unfold compileBook in text-counted (linesOf text)
+    c : BookCounted (linesOf text) (done ls d)
+    c = book-counted fmt (linesOf text) (done ls d) (accepted-says fmt text ls d e)

@@ -1,33 +1,31 @@
 -- "What stops a book", line by line of the table, as a relation: each of 1 to 11 in exactly its case, in its order, with its line; and what an accepted
 -- book gives. `outcome` answers what the table says, and one answer only is right. The relation knows a line by its form
 -- (inductive grammar), a stage by the sets that it reaches and the states of its smallest machine; it computes nothing.
-use mathlib.Core.Path.{_≡_, refl, sym, ap, ap₂, _∙_, subst}
+use mathlib.Core.Path.{_≡_, refl, sym, ap, _∙_, subst}
 use mathlib.Core.Bool.{Bool, true, false}
 use mathlib.Core.Logic.{inl, inr, _⊎_}
-use mathlib.Core.List.{List, [], _∷_, _++_, head-eq-of-cons-eq, tail-eq-of-cons-eq}
+use mathlib.Core.List.{List, [], _∷_, _++_}
 use Prim.Native.Nat.{ℕ, suc, _≤_, _<_}
-use native.Mathlib.Omega.{arith}
-use lib.Dec.{ltb, leb}
+use lib.Dec.{ltb}
 use lib.ListN.{length}
 use Rattle.automata.specs.Format.{Format}
 use Rattle.automata.specs.Booleans.{choose, bool-cases}
 use Rattle.automata.specs.Basics.{LtCases, lt-cases, lt-ltb, ltb-false}
-use Rattle.automata.specs.Decide.{contradict}
 use Rattle.automata.specs.Machine.{Machine}
 use Rattle.automata.specs.Stage.{Made, made, refused, thenMade}
 use Rattle.automata.specs.Exactly.{Exactly, Then, then-exactly}
 use Rattle.automata.specs.Stages.{both, pairStage}
-use Rattle.language.specs.Restriction.{RuleKind, restricts}
+use Rattle.language.specs.Restriction.{restricts}
 use Rattle.language.specs.Environment.{namesOf}
 use Rattle.language.specs.Evaluate.{evaluate, evaluateRule}
 use Rattle.language.specs.Makes.{Pairs, Makes, MakesRule, makes-exactly, rule-exactly, pairs-exactly}
 use Rattle.card.specs.Same.{cardOf}
-use Rattle.book.specs.Text.{Line, linesOf, Form, define, rule, malformed, unless}
+use Rattle.book.specs.Text.{Line, linesOf, Form, define, rule, malformed, formOf, unless}
 use Rattle.book.specs.Line as L
 use Rattle.book.specs.Line.{LineRead, reads, stops, readLine, HeadRead, letters, readHead}
-use Rattle.book.specs.LineLaws.{LineSays, line-says, line-says-only}
-use Rattle.book.specs.HeadLaws.{HeadSays, head-says, head-says-only}
-use Rattle.compiler.specs.Book.{Draft, LineResult, on, off, onMade, compileForm, afterRead, compileLine, BookResult, done, stopped, afterLine, compileLines, startDraft, afterHead, compileHead, compileText, compileBook}
+use Rattle.book.specs.LineLaws.{KnownForm, LineSays, line-says, line-says-only, line-elim}
+use Rattle.book.specs.HeadLaws.{HeadForm, HeadSays, head-says, head-says-only, head-elim}
+use Rattle.compiler.specs.Book.{Draft, on, onMade, compileForm, afterRead, compileLine, BookResult, done, stopped, afterLine, compileLines, startDraft, afterHead, compileHead, compileText, compileBook}
 use Rattle.compiler.specs.Outcome.{Outcome, card, stop, most, enough, written, outcome}
 
 module _ (fmt : Format) where
@@ -144,6 +142,27 @@ book-says-only fmt lines b no-bytes = refl
 book-says-only fmt (l ∷ rest) b (head-stops {r = r} s) = ap (λ q. afterHead q (λ ls. compileLines fmt ls rest 2 (startDraft (length ls)))) (head-says-only fmt l (L.HeadRead.stops r) s)
 book-says-only fmt (l ∷ rest) b (head-goes ls s t) =
     ap (λ q. afterHead q (λ ls. compileLines fmt ls rest 2 (startDraft (length ls)))) (head-says-only fmt l (letters ls) s) ∙ lines-say-only fmt ls rest 2 (startDraft (length ls)) b t
+
+pub accepted-says : (fmt : Format) (text ls : List ℕ) (d : Draft) → compileBook fmt text ≡ done ls d → BookSays fmt (linesOf text) (done ls d)
+unfolding compileBook
+accepted-says fmt text ls d e = subst (BookSays fmt (linesOf text)) e (book-says fmt (linesOf text))
+
+-- ---- what was read
+
+-- The form of a line that is read, with letters and names that are known.
+abbrev pub Read : List ℕ → List ℕ → Line → LineRead → Type 0
+Read ls names l (reads F) = (formOf (l .bytes) ≡ F) × KnownForm ls names F
+Read ls names l (stops r) = Unit {0}
+
+pub line-form : (ls names : List ℕ) (l : Line) (q : LineRead) → LineSays ls names l q → Read ls names l q
+line-form ls names l q s = subst (Read ls names l) (line-says-only ls names l q s) (line-elim ls names l (Read ls names l) (λ r. tt) (λ F k n e. (e, k)))
+
+abbrev pub HeadIs : Format → Line → HeadRead → Type 0
+HeadIs fmt l (letters ls) = HeadForm fmt (l .bytes) ls
+HeadIs fmt l (L.HeadRead.stops r) = Unit {0}
+
+pub head-form : (fmt : Format) (l : Line) (q : HeadRead) → HeadSays fmt l q → HeadIs fmt l q
+head-form fmt l q s = subst (HeadIs fmt l) (head-says-only fmt l q s) (head-elim fmt l (HeadIs fmt l) (λ r. tt) (λ ls f. f))
 
 -- ---- the table
 

@@ -12,16 +12,11 @@ use Rattle.card.specs.Same.{cardOf}
 use Rattle.book.specs.Text.{linesOf}
 use Rattle.compiler.specs.Book.{compileBook, compileLines, startDraft}
 use Rattle.compiler.specs.Outcome.{Outcome, card, stop, Answer, answer, bufferAfter}
+pub use Rattle.compiler.specs.Lent.{documented}
 use Rattle.driver.specs.Stored.{InSlot}
 use Rattle.driver.specs.Lines.{Room}
 use Rattle.driver.specs.declared.Compiled.{Compiled}
 use Rattle.driver.specs.declared.Compiled.the-variants.{Card, Refused}
-
--- "a lent work buffer is below its documented length (at most 8 buffers, none needing over 65,536 bytes)": the documented lengths. 13 slots of 3,362 bytes
--- for the names A to M, 13 for N to Z, 3 for the book so far and a rule's two machines, 19 for the stack; the rows of 512 sets, 122 bytes each; their table
--- and the tables of two operands, both of 16-bit numbers; two codes for each byte of a text, and 64.
-abbrev pub documented : List ℕ
-documented = 43706 ∷ 43706 ∷ 10086 ∷ 63878 ∷ 62464 ∷ 14336 ∷ 6720 ∷ 32832 ∷ []
 
 -- the lengths of the lent buffers, in this order
 abbrev pub lentLengths : List ℕ → List ℕ → List ℕ → List ℕ → List ℕ → List ℕ → List ℕ → List ℕ → List ℕ

@@ -1,10 +1,10 @@
 -- A book that compiling accepts: what follows from the answer alone. The letters are 1 to 26 and rise, the kept machine is within the limits, and
 -- its words are the plans that the book allows: nothing is left to assume.
-use mathlib.Core.Path.{_≡_, sym, ap, _∙_}
+use mathlib.Core.Path.{_≡_, sym, ap}
 use mathlib.Core.List.{List}
-use Prim.Native.Nat.{ℕ, _≤_, _<_}
+use Prim.Native.Nat.{ℕ, _≤_}
 use native.Mathlib.Omega.{arith}
-use lib.ListN.{length, getD}
+use lib.ListN.{length}
 use Rattle.automata.specs.Format.{Format}
 use Rattle.card.specs.Alphabet.{Alphabet}
 use Rattle.card.specs.Same.{cardOf}
@@ -17,7 +17,8 @@ use Rattle.compiler.specs.BookLaws.{accepted-right, accepted-letters, accepted-
 use Rattle.compiler.specs.Bounds.{accepted-within}
 use Rattle.compiler.specs.Outcome.{Outcome, card, stop, most, outcome}
 use Rattle.compiler.specs.Table.{Outcomes, text-too-long, buffer-too-short, book-stops, output-too-short, gives, outcomes, book-says-only}
-use Rattle.compiler.specs.Peak.{most-greatest, most-attained, book-counted}
+use Rattle.compiler.specs.BookStages.{Peak}
+use Rattle.compiler.specs.Peak.{book-peak}
 
 -- What was made of an accepted text.
 pub record Accepted (fmt : Format) (text c : List ℕ) (room peak : ℕ) : Type 0 where
@@ -82,11 +83,6 @@ module _ (fmt : Format) (needs text lent : List ℕ) (room : ℕ) (c : List ℕ)
         letters = r .letters;
       }
 
-  -- THE PEAK is the count of one stage of the book, and no stage made more.
-  pub peak-attained : (i : ℕ) × (i < length (accepted .draft .counts)) × (getD (accepted .draft .counts) i 0 ≡ peak)
-  peak-attained =
-      let (i, b, q) = most-attained (accepted .draft .counts) (book-counted fmt text ls (accepted .draft) (accepted .compiled)) in
-      (i, b, q ∙ sym (accepted .peak-is))
-
-  pub peak-greatest : (i : ℕ) → i < length (accepted .draft .counts) → getD (accepted .draft .counts) i 0 ≤ peak
-  peak-greatest i b = omega (arith, accepted .peak-is, most-greatest (accepted .draft .counts) i b)
+  -- THE PEAK is the most sets that one stage of the book reaches.
+  pub peak-of-stages : Peak text peak
+  peak-of-stages = rw (accepted .peak-is) (book-peak fmt text ls (accepted .draft) (accepted .compiled))

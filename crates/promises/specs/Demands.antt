@@ -1,20 +1,24 @@
 -- The three demands of the customer's letter, about the answers that the definitions give: for every text, whatever lengths are lent, for every format
 -- (today's is `narrow`). The entries' contracts say that the code gives these answers.
-use mathlib.Core.Path.{_≡_, sym, _∙_, subst}
+use mathlib.Core.Path.{_≡_, refl, sym, ap, ap₂, _∙_, subst}
 use mathlib.Core.Bool.{Bool, true}
-use mathlib.Core.Logic.{_↔_}
+use mathlib.Core.Logic.{_↔_, _⊎_, inl, inr, _≢_}
 use mathlib.Core.List.{List}
-use Prim.Native.Nat.{ℕ, _≤_}
+use Prim.Native.Nat.{ℕ, zero, suc, _≤_}
+use native.Mathlib.Omega.{arith}
 use lib.ListN.{length}
 use Rattle.automata.specs.Format.{Format}
 use Rattle.automata.specs.Booleans.{bool-iff, and-left, and-right, and-both}
+use Rattle.automata.specs.Machine.{size}
 use Rattle.language.specs.Language.{allWords, allWords-whole, allWords-sound}
 use Rattle.language.specs.Matches.{obeys, Obeys, obeys-sound, obeys-whole}
 use Rattle.card.specs.Number.{Bytes}
-use Rattle.card.specs.Layout.{Sound}
+use Rattle.card.specs.Layout.{Sound, letterCount, stateCount}
+use Rattle.card.specs.LayoutLaws.{encode-letterCount, encode-stateCount}
 use Rattle.card.specs.Alphabet.{columns, Known}
 use Rattle.card.specs.Load.{loadTest}
-use Rattle.card.specs.Loads.{Plans, CardOf, loads-smallest}
+use Rattle.card.specs.Loads.{Plans, CardOf, card-fits, card-of-card, loads-smallest}
+use Rattle.card.specs.Answer.{Loading, holds, rejected, load, load-holds, load-rejected}
 use Rattle.card.specs.Judge.{cardAllows}
 use Rattle.card.specs.Demand.{Demand3, demand-3, card-bytes}
 use Rattle.book.specs.Text.{linesOf}
@@ -22,6 +26,11 @@ use Rattle.compiler.specs.Allows.{bookLetters, bookRules, allows}
 use Rattle.compiler.specs.Outcome.{Outcome, card, stop, outcome, bufferAfter}
 use Rattle.compiler.specs.Table.{Outcomes, outcomes, outcomes-only}
 use Rattle.promises.specs.Accepted.{accepted, compiled}
+use Rattle.promises.specs.PlanCuts.{EveryRule, every-rule}
+
+nat-cases : (n : ℕ) → (n ≡ 0) ⊎ (n ≢ 0)
+nat-cases zero = inl refl
+nat-cases (suc n) = inr (λ e. omega arith)
 
 -- What a plan is allowed by: the book's own rules, the plan written by the columns of its letters.
 abbrev pub bookAllows : List ℕ → List ℕ → Bool
@@ -70,9 +79,49 @@ module _ (fmt : Format) (s : Sound fmt) (two : 2 ≤ fmt .mostStates) (needs tex
       w : List ℕ
       w = columns (bookLetters (linesOf text)) plan
 
+  -- The same in the plan's own bytes: "every cut of the plan", v, x, y, and the sets asked of v, x and y.
+  pub demand-two-cuts : (plan : List ℕ) → Known (bookLetters (linesOf text)) plan → (cardAllows fmt c plan ≡ true) ↔ EveryRule (bookLetters (linesOf text)) (bookRules (linesOf text)) plan
+  demand-two-cuts plan k =
+      let d = demand-two plan k in
+      let r = every-rule (bookLetters (linesOf text)) (bookRules (linesOf text)) plan in
+      (λ t. r .0 (d .0 t), λ o. d .1 (r .1 o))
+
+-- ---- demand 2, the board
+
+-- c is the card of the numbered smallest machine, with m letters and n states, of some set of plans, within the format's limits.
+abbrev pub SmallestCard : Format → ℕ → ℕ → List ℕ → Type 1
+SmallestCard fmt m n c = (P : Plans) × (k : CardOf fmt P c) × (length (k .letters) ≡ m) × (size (k .machine) ≡ n)
+
 -- "A board loads exactly those bytes that are the numbered smallest machine, within 26 letters and 120 states, of some set of plans."
-pub demand-two-board : (fmt : Format) → Sound fmt → (c : List ℕ) → Bytes c → (loadTest fmt c ≡ 0) ↔ ((P : Plans) × CardOf fmt P c)
-demand-two-board fmt s c b = loads-smallest fmt s c b
+pub demand-two-board : (fmt : Format) → Sound fmt → (c : List ℕ) → Bytes c → (m n : ℕ) → (load fmt c ≡ holds m n) ↔ SmallestCard fmt m n c
+demand-two-board fmt s c b m n = (to, back)
+  where
+    -- what the contents of such a card say
+    letters : (P : Plans) (k : CardOf fmt P c) → letterCount fmt c ≡ length (k .letters)
+    letters P k = ap (letterCount fmt) (k .bytes) ∙ encode-letterCount fmt s (k .letters) (k .machine) (card-fits fmt (k .letters) (k .machine) (card-of-card fmt P c k))
+
+    states : (P : Plans) (k : CardOf fmt P c) → stateCount fmt c ≡ size (k .machine)
+    states P k = ap (stateCount fmt) (k .bytes) ∙ encode-stateCount fmt s (k .letters) (k .machine) (card-fits fmt (k .letters) (k .machine) (card-of-card fmt P c k))
+
+    holding : Loading → ℕ × ℕ
+    holding (holds m n) = (m, n)
+    holding (rejected r) = (m, n)
+
+    loaded : loadTest fmt c ≡ 0 → load fmt c ≡ holds m n → SmallestCard fmt m n c
+    loaded z e =
+        let (P, k) = loads-smallest fmt s c b .0 z in
+        let h : _≡_ {A = ℕ × ℕ} (letterCount fmt c, stateCount fmt c) (m, n) = ap holding (sym (load-holds fmt c z) ∙ e) in
+        (P, k, sym (letters P k) ∙ ap (λ q. q .0) h, sym (states P k) ∙ ap (λ q. q .1) h)
+
+    to : load fmt c ≡ holds m n → SmallestCard fmt m n c
+    to e = go (nat-cases (loadTest fmt c))
+      where
+        go : (loadTest fmt c ≡ 0) ⊎ (loadTest fmt c ≢ 0) → SmallestCard fmt m n c
+        go (inl z) = loaded z e
+        go (inr f) = let z : _≡_ {A = ℕ} 0 1 = cc (sym (load-rejected fmt c f) ∙ e) in absurd (omega arith)
+
+    back : SmallestCard fmt m n c → load fmt c ≡ holds m n
+    back (P, k, l, t) = load-holds fmt c (loads-smallest fmt s c b .1 (P, k)) ∙ ap₂ holds (letters P k ∙ l) (states P k ∙ t)
 
 -- ---- demand 3, two books
 

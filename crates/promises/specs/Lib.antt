@@ -1,6 +1,6 @@
--- The customer's demands, joined from the laws of the other crates; and the starred cases of 01.
+-- The customer's demands, joined from the laws of the other crates.
 pub mod Accepted
 pub mod Refusals
+pub mod PlanCuts
 pub mod Demands
 pub mod Today
-pub mod Cases
