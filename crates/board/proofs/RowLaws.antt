@@ -11,7 +11,7 @@ use lib.ListN.{length, getD}
 use Rattle.automata.specs.Basics.{LtCases, lt-cases}
 use Rattle.automata.specs.Machine.{Machine, size, automaton, Numbered}
 use Rattle.automata.specs.Numbering.{across, seen, Arrival, arrival-sound, arrival-whole}
-use Rattle.board.specs.Holds.{Holds}
+use Rattle.partition.specs.Holds.{Holds}
 use Rattle.board.specs.Rows.{seenIn, RowSeen, NumberedExactly}
 
 -- ---- one row

@@ -3,7 +3,7 @@
 ghost use mathlib.Core.Path.{_≡_};
 ghost use Prim.Native.Nat.{ℕ, _+_, _≤_, _<_};
 ghost use lib.ListN.{length, getD};
-ghost use Rattle.board.specs.Holds.{Table};
+ghost use Rattle.partition.specs.Holds.{Table};
 ghost use Rattle.board.specs.LiveRounds.{Leads, Round, FlagsOf, LiveExactly, MarksExactly};
 
 // Some of the m moves from the place `at` leads to a state with its flag set.

@@ -6,7 +6,7 @@ use Prim.Native.Nat.{ℕ, _+_, _≤_, _<_, _-_}
 use native.Mathlib.Omega.{arith}
 use lib.ListN.{length, getD}
 use borrow.Author.Needs.{needs}
-use Rattle.board.specs.Holds.{Table}
+use Rattle.partition.specs.Holds.{Table}
 use Rattle.board.proofs.LiveLaws.{RoundUpto, round-start, row-back, round-set, round-none, round-new, round-done, round-room}
 use Rattle.board.proofs.live.round.Statement.{statement}
 use Rattle.board.proofs.live.round.Tie as tie

@@ -1,0 +1,67 @@
+-- `passes` meets its contract. The measure: each pass but the last leaves more classes, and a pass has at most 26 columns.
+use mathlib.Core.Path.{_≡_}
+use Prim.Native.Nat.{_+_, _*_, _≤_, _-_}
+use native.Mathlib.Nat.{le-refl}
+use native.Mathlib.Omega.{arith}
+use lib.ListN.{length}
+use borrow.Author.Needs.{needs}
+use Rattle.partition.proofs.ReducedLaws.{ClassesUpto, upto-start, columns-of, refined-grows, classes-on, classes-stay, classes-again, stretch-alone, stretch-settled, stretch-late}
+use Rattle.partition.proofs.equivalence.passes.Statement.{statement}
+use Rattle.partition.proofs.equivalence.passes.Tie as tie
+
+abbrev Inv-loop : tie.InvT-loop
+Inv-loop marks moves m most begun classes₀ n count₀ before₀ left₀ c₀ classes count before left c =
+    (n ≡ length marks) × (c ≤ m) × (begun ≤ before) × ClassesUpto m marks moves classes count before c
+
+abbrev μ-loop : tie.MeasureT-loop
+μ-loop marks moves m most begun classes₀ n count₀ before₀ left₀ c₀ classes count before left c = (n - before) * 27 + (n - count) + (m - c)
+
+loop-holds : tie.Need-loop-holds Inv-loop μ-loop
+loop-holds c = (search needs, search needs, le-refl _, upto-start _ _ _ _ _ (c .before .before .pre .1))
+
+refine-requires : tie.Need-refine-requires Inv-loop μ-loop
+refine-requires c κs = (columns-of _ _ _ (c .before .before .before .before .before .before .pre .0 .0) _ _ (c .before .before .before .loop .inv .0) (c .before .if1 .taken), c .before .before .before .loop .inv .3 .long, c .before .before .before .loop .inv .3 .named)
+
+loop-again : tie.Need-loop-again Inv-loop μ-loop
+loop-again c = (search needs, omega arith, c .before .before .before .before .before .loop .inv .2, classes-on _ _ _ (c .before .before .before .before .before .before .before .before .pre .0 .0) _ _ _ _ (c .before .before .before .before .before .loop .inv .3) _ _ _ (c .before .before .before .before .before .loop .inv .0) (c .before .before .before .if1 .taken) (c .before .refine .ensures) (c .if2 .taken))
+
+loop-less-2 : tie.Need-loop-less-2 Inv-loop μ-loop
+loop-less-2 c = omega (arith, refined-grows _ _ _ (c .before .before .before .before .before .before .before .before .pre .0 .0) _ _ _ _ (c .before .before .before .before .before .loop .inv .3) _ _ _ (c .before .before .before .before .before .loop .inv .0) (c .before .refine .ensures), c .if2 .left)
+
+loop-again-2 : tie.Need-loop-again-2 Inv-loop μ-loop
+loop-again-2 c = (search needs, search needs, c .before .before .before .before .before .loop .inv .2, classes-stay _ _ _ (c .before .before .before .before .before .before .before .before .pre .0 .0) _ _ _ _ (c .before .before .before .before .before .loop .inv .3) _ _ _ (c .before .before .before .before .before .loop .inv .0) (c .before .before .before .if1 .taken) (c .before .refine .ensures))
+
+returns : tie.Need-returns Inv-loop μ-loop
+returns c = stretch-settled _ _ _ (c .before .before .before .before .before .before .pre .0 .0) _ _ _ _ (c .before .before .before .loop .inv .3) _ (c .before .before .before .loop .inv .2) (c .before .if1 .left) (c .if3 .taken)
+
+returns-2 : tie.Need-returns-2 Inv-loop μ-loop
+returns-2 c = stretch-late _ _ _ (c .before .before .before .before .before .before .before .pre .0 .0) _ _ _ _ (c .before .before .before .before .loop .inv .3) _ (c .before .before .before .before .loop .inv .2) (c .before .if3 .left)
+
+loop-less-3 : tie.Need-loop-less-3 Inv-loop μ-loop
+loop-less-3 c = omega (arith, c .before .before .before .before .loop .inv .3 .more, c .before .if3 .left)
+
+loop-again-3 : tie.Need-loop-again-3 Inv-loop μ-loop
+loop-again-3 c = (search needs, omega arith, omega (arith, c .before .before .before .before .loop .inv .2, c .before .before .before .before .loop .inv .3 .more), classes-again _ _ _ (c .before .before .before .before .before .before .before .pre .0 .0) _ _ _ _ (c .before .before .before .before .loop .inv .3))
+
+returns-3 : tie.Need-returns-3 Inv-loop μ-loop
+returns-3 c = stretch-alone _ _ _ (c .before .before .before .before .pre .0 .0) _ _ _ _ (c .before .loop .inv .3) _ (c .before .loop .inv .2) (omega arith)
+
+pub passes-spec : {M : Type 1} → statement M
+passes-spec =
+    tie.close
+    (tie.spec
+    Inv-loop
+    μ-loop
+    loop-holds
+    refine-requires
+    (λ c. search needs)
+    (λ c. search needs)
+    loop-again
+    loop-less-2
+    loop-again-2
+    returns
+    returns-2
+    (λ c. search needs)
+    loop-less-3
+    loop-again-3
+    returns-3)
