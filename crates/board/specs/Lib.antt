@@ -1,5 +1,5 @@
 -- Definitions that the board's contracts cite.
 pub mod Inside
 pub mod Rows
-pub mod LiveRounds
+pub mod LiveSweeps
 pub mod Answers

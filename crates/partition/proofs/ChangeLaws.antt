@@ -3,20 +3,20 @@ use mathlib.Core.Path.{_≡_, refl, sym, ap, _∙_}
 use mathlib.Core.Bool.{Bool, true, false, not, false≢true, true≢false}
 use mathlib.Core.Logic.{_⊎_, inl, inr, _≢_}
 use mathlib.Core.List.{List, [], _∷_}
-use Prim.Native.Nat.{ℕ, zero, suc, _+_, _*_, _-_, _≤_, _<_, zero-le}
-use native.Mathlib.Nat.{le-refl, not-suc-le-zero, suc-mul, zero-mul, mul-le-mul-right}
-use native.Mathlib.Numerals.{add-one}
+use Prim.Native.Nat.{ℕ, zero, suc, _+_, _*_, _≤_, _<_}
+use native.Mathlib.Nat.{le-refl, not-suc-le-zero}
 use native.Mathlib.Omega.{arith}
 use lib.ListN.{length, getD, set, replicate, length-set}
 use lib.Seq.{getD-set-same, getD-set-other}
 use lib.Dec.{eqb}
-use Rattle.automata.specs.Booleans.{bool-cases, choose, not-true}
+use Rattle.automata.specs.Booleans.{bool-cases, not-true}
 use Rattle.automata.specs.Decide.{contradict}
 use Rattle.automata.specs.Basics.{LtCases, lt-cases, nat-test}
-use Rattle.automata.specs.Machine.{Machine, size, automaton, Equivalent}
+use Rattle.automata.specs.Machine.{Machine, Equivalent}
 use Rattle.partition.specs.Holds.{Table, Holds}
 use Rattle.partition.specs.Classes.{Split, AcceptKeys}
 use Rattle.partition.specs.Change.{behind, after, Nearest, Lowered, Backed, Closed, Swept, Alike, Classed}
+use Rattle.partition.proofs.TableLaws.{move-inside}
 
 -- ---- behind one move
 
@@ -91,22 +91,6 @@ module _ (bs : List ℕ) (at m p : ℕ) (ks fs : List ℕ) (x : ℕ) (u : Neares
 pub lowered-room : (m n : ℕ) (bs ks fs : List ℕ) (p : ℕ) → Backed m n bs ks fs → p < n → n ≤ 120 → (p < 120) × (length fs ≡ 120) × (getD fs p 0 ≤ 120)
 lowered-room m n bs ks fs p u h b = (omega arith, u .long, u .most p h)
 
--- the place of a row, from either side
-pub row-back : (m p at : ℕ) → 0 < p → at ≡ p * m → (m ≤ at) × (at - m ≡ (p - 1) * m)
-row-back m p at h e = let z : suc (p - 1) ≡ p = omega arith in let y : suc (p - 1) * m ≡ (p - 1) * m + m = suc-mul (p - 1) m in let x : p * m ≡ (p - 1) * m + m = rw z at y in (omega arith, omega arith)
-
-pub row-on : (m p at : ℕ) → at ≡ p * m → at + m ≡ (p + 1) * m
-row-on m p at e = rw (add-one p) (omega (arith, e, suc-mul p m))
-
-pub row-room : (m : ℕ) (ms bs : List ℕ) → Table 120 m ms bs → (p at : ℕ) → at ≡ p * m → p < length ms → at + m ≤ length bs
-row-room m ms bs t p at e h = omega (arith, e, t .long, mul-le-mul-right {m = suc p} {n = length ms} m h, suc-mul p m)
-
-pub row-room-back : (m : ℕ) (ms bs : List ℕ) → Table 120 m ms bs → (p at : ℕ) → 0 < p → p ≤ length ms → at ≡ p * m → at - m + m ≤ length bs
-row-room-back m ms bs t p at h b e = omega (arith, row-back m p at h e .0, mul-le-mul-right {m = p} {n = length ms} m b, t .long)
-
-pub below-120 : (m : ℕ) (ms bs : List ℕ) → Table 120 m ms bs → (q : ℕ) → q < length bs → getD bs q 0 < 120
-below-120 m ms bs t q h = omega (arith, t .inside q h, t .states-most)
-
 -- the numbers stay backed
 module _ (m n : ℕ) (bs ks fs gs : List ℕ) (u : Backed m n bs ks fs) (at p : ℕ) (e : at ≡ p * m) (b : p < n) (most : n ≤ 120) where
   lowered-set : (x : ℕ) → gs ≡ set fs p (x + 1) → x + 1 < getD fs p 0 → ((i : ℕ) × (i < m) × (after bs ks fs (getD ks p 0) (at + i) ≡ x)) → Backed m n bs ks gs
@@ -180,9 +164,6 @@ ascend-done m n bs ks gs p changed h u = record { backed = u .backed; closed = �
 
 module _ (m : ℕ) (ms bs ks fs : List ℕ) (t : Table 120 m ms bs) (a : AcceptKeys ms ks) (u : Backed m (length ms) bs ks fs) (c : Closed m (length ms) bs ks fs)
     (M : Machine) (H : Holds m ms bs M) where
-  inside : (p i : ℕ) → p < length ms → i < m → getD bs (p * m + i) 0 < length ms
-  inside p i h b = t .inside (p * m + i) (omega (arith, t .long, mul-le-mul-right {m = suc p} {n = length ms} m h, suc-mul p m))
-
   same-key : (p q : ℕ) → p < length ms → q < length ms → Equivalent m M p q → getD ks p 0 ≡ getD ks q 0
   same-key p q h b e = a .whole p q h b (sym (H .accepting p h) ∙ e [] tt ∙ H .accepting q b)
 
@@ -213,12 +194,12 @@ module _ (m : ℕ) (ms bs ks fs : List ℕ) (t : Table 120 m ms bs) (a : AcceptK
           w = move p q i h b v e
 
           keys : getD ks x′ 0 ≡ getD ks y′ 0
-          keys = same-key x′ y′ (inside p i h v) (inside q i b v) w
+          keys = same-key x′ y′ (move-inside _ _ _ _ t p i h v) (move-inside _ _ _ _ t q i b v) w
 
           cases : ((getD ks x′ 0 ≡ getD ks p 0) × (behind (getD ks x′ 0) (getD ks p 0) (getD fs x′ 0) ≡ getD fs x′ 0)) ⊎ ((getD ks x′ 0 ≢ getD ks p 0) × (behind (getD ks x′ 0) (getD ks p 0) (getD fs x′ 0) ≡ 0))
               → ((getD ks y′ 0 ≡ getD ks q 0) × (behind (getD ks y′ 0) (getD ks q 0) (getD fs y′ 0) ≡ getD fs y′ 0)) ⊎ ((getD ks y′ 0 ≢ getD ks q 0) × (behind (getD ks y′ 0) (getD ks q 0) (getD fs y′ 0) ≡ 0))
               → getD fs q 0 ≤ getD fs p 0
-          cases (inl f) (inl g) = omega (arith, x, f .1, g .1, c .near q i b v, r x′ y′ (omega (arith, x, f .1, z)) (inside p i h v) (inside q i b v) w)
+          cases (inl f) (inl g) = omega (arith, x, f .1, g .1, c .near q i b v, r x′ y′ (omega (arith, x, f .1, z)) (move-inside _ _ _ _ t p i h v) (move-inside _ _ _ _ t q i b v) w)
           cases (inl f) (inr g) = absurd (g .0 (sym keys ∙ f .0 ∙ same-key p q h b e))
           cases (inr f) g = omega (arith, x, f .1, c .near q i b v, other g)
             where

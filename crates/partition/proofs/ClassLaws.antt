@@ -1,19 +1,17 @@
 -- Classes named by their least states: links, and splitting by keys.
-use mathlib.Core.Path.{_≡_, refl, sym, ap, _∙_}
-use mathlib.Core.Bool.{Bool, true, false}
+use mathlib.Core.Path.{_≡_, refl}
+use mathlib.Core.Bool.{true, false}
 use mathlib.Core.Logic.{_⊎_, inl, inr, _≢_}
 use mathlib.Core.List.{List}
-use Prim.Native.Nat.{ℕ, zero, suc, _+_, _*_, _≤_, _<_}
+use Prim.Native.Nat.{ℕ, zero, suc, _≤_, _<_}
 use native.Mathlib.Nat.{le-refl, not-suc-le-zero}
-use native.Mathlib.Numerals.{add-one}
 use native.Mathlib.Omega.{arith}
-use lib.ListN.{length, getD, set, replicate, length-set}
-use lib.Seq.{getD-set-same, getD-set-other}
+use lib.ListN.{getD, replicate}
 use lib.Dec.{eqb}
-use Rattle.automata.specs.Booleans.{bool-cases, choose, not-true}
+use Rattle.automata.specs.Booleans.{bool-cases, not-true}
 use Rattle.automata.specs.Decide.{contradict}
 use Rattle.automata.specs.Basics.{LtCases, lt-cases, nat-test}
-use Rattle.partition.specs.Classes.{Links, Reach, here, there, Found, Named, owned, Split}
+use Rattle.partition.specs.Classes.{Links, Reach, here, there, Found, owned}
 
 -- ---- along the links
 

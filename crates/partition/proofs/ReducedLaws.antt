@@ -1,20 +1,21 @@
 -- Partition refinement column by column, and that it says whether two states of the machine are equivalent.
 use mathlib.Core.Path.{_≡_, refl, sym, ap, _∙_}
-use mathlib.Core.Bool.{Bool, true, false, false≢true}
-use mathlib.Core.Logic.{_⊎_, inl, inr, _≢_}
+use mathlib.Core.Bool.{true, false, false≢true}
+use mathlib.Core.Logic.{inl, inr, _≢_}
 use mathlib.Core.List.{List, [], _∷_}
-use Prim.Native.Nat.{ℕ, zero, suc, _+_, _*_, _≤_, _<_}
-use native.Mathlib.Nat.{le-refl, not-suc-le-zero, suc-mul, mul-le-mul-right}
+use Prim.Native.Nat.{ℕ, _+_, _*_, _≤_, _<_}
+use native.Mathlib.Nat.{le-refl, not-suc-le-zero}
 use native.Mathlib.Omega.{arith}
 use lib.ListN.{length, getD, replicate}
 use lib.Dec.{eqb}
 use Rattle.automata.specs.Basics.{LtCases, lt-cases}
-use Rattle.automata.specs.Machine.{Machine, size, automaton, Equivalent, Reduced}
+use Rattle.automata.specs.Machine.{Machine, Equivalent, Reduced}
 use Rattle.automata.specs.Refinement.{Settled, settled-equivalent, coarse-apart}
 use Rattle.partition.specs.Holds.{Table, Holds}
 use Rattle.partition.specs.Classes.{Named, owned, Split, AcceptKeys, Columns, Refined, ReducedExactly}
 use Rattle.partition.specs.Change.{Classed, Stretch, ClassesExactly}
 use Rattle.partition.proofs.ClassLaws.{none-linked, owned-le, owned-all, owned-some, owned-mono, owned-same}
+use Rattle.partition.proofs.TableLaws.{move-inside}
 
 -- After the columns below c of a pass that began with `before` classes, there are k. Equivalent states share a class, and states of one class accept
 -- alike; where no class was split in this pass, its columns lead from one class to one class.
@@ -44,9 +45,6 @@ classes-start m ms bs ks cs k a s = record {
 }
 
 module _ (m : ℕ) (ms bs : List ℕ) (t : Table 120 m ms bs) where
-  inside : (p i : ℕ) → p < length ms → i < m → getD bs (p * m + i) 0 < length ms
-  inside p i h b = t .inside (p * m + i) (omega (arith, t .long, mul-le-mul-right {m = suc p} {n = length ms} m h, suc-mul p m))
-
   pub columns-of : (n c : ℕ) → n ≡ length ms → c < m → Columns m n c bs
   columns-of n c e h = rw e (record { some = t .some; most = t .states-most; column = h; long = t .long; inside = t .inside })
 
@@ -71,7 +69,7 @@ module _ (m : ℕ) (ms bs : List ℕ) (t : Table 120 m ms bs) where
       more = omega (arith, u .more, grows);
       accept = λ p q a b x. u .accept p q a b (s .parts p q a b x .0);
       coarse = λ M H p q a b x. s .joins p q a b (u .coarse M H p q a b x)
-          (u .coarse M H (getD bs (p * m + c) 0) (getD bs (q * m + c) 0) (inside p c a h) (inside q c b h)
+          (u .coarse M H (getD bs (p * m + c) 0) (getD bs (q * m + c) 0) (move-inside _ _ _ _ t p c a h) (move-inside _ _ _ _ t q c b h)
           (rw (← H .step p c a h, ← H .step q c b h) (λ w o. x (c ∷ w) (h, o))));
       quiet = λ x p q i a b v y. still x p q i a b v y (lt-cases i c);
     }
@@ -95,10 +93,10 @@ module _ (m : ℕ) (ms bs : List ℕ) (t : Table 120 m ms bs) where
 
         still : r ≡ before → (p q i : ℕ) → p < length ms → q < length ms → i < c + 1 → getD ns p 0 ≡ getD ns q 0 → LtCases i c
             → getD ns (getD bs (p * m + i) 0) 0 ≡ getD ns (getD bs (q * m + i) 0) 0
-        still x p q i a b v y (inl z) = same x (getD bs (p * m + i) 0) (inside p i a (omega arith))
-            ∙ u .quiet (omega (arith, u .more, grows)) p q i a b (z .0) (sym (same x p a) ∙ y ∙ same x q b) ∙ sym (same x (getD bs (q * m + i) 0) (inside q i b (omega arith)))
+        still x p q i a b v y (inl z) = same x (getD bs (p * m + i) 0) (move-inside _ _ _ _ t p i a (omega arith))
+            ∙ u .quiet (omega (arith, u .more, grows)) p q i a b (z .0) (sym (same x p a) ∙ y ∙ same x q b) ∙ sym (same x (getD bs (q * m + i) 0) (move-inside _ _ _ _ t q i b (omega arith)))
         still x p q i a b v y (inr z) = let j : i ≡ c = omega arith in
-            rw j (same x (getD bs (p * m + c) 0) (inside p c a h) ∙ s .parts p q a b y .1 ∙ sym (same x (getD bs (q * m + c) 0) (inside q c b h)))
+            rw j (same x (getD bs (p * m + c) 0) (move-inside _ _ _ _ t p c a h) ∙ s .parts p q a b y .1 ∙ sym (same x (getD bs (q * m + c) 0) (move-inside _ _ _ _ t q c b h)))
 
     -- the column splits no class,
     pub classes-on : (n : ℕ) (ns : List ℕ) (r : ℕ) → n ≡ length ms → c < m → Refined m bs n c cs ns r → r ≡ k → ClassesUpto m ms bs ns k before (c + 1)

@@ -1,11 +1,12 @@
 -- `ascend` meets its contract.
 use mathlib.Core.Path.{_≡_}
-use Prim.Native.Nat.{_+_, _*_, _≤_, _-_}
+use Prim.Native.Nat.{_*_, _≤_, _-_}
 use native.Mathlib.Nat.{zero-mul}
 use native.Mathlib.Omega.{arith}
 use lib.ListN.{length}
 use borrow.Author.Needs.{needs}
-use Rattle.partition.proofs.ChangeLaws.{AscendUpto, ascend-start, ascend-yes, ascend-no, ascend-done, lowered-room, row-on, row-room, below-120}
+use Rattle.partition.proofs.ChangeLaws.{AscendUpto, ascend-start, ascend-yes, ascend-no, ascend-done, lowered-room}
+use Rattle.partition.proofs.TableLaws.{row-on, row-room, below-most}
 use Rattle.partition.proofs.change.ascend.Statement.{statement}
 use Rattle.partition.proofs.change.ascend.Tie as tie
 
@@ -19,12 +20,12 @@ loop-holds : tie.Need-loop-holds Inv-loop μ-loop
 loop-holds c = (search needs, omega (arith, zero-mul (c .before .before .args .m)), ascend-start _ _ _ _ _ (c .before .before .pre .1))
 
 add-at : tie.Need-add-at Inv-loop μ-loop
-add-at c = omega (arith, row-room _ _ _ (c .before .before .before .before .pre .0) _ _ (c .before .loop .inv .1) (c .loop-test .taken), c .before .before .before .before .good)
+add-at c = omega (arith, row-room _ _ _ _ (c .before .before .before .before .pre .0) _ _ (c .before .loop .inv .1) (c .loop-test .taken), c .before .before .before .before .good)
 
 lower-requires : tie.Need-lower-requires Inv-loop μ-loop
 lower-requires c κs =
     let r = lowered-room _ _ _ _ _ _ (c .before .before .loop .inv .2 .backed) (c .before .loop-test .taken) (c .before .before .before .before .before .pre .0 .states-most) in
-    ((row-room _ _ _ (c .before .before .before .before .before .pre .0) _ _ (c .before .before .loop .inv .1) (c .before .loop-test .taken), r .0, r .1, r .2), below-120 _ _ _ (c .before .before .before .before .before .pre .0))
+    ((row-room _ _ _ _ (c .before .before .before .before .before .pre .0) _ _ (c .before .before .loop .inv .1) (c .before .loop-test .taken), r .0, r .1, r .2), below-most _ _ _ _ (c .before .before .before .before .before .pre .0))
 
 loop-again : tie.Need-loop-again Inv-loop μ-loop
 loop-again c = (

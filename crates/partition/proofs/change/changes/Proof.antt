@@ -1,5 +1,4 @@
 -- `changes` meets its contract.
-use mathlib.Core.Path.{_≡_}
 use mathlib.Core.Bool.{false≢true}
 use Prim.Native.Nat.{_≤_, _-_}
 use native.Mathlib.Omega.{arith}

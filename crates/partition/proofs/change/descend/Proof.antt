@@ -1,11 +1,12 @@
 -- `descend` meets its contract.
 use mathlib.Core.Path.{_≡_}
-use Prim.Native.Nat.{_+_, _*_, _≤_, _-_}
+use Prim.Native.Nat.{_*_, _≤_, _-_}
 use native.Mathlib.Omega.{arith}
 use lib.ListN.{length}
 use borrow.Author.Needs.{needs}
 use Rattle.partition.specs.Change.{Backed}
-use Rattle.partition.proofs.ChangeLaws.{lowered-room, lowered-backed, row-back, row-room-back, below-120}
+use Rattle.partition.proofs.ChangeLaws.{lowered-room, lowered-backed}
+use Rattle.partition.proofs.TableLaws.{row-back, row-room-back, below-most}
 use Rattle.partition.proofs.change.descend.Statement.{statement}
 use Rattle.partition.proofs.change.descend.Tie as tie
 
@@ -24,7 +25,7 @@ sub-at c = row-back _ _ _ (c .loop-test .taken) (c .before .loop .inv .1) .0
 lower-requires : tie.Need-lower-requires Inv-loop μ-loop
 lower-requires c κs =
     let r = lowered-room _ _ _ _ _ (c .before .before .loop .p - 1) (c .before .before .loop .inv .2) (omega arith) (c .before .before .before .before .before .pre .0 .states-most) in
-    ((row-room-back _ _ _ (c .before .before .before .before .before .pre .0) _ _ (c .before .loop-test .taken) (c .before .before .loop .inv .0) (c .before .before .loop .inv .1), r .0, r .1, r .2), below-120 _ _ _ (c .before .before .before .before .before .pre .0))
+    ((row-room-back _ _ _ _ (c .before .before .before .before .before .pre .0) _ _ (c .before .loop-test .taken) (c .before .before .loop .inv .0) (c .before .before .loop .inv .1), r .0, r .1, r .2), below-most _ _ _ _ (c .before .before .before .before .before .pre .0))
 
 loop-again : tie.Need-loop-again Inv-loop μ-loop
 loop-again c = (

@@ -1,8 +1,7 @@
 -- `column_keys` meets its contract.
-use mathlib.Core.Path.{_≡_, refl}
+use mathlib.Core.Path.{_≡_}
 use Prim.Native.Nat.{_+_, _*_, _≤_, _-_}
 use native.Mathlib.Omega.{arith}
-use lib.ListN.{length}
 use borrow.Author.Needs.{needs}
 use Rattle.partition.proofs.KeyLaws.{KeysUpto, keys-start, keys-set, columnKey, column-place, column-start, column-room, column-done}
 use Rattle.partition.proofs.equivalence.column_keys.Statement.{statement}

@@ -1,7 +1,6 @@
 -- `find` meets its contract: each state with the key is still ahead.
 use Prim.Native.Nat.{_-_}
 use native.Mathlib.Omega.{arith}
-use borrow.Author.Needs.{needs}
 use Rattle.partition.proofs.ClassLaws.{FindUpto, find-start, find-key, find-end, link-on, link-low, find-next}
 use Rattle.partition.proofs.equivalence.find.Statement.{statement}
 use Rattle.partition.proofs.equivalence.find.Tie as tie

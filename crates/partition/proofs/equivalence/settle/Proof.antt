@@ -1,6 +1,6 @@
 -- `settle` meets its contract.
 use borrow.Author.Needs.{needs}
-use Rattle.partition.proofs.ReducedLaws.{one-class, classes-start, classed-first, classed-alone}
+use Rattle.partition.proofs.ReducedLaws.{one-class, classed-first, classed-alone}
 use Rattle.partition.proofs.equivalence.settle.Statement.{statement}
 use Rattle.partition.proofs.equivalence.settle.Tie as tie
 

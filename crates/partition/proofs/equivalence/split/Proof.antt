@@ -1,9 +1,7 @@
 -- `split` meets its contract: the states below p are split, and the classes from p on are the old ones.
-use mathlib.Core.Path.{_≡_}
 use Prim.Native.Nat.{_≤_, _-_}
 use native.Mathlib.Nat.{le-refl}
 use native.Mathlib.Omega.{arith}
-use lib.ListN.{length, getD}
 use borrow.Author.Needs.{needs}
 use Rattle.partition.proofs.ClassLaws.{owned-le, none-linked}
 use Rattle.partition.proofs.SplitLaws.{SplitUpto, split-start, split-links, split-least, split-joins, split-new, split-done}

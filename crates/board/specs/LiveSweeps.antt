@@ -1,10 +1,10 @@
--- Live states by rounds over an array of flags: what one row, one round and all rounds say.
+-- Live states by sweeps over an array of flags: what one row, one state, one sweep and all sweeps say.
 use mathlib.Core.Path.{_≡_}
 use mathlib.Core.Bool.{Bool, true, false}
 use mathlib.Core.Logic.{_↔_}
 use mathlib.Core.List.{List}
-use Prim.Native.Nat.{ℕ, _+_, _*_, _≤_, _<_}
-use lib.ListN.{length, getD}
+use Prim.Native.Nat.{ℕ, _+_, _*_, _<_}
+use lib.ListN.{length, getD, set}
 use lib.Dec.{eqb}
 use Rattle.automata.specs.Machine.{Machine}
 use Rattle.automata.specs.Live.{live}
@@ -20,9 +20,14 @@ pub record Leads (bs : List ℕ) (at m : ℕ) (fs : List Bool) (r : Bool) : Type
   pub found : r ≡ true → (i : ℕ) × (i < m) × (flagAfter bs at fs i ≡ true)
   pub none : r ≡ false → (i : ℕ) → i < m → flagAfter bs at fs i ≡ false
 
--- One round takes the flags fs to gs: none is cleared; a state whose move leads to a flag of fs has its flag; every set of states that has those of
+-- State p became live by a move to a live state; or all stays, and where a move leads to a live state it is live already.
+pub record Visited (bs : List ℕ) (at m p : ℕ) (fs gs : List Bool) (r : Bool) : Type 0 where
+  pub yes : r ≡ true → (gs ≡ set fs p true) × ((i : ℕ) × (i < m) × (flagAfter bs at fs i ≡ true))
+  pub no : r ≡ false → (gs ≡ fs) × ((i : ℕ) → i < m → flagAfter bs at fs i ≡ true → getD fs p false ≡ true)
+
+-- One sweep takes the flags fs to gs: none is cleared; a state whose move leads to a flag of fs has its flag; every set of states that has those of
 -- fs and, with a state, all that move to it, has those of gs; and where r is false nothing changed.
-pub record Round (m : ℕ) (ms bs : List ℕ) (fs gs : List Bool) (r : Bool) : Type 0 where
+pub record Sweep (m : ℕ) (ms bs : List ℕ) (fs gs : List Bool) (r : Bool) : Type 0 where
   pub long : length gs ≡ length fs
   pub keeps : (p : ℕ) → p < length ms → getD fs p false ≡ true → getD gs p false ≡ true
   pub leads : (p i : ℕ) → p < length ms → i < m → flagAfter bs (p * m) fs i ≡ true → getD gs p false ≡ true
