@@ -51,8 +51,9 @@ accept-yes ms q e = rw e
 pub accept-no : (ms : List ℕ) (q : ℕ) → getD ms q 0 ≢ 1 → 0 ≡ acceptKey ms q
 accept-no ms q d = let t : eqb 1 (getD ms q 0) ≡ false = not-true (eqb 1 (getD ms q 0)) (λ e. d (sym (nat-test .sound 1 (getD ms q 0) e))) in rw t
 
-pub accept-done : (most : ℕ) (ms ks : List ℕ) (p : ℕ) → length ms ≤ p → KeysUpto most (acceptKey ms) ks p → AcceptKeys ms ks
-accept-done most ms ks p h u = record {
+pub accept-done : (ms ks : List ℕ) (p : ℕ) → length ms ≤ p → KeysUpto 120 (acceptKey ms) ks p → AcceptKeys ms ks
+accept-done ms ks p h u = record {
+  long = u .long;
   sound = λ q r a b e. same (eqb 1 (getD ms q 0)) (eqb 1 (getD ms r 0)) (sym (u .key q (omega arith)) ∙ e ∙ u .key r (omega arith));
   whole = λ q r a b e. u .key q (omega arith) ∙ ap bit e ∙ sym (u .key r (omega arith));
 }
@@ -80,8 +81,8 @@ column-room m n c bs p at t e h = (
   omega (arith, e, t .column, t .long, mul-le-mul-right {m = suc p} {n = n} m h, suc-mul p m),
 )
 
-pub column-done : (most m n c : ℕ) (bs cs ks : List ℕ) (p : ℕ) → n ≤ p → KeysUpto most (columnKey m bs c cs) ks p → ColumnKeys m bs n c cs ks
-column-done most m n c bs cs ks p h u = record { key = λ q b. u .key q (omega arith) }
+pub column-done : (m n c : ℕ) (bs cs ks : List ℕ) (p : ℕ) → n ≤ p → KeysUpto 120 (columnKey m bs c cs) ks p → ColumnKeys m bs n c cs ks
+column-done m n c bs cs ks p h u = record { long = u .long; key = λ q b. u .key q (omega arith) }
 
 -- ---- one column's split
 

@@ -48,6 +48,7 @@ pub record Split (n : ℕ) (ks cs ns : List ℕ) (r : ℕ) : Type 0 where
 
 -- Two states have the same key just when both accept or neither does.
 pub record AcceptKeys (ms ks : List ℕ) : Type 0 where
+  pub long : length ks ≡ 120
   pub sound : (p q : ℕ) → p < length ms → q < length ms → getD ks p 0 ≡ getD ks q 0 → eqb 1 (getD ms p 0) ≡ eqb 1 (getD ms q 0)
   pub whole : (p q : ℕ) → p < length ms → q < length ms → eqb 1 (getD ms p 0) ≡ eqb 1 (getD ms q 0) → getD ks p 0 ≡ getD ks q 0
 
@@ -61,6 +62,7 @@ pub record Columns (m n c : ℕ) (bs : List ℕ) : Type 0 where
 
 -- The key of a state is the class that column c leads to.
 pub record ColumnKeys (m : ℕ) (bs : List ℕ) (n c : ℕ) (cs ks : List ℕ) : Type 0 where
+  pub long : length ks ≡ 120
   pub key : (p : ℕ) → p < n → getD ks p 0 ≡ getD cs (getD bs (p * m + c) 0) 0
 
 -- The classes cs, split by where column c leads, are ns, r of them.

@@ -3,6 +3,7 @@ use Prim.Native.Nat.{ℕ, _<_, _-_}
 use native.Mathlib.Omega.{arith}
 use lib.ListN.{length}
 use Rattle.partition.proofs.ReducedLaws.{classed-low, classed-alone}
+use borrow.Author.Needs.{needs}
 use borrow.Fn.Kinds.{In}
 use borrow.Fn.PlainCycle.{Measures, is, falls, and}
 use Rattle.partition.proofs.equivalence.finish.Reads as finish
@@ -30,7 +31,7 @@ finish-apart-requires : (t : ℕ) → finish-lts.Need-apart-requires (
   finish-below t,
   finish.Post,
 ) (finish-at t) finish.Post
-finish-apart-requires t c κs = (c .before .before .before .pre .1 .0 .0, c .before .before .before .pre .1 .1)
+finish-apart-requires t c κs = ((c .before .before .before .before .pre .1 .0 .0, search needs), c .before .before .before .before .pre .1 .1)
 
 finish-passes-requires : (t : ℕ) → finish-lts.Need-passes-requires (
   apart-reads.Asked,
@@ -40,7 +41,7 @@ finish-passes-requires : (t : ℕ) → finish-lts.Need-passes-requires (
   finish-below t,
   finish.Post,
 ) (finish-at t) finish.Post
-finish-passes-requires t c κs = (c .before .before .before .before .before .pre .1 .0, c .before .apart .ensures .0)
+finish-passes-requires t c κs = ((c .before .before .before .before .before .before .before .pre .1 .0 .0, c .before .before .before .before .before .before .before .pre .1 .0 .1, c .before .before .apart .ensures .2), c .before .before .apart .ensures .0)
 
 finish-returns : (t : ℕ) → finish-lts.Need-returns (
   apart-reads.Asked,
@@ -50,7 +51,7 @@ finish-returns : (t : ℕ) → finish-lts.Need-returns (
   finish-below t,
   finish.Post,
 ) (finish-at t) finish.Post
-finish-returns t c = (c .before .passes .ensures .done (c .if1 .taken), omega (arith, c .before .passes .ensures .more, c .before .before .before .apart .ensures .1))
+finish-returns t c = (c .before .passes .ensures .done (c .if1 .taken), omega (arith, c .before .passes .ensures .more, c .before .before .before .before .apart .ensures .1))
 
 finish-returns-2 : (t : ℕ) → finish-lts.Need-returns-2 (
   apart-reads.Asked,
@@ -60,7 +61,7 @@ finish-returns-2 : (t : ℕ) → finish-lts.Need-returns-2 (
   finish-below t,
   finish.Post,
 ) (finish-at t) finish.Post
-finish-returns-2 t c = (classed-alone _ _ _ (c .before .before .before .before .before .before .before .before .pre .1 .0 .0) _ _ (c .before .before .passes .ensures .classed) (c .if2 .taken), omega (arith, c .before .before .passes .ensures .more, c .before .before .before .before .apart .ensures .1))
+finish-returns-2 t c = (classed-alone _ _ _ (c .before .before .before .before .before .before .before .before .before .before .pre .1 .0 .0) _ _ (c .before .before .passes .ensures .classed) (c .if2 .taken), omega (arith, c .before .before .passes .ensures .more, c .before .before .before .before .before .apart .ensures .1))
 
 finish-finish-requires : (t : ℕ) → finish-lts.Need-finish-requires (
   apart-reads.Asked,
@@ -71,8 +72,8 @@ finish-finish-requires : (t : ℕ) → finish-lts.Need-finish-requires (
   finish.Post,
 ) (finish-at t) finish.Post
 finish-finish-requires t c κs = (
-  omega (arith, c .before .before .before .before .before .before .before .before .before .pre .0, c .before .before .before .passes .ensures .more, c .before .before .before .before .before .apart .ensures .1, c .before .before .if1 .left, classed-low _ _ _ _ _ (c .before .before .before .passes .ensures .classed)),
-  (c .before .before .before .before .before .before .before .before .before .pre .1 .0, c .before .before .before .passes .ensures .classed),
+  omega (arith, c .before .before .before .before .before .before .before .before .before .before .before .pre .0, c .before .before .before .passes .ensures .more, c .before .before .before .before .before .before .apart .ensures .1, c .before .before .if1 .left, classed-low _ _ _ _ _ (c .before .before .before .passes .ensures .classed)),
+  (c .before .before .before .before .before .before .before .before .before .before .before .pre .1 .0, c .before .before .before .passes .ensures .classed),
 )
 
 finish-returns-3 : (t : ℕ) → finish-lts.Need-returns-3 (
@@ -93,7 +94,7 @@ finish-returns-4 : (t : ℕ) → finish-lts.Need-returns-4 (
   finish-below t,
   finish.Post,
 ) (finish-at t) finish.Post
-finish-returns-4 t c = (c .before .finish .ensures .0, omega (arith, c .before .finish .ensures .1, c .before .before .before .before .before .passes .ensures .more, c .before .before .before .before .before .before .before .apart .ensures .1))
+finish-returns-4 t c = (c .before .finish .ensures .0, omega (arith, c .before .finish .ensures .1, c .before .before .before .before .before .passes .ensures .more, c .before .before .before .before .before .before .before .before .apart .ensures .1))
 
 pub +finish-spec : {M : Type 1} → statement M
 +finish-spec = close μ-finish λ t. finish-lts.spec (

@@ -23,7 +23,7 @@ loop-again-2 : tie.Need-loop-again-2 Inv-loop μ-loop
 loop-again-2 c = (omega arith, keys-set _ _ _ _ (omega arith) (c .before .before .before .loop .inv .1) 0 (accept-no (c .before .before .before .before .args .marks .now) (c .before .before .before .loop .p) (c .if1 .left)))
 
 returns : tie.Need-returns Inv-loop μ-loop
-returns c = accept-done _ _ _ _ (c .loop-test .left) (c .before .loop .inv .1)
+returns c = accept-done _ _ _ (c .loop-test .left) (c .before .loop .inv .1)
 
 pub accept-keys-spec : {M : Type 1} → statement M
 accept-keys-spec =

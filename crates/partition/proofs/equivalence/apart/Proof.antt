@@ -12,7 +12,7 @@ settled true e = refl
 settled false e = absurd (true≢false e)
 
 returns-2 : tie.Need-returns-2
-returns-2 c = (classed-split _ _ _ _ _ _ _ _ (c .before .before .before .before .changes .ensures (settled _ (c .before .before .before .if1 .left))) (c .before .before .before .before .before .before .before .before .before .before .before .pre .1) (c .split .ensures), split-grows _ _ _ _ _ _ _ _ (c .before .before .before .before .before .before .before .before .before .before .before .pre .1) (c .split .ensures))
+returns-2 c = (classed-split _ _ _ _ _ _ _ _ (c .before .before .before .before .changes .ensures (settled _ (c .before .before .before .if1 .left))) (c .before .before .before .before .before .before .before .before .before .before .before .pre .1) (c .split .ensures), split-grows _ _ _ _ _ _ _ _ (c .before .before .before .before .before .before .before .before .before .before .before .pre .1) (c .split .ensures), search needs)
 
 pub apart-spec : {M : Type 1} → statement M
 apart-spec = tie.close (tie.spec (λ c κs. search needs) (λ c κs. search needs) (λ c. search needs) (λ c κs. search needs) returns-2)

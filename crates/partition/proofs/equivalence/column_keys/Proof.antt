@@ -35,7 +35,7 @@ loop-again : tie.Need-loop-again Inv-loop μ-loop
 loop-again c = (omega arith, column-place _ _ _ _ (c .before .before .before .loop .inv .1), keys-set _ _ _ _ (omega (arith, c .before .before .before .before .pre .0 .most)) (c .before .before .before .loop .inv .2) _ (rw (c .before .before .before .loop .inv .1)))
 
 returns : tie.Need-returns Inv-loop μ-loop
-returns c = column-done _ _ _ _ _ _ _ _ (c .loop-test .left) (c .before .loop .inv .2)
+returns c = column-done _ _ _ _ _ _ _ (c .loop-test .left) (c .before .loop .inv .2)
 
 pub column-keys-spec : {M : Type 1} → statement M
 column-keys-spec =

@@ -10,26 +10,26 @@ use Rattle.partition.proofs.equivalence.passes.Statement.{statement}
 use Rattle.partition.proofs.equivalence.passes.Tie as tie
 
 abbrev Inv-loop : tie.InvT-loop
-Inv-loop marks moves m most begun classes₀ n count₀ before₀ left₀ c₀ classes count before left c =
-    (n ≡ length marks) × (c ≤ m) × (begun ≤ before) × ClassesUpto m marks moves classes count before c
+Inv-loop marks moves m most begun keys₀ classes₀ n count₀ before₀ left₀ c₀ keys classes count before left c =
+    (n ≡ length marks) × (c ≤ m) × (begun ≤ before) × ClassesUpto m marks moves classes count before c × (length keys ≡ 120)
 
 abbrev μ-loop : tie.MeasureT-loop
-μ-loop marks moves m most begun classes₀ n count₀ before₀ left₀ c₀ classes count before left c = (n - before) * 27 + (n - count) + (m - c)
+μ-loop marks moves m most begun keys₀ classes₀ n count₀ before₀ left₀ c₀ keys classes count before left c = (n - before) * 27 + (n - count) + (m - c)
 
 loop-holds : tie.Need-loop-holds Inv-loop μ-loop
-loop-holds c = (search needs, search needs, le-refl _, upto-start _ _ _ _ _ (c .before .before .pre .1))
+loop-holds c = (search needs, search needs, le-refl _, upto-start _ _ _ _ _ (c .before .before .pre .1), search needs)
 
 refine-requires : tie.Need-refine-requires Inv-loop μ-loop
-refine-requires c κs = (columns-of _ _ _ (c .before .before .before .before .before .before .pre .0 .0) _ _ (c .before .before .before .loop .inv .0) (c .before .if1 .taken), c .before .before .before .loop .inv .3 .long, c .before .before .before .loop .inv .3 .named)
+refine-requires c κs = ((columns-of _ _ _ (c .before .before .before .before .before .before .before .pre .0 .0) _ _ (c .before .before .before .before .loop .inv .0) (c .before .before .if1 .taken), c .before .before .before .before .loop .inv .3 .long, c .before .before .before .before .loop .inv .3 .named), search needs)
 
 loop-again : tie.Need-loop-again Inv-loop μ-loop
-loop-again c = (search needs, omega arith, c .before .before .before .before .before .loop .inv .2, classes-on _ _ _ (c .before .before .before .before .before .before .before .before .pre .0 .0) _ _ _ _ (c .before .before .before .before .before .loop .inv .3) _ _ _ (c .before .before .before .before .before .loop .inv .0) (c .before .before .before .if1 .taken) (c .before .refine .ensures) (c .if2 .taken))
+loop-again c = (search needs, omega arith, c .before .before .before .before .before .before .loop .inv .2, classes-on _ _ _ (c .before .before .before .before .before .before .before .before .before .pre .0 .0) _ _ _ _ (c .before .before .before .before .before .before .loop .inv .3) _ _ _ (c .before .before .before .before .before .before .loop .inv .0) (c .before .before .before .before .if1 .taken) (c .before .refine .ensures .0) (c .if2 .taken), c .before .refine .ensures .1)
 
 loop-less-2 : tie.Need-loop-less-2 Inv-loop μ-loop
-loop-less-2 c = omega (arith, refined-grows _ _ _ (c .before .before .before .before .before .before .before .before .pre .0 .0) _ _ _ _ (c .before .before .before .before .before .loop .inv .3) _ _ _ (c .before .before .before .before .before .loop .inv .0) (c .before .refine .ensures), c .if2 .left)
+loop-less-2 c = omega (arith, refined-grows _ _ _ (c .before .before .before .before .before .before .before .before .before .pre .0 .0) _ _ _ _ (c .before .before .before .before .before .before .loop .inv .3) _ _ _ (c .before .before .before .before .before .before .loop .inv .0) (c .before .refine .ensures .0), c .if2 .left)
 
 loop-again-2 : tie.Need-loop-again-2 Inv-loop μ-loop
-loop-again-2 c = (search needs, search needs, c .before .before .before .before .before .loop .inv .2, classes-stay _ _ _ (c .before .before .before .before .before .before .before .before .pre .0 .0) _ _ _ _ (c .before .before .before .before .before .loop .inv .3) _ _ _ (c .before .before .before .before .before .loop .inv .0) (c .before .before .before .if1 .taken) (c .before .refine .ensures))
+loop-again-2 c = (search needs, search needs, c .before .before .before .before .before .before .loop .inv .2, classes-stay _ _ _ (c .before .before .before .before .before .before .before .before .before .pre .0 .0) _ _ _ _ (c .before .before .before .before .before .before .loop .inv .3) _ _ _ (c .before .before .before .before .before .before .loop .inv .0) (c .before .before .before .before .if1 .taken) (c .before .refine .ensures .0), c .before .refine .ensures .1)
 
 returns : tie.Need-returns Inv-loop μ-loop
 returns c = stretch-settled _ _ _ (c .before .before .before .before .before .before .pre .0 .0) _ _ _ _ (c .before .before .before .loop .inv .3) _ (c .before .before .before .loop .inv .2) (c .before .if1 .left) (c .if3 .taken)
@@ -41,7 +41,7 @@ loop-less-3 : tie.Need-loop-less-3 Inv-loop μ-loop
 loop-less-3 c = omega (arith, c .before .before .before .before .loop .inv .3 .more, c .before .if3 .left)
 
 loop-again-3 : tie.Need-loop-again-3 Inv-loop μ-loop
-loop-again-3 c = (search needs, omega arith, omega (arith, c .before .before .before .before .loop .inv .2, c .before .before .before .before .loop .inv .3 .more), classes-again _ _ _ (c .before .before .before .before .before .before .before .pre .0 .0) _ _ _ _ (c .before .before .before .before .loop .inv .3))
+loop-again-3 c = (search needs, omega arith, omega (arith, c .before .before .before .before .loop .inv .2, c .before .before .before .before .loop .inv .3 .more), classes-again _ _ _ (c .before .before .before .before .before .before .before .pre .0 .0) _ _ _ _ (c .before .before .before .before .loop .inv .3), search needs)
 
 returns-3 : tie.Need-returns-3 Inv-loop μ-loop
 returns-3 c = stretch-alone _ _ _ (c .before .before .before .before .pre .0 .0) _ _ _ _ (c .before .loop .inv .3) _ (c .before .loop .inv .2) (omega arith)
