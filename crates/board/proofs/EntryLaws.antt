@@ -1,15 +1,15 @@
 -- One step, and judging from what loading answers.
-use mathlib.Core.Path.{_≡_, refl, sym, ap, subst, _∙_}
-use mathlib.Core.Bool.{Bool, true, false}
+use mathlib.Core.Path.{_≡_, sym, ap, subst, _∙_}
+use mathlib.Core.Bool.{true, false}
 use mathlib.Core.Logic.{_⊎_, inl, inr, _≢_}
-use mathlib.Core.List.{List, _++_}
+use mathlib.Core.List.{List}
 use Prim.Native.Nat.{ℕ, _+_, _*_, _≤_, _<_, _^_}
 use native.Mathlib.Nat.{mul-le-mul}
 use native.Mathlib.Omega.{arith}
 use lib.ListN.{length, getD}
 use lib.Dec.{ltb, eqb}
 use borrow.Author.Tests.{lt-ltb, le-ltb}
-use Rattle.automata.specs.Booleans.{bool-cases, choose, not-true}
+use Rattle.automata.specs.Booleans.{bool-cases}
 use Rattle.automata.specs.Basics.{nat-test}
 use Rattle.automata.specs.Decide.{unless, contradict}
 use Rattle.automata.specs.Rows.{cell-below}
@@ -19,8 +19,8 @@ use Rattle.card.specs.LayoutLaws.{contents-whole, marksOf-length, marks-at, mov
 use Rattle.card.specs.Alphabet.{column}
 use Rattle.card.specs.Counts.{Counted}
 use Rattle.card.specs.Load.{loadTest}
-use Rattle.card.specs.Answer.{Loading, holds, rejected, load}
-use Rattle.card.specs.Step.{Stepped, moved, stopped, stepOn, steps-only, step-contents}
+use Rattle.card.specs.Answer.{holds, rejected, load}
+use Rattle.card.specs.Step.{moved, stopped, stepOn, steps-only, step-contents}
 use Rattle.card.specs.Judge.{refused, judge}
 use Rattle.card.specs.Run.{runStart}
 use Rattle.run.specs.declared.Run.{Run as Run′}

@@ -1,10 +1,10 @@
--- Live states by rounds over an array of flags, and that they are those of the machine that the bytes hold.
+-- Live states by sweeps over an array of flags, and that they are those of the machine that the bytes hold.
 use mathlib.Core.Path.{_≡_, refl, sym, ap, _∙_}
 use mathlib.Core.Bool.{Bool, true, false, not, false≢true, true≢false}
-use mathlib.Core.Logic.{_⊎_, inl, inr, _↔_}
+use mathlib.Core.Logic.{_⊎_, inl, inr}
 use mathlib.Core.List.{List, [], _∷_}
-use Prim.Native.Nat.{ℕ, zero, suc, _+_, _*_, _-_, _≤_, _<_, zero-le}
-use native.Mathlib.Nat.{le-refl, not-suc-le-zero, le-of-suc-le-suc, suc-mul, mul-le-mul-right}
+use Prim.Native.Nat.{ℕ, suc, _+_, _*_, _-_, _≤_, _<_, zero-le}
+use native.Mathlib.Nat.{not-suc-le-zero, le-of-suc-le-suc}
 use native.Mathlib.Numerals.{add-one}
 use native.Mathlib.Omega.{arith}
 use lib.ListN.{length, getD, set, length-set}
@@ -15,8 +15,9 @@ use Rattle.automata.specs.Live.{Within, live, live-word, live-within, live-dead
 use Rattle.card.specs.Mark.{Mark, markBy, marks-only, marks-getD, is-accepting, is-dead, is-live}
 use Rattle.automata.specs.Basics.{LtCases, lt-cases, nat-test}
 use Rattle.automata.specs.Machine.{Machine, size, automaton}
-use Rattle.board.specs.Holds.{Table, Holds}
-use Rattle.board.specs.LiveRounds.{flagAfter, Leads, Round, FlagsOf, LiveExactly, MarksExactly}
+use Rattle.partition.specs.Holds.{Table, Holds}
+use Rattle.partition.proofs.TableLaws.{move-inside}
+use Rattle.board.specs.LiveSweeps.{flagAfter, Leads, Visited, Sweep, FlagsOf, LiveExactly, MarksExactly}
 
 eqb-turn : (a b : ℕ) → eqb a b ≡ eqb b a
 eqb-turn a b = bool-iff (eqb a b) (eqb b a) (λ e. let z : a ≡ b = nat-test .sound a b e in rw z (nat-test .whole b)) (λ e. let z : b ≡ a = nat-test .sound b a e in rw z (nat-test .whole a))
@@ -71,110 +72,101 @@ flags-next most ms fs p h u = record { long = length-set fs p (eqb (getD ms p 0)
 pub flags-done : (most : ℕ) (ms : List ℕ) (fs : List Bool) (p : ℕ) → length ms ≤ p → FlagsUpto most ms fs p → FlagsOf most ms fs
 flags-done most ms fs p h u = record { long = u .long; flag = λ q b. u .flag q (omega arith) }
 
--- ---- one round
+-- ---- one state
 
--- The states from p on are done: fs became gs.
-pub record RoundUpto (most m : ℕ) (ms bs : List ℕ) (fs gs : List Bool) (p at : ℕ) (changed : Bool) : Type 0 where
+module _ (bs : List ℕ) (at m p : ℕ) (fs : List Bool) where
+  pub visit-live : getD fs p false ≡ true → Visited bs at m p fs fs false
+  visit-live e = record { yes = λ x. absurd (false≢true x); no = λ _. (refl, λ i v _. e) }
+
+  pub visit-new : Leads bs at m fs true → Visited bs at m p fs (set fs p true) true
+  visit-new l = record { yes = λ _. (refl, l .found refl); no = λ x. absurd (true≢false x) }
+
+  pub visit-none : Leads bs at m fs false → Visited bs at m p fs fs false
+  visit-none l = record { yes = λ x. absurd (false≢true x); no = λ _. (refl, λ i v e. absurd (true≢false (sym e ∙ l .none refl i v))) }
+
+-- ---- one sweep
+
+-- The states from lo to hi are visited: fs became gs.
+pub record SweepUpto (most m : ℕ) (ms bs : List ℕ) (fs gs : List Bool) (lo hi : ℕ) (changed : Bool) : Type 0 where
   pub long : length gs ≡ most
-  pub place : at ≡ p * m
   pub keeps : (q : ℕ) → q < length ms → getD fs q false ≡ true → getD gs q false ≡ true
-  pub leads : (q i : ℕ) → p ≤ q → q < length ms → i < m → flagAfter bs (q * m) fs i ≡ true → getD gs q false ≡ true
+  pub leads : (q i : ℕ) → lo ≤ q → q < hi → q < length ms → i < m → flagAfter bs (q * m) fs i ≡ true → getD gs q false ≡ true
   pub only : (f : ℕ → Bool) → ((q i : ℕ) → q < length ms → i < m → f (getD bs (q * m + i) 0) ≡ true → f q ≡ true)
       → ((q : ℕ) → q < length ms → getD fs q false ≡ true → f q ≡ true) → (q : ℕ) → q < length ms → getD gs q false ≡ true → f q ≡ true
   pub still : changed ≡ false → (q : ℕ) → q < length ms → getD gs q false ≡ getD fs q false
 
-module _ (most m : ℕ) (ms bs : List ℕ) (fs : List Bool) (t : Table most m ms bs) where
-  pub round-start : length fs ≡ most → RoundUpto most m ms bs fs fs (length ms) (length bs) false
-  round-start e = record {
-    long = e;
-    place = t .long;
-    keeps = λ q b e. e;
-    leads = λ q i h b v e. absurd (omega arith);
-    only = λ f c s q b e. s q b e;
-    still = λ _ q b. refl;
-  }
+pub sweep-start : (most m : ℕ) (ms bs : List ℕ) (fs : List Bool) (k : ℕ) → length fs ≡ most → SweepUpto most m ms bs fs fs k k false
+sweep-start most m ms bs fs k e = record { long = e; keeps = λ q b e. e; leads = λ q i l h b v e. absurd (omega arith); only = λ f c s q b e. s q b e; still = λ _ q b. refl }
 
-  -- the place of the row before
-  pub row-back : (p at : ℕ) → 0 < p → at ≡ p * m → (m ≤ at) × (at - m ≡ (p - 1) * m)
-  row-back p at h e = let z : suc (p - 1) ≡ p = omega arith in let y : suc (p - 1) * m ≡ (p - 1) * m + m = suc-mul (p - 1) m in let x : p * m ≡ (p - 1) * m + m = rw z at y in (omega arith, omega arith)
+pub sweep-done : (most m : ℕ) (ms bs : List ℕ) (fs gs : List Bool) (lo hi : ℕ) (changed : Bool)
+    → length fs ≡ most → SweepUpto most m ms bs fs gs lo hi changed → lo ≤ 0 → length ms ≤ hi → Sweep m ms bs fs gs changed
+sweep-done most m ms bs fs gs lo hi changed e u l h = record { long = u .long ∙ sym e; keeps = u .keeps; leads = λ q i b v e. u .leads q i (omega arith) (omega arith) b v e; only = u .only; still = u .still }
 
-  pub round-room : (p at : ℕ) → 0 < p → p ≤ length ms → at ≡ p * m → at - m + m ≤ length bs
-  round-room p at h b e = omega (arith, row-back p at h e .0, mul-le-mul-right {m = p} {n = length ms} m b, t .long)
+-- One state more, below the others or above them:
+pub one-below : (p n : ℕ) → 0 < p → (q : ℕ) → p - 1 ≤ q → q < n → ((p ≤ q) × (q < n)) ⊎ (q ≡ p - 1)
+one-below p n h q l b = go (lt-cases q p)
+  where
+    go : LtCases q p → ((p ≤ q) × (q < n)) ⊎ (q ≡ p - 1)
+    go (inl x) = inr (omega arith)
+    go (inr x) = inl (x .0, b)
 
-  inside : (p i : ℕ) → p < length ms → i < m → getD bs (p * m + i) 0 < length ms
-  inside p i h b = t .inside (p * m + i) (omega (arith, t .long, mul-le-mul-right {m = suc p} {n = length ms} m h, suc-mul p m))
+pub one-above : (p q : ℕ) → 0 ≤ q → q < p + 1 → ((0 ≤ q) × (q < p)) ⊎ (q ≡ p)
+one-above p q l b = go (lt-cases q p)
+  where
+    go : LtCases q p → ((0 ≤ q) × (q < p)) ⊎ (q ≡ p)
+    go (inl x) = inl (l, x .0)
+    go (inr x) = inr (omega arith)
 
-  module _ (gs : List Bool) (p at : ℕ) (changed : Bool) (u : RoundUpto most m ms bs fs gs p at changed) (some : 0 < p) (below : p ≤ length ms) where
-    -- a state whose flag is set, or whose moves lead to none
-    pub round-same : ((i : ℕ) → i < m → flagAfter bs ((p - 1) * m) fs i ≡ true → getD gs (p - 1) false ≡ true) → RoundUpto most m ms bs fs gs (p - 1) (at - m) changed
-    round-same s = record {
-      long = u .long;
-      place = row-back p at some (u .place) .1;
-      keeps = u .keeps;
-      leads = λ q i h b v e. go q i h b v e (lt-cases q p);
-      only = u .only;
-      still = u .still;
-    }
-      where
-        go : (q i : ℕ) → p - 1 ≤ q → q < length ms → i < m → flagAfter bs (q * m) fs i ≡ true → LtCases q p → getD gs q false ≡ true
-        go q i h b v e (inl x) = let z : q ≡ p - 1 = omega arith in rw z (s i v (rw z at e))
-        go q i h b v e (inr x) = u .leads q i (x .0) b v e
+module _ (most m : ℕ) (ms bs : List ℕ) (fs gs hs : List Bool) (t : Table most m ms bs) (lo hi : ℕ) (changed : Bool) (u : SweepUpto most m ms bs fs gs lo hi changed)
+    (p at : ℕ) (e₀ : at ≡ p * m) (b₀ : p < length ms) (lo′ hi′ : ℕ) (one : (q : ℕ) → lo′ ≤ q → q < hi′ → ((lo ≤ q) × (q < hi)) ⊎ (q ≡ p)) (r : Bool) (w : Visited bs at m p gs hs r) where
+  pub sweep-same : r ≡ false → SweepUpto most m ms bs fs hs lo′ hi′ changed
+  sweep-same z = rw (w .no z .0) (record { long = u .long; keeps = u .keeps; leads = λ q i l h b v e. go q i b v e (one q l h); only = u .only; still = u .still })
+    where
+      go : (q i : ℕ) → q < length ms → i < m → flagAfter bs (q * m) fs i ≡ true → ((lo ≤ q) × (q < hi)) ⊎ (q ≡ p) → getD gs q false ≡ true
+      go q i b v e (inl x) = u .leads q i (x .0) (x .1) b v e
+      go q i b v e (inr x) = let e′ : flagAfter bs at fs i ≡ true = rw e₀ (rw x at e) in rw x (w .no z .1 i v (u .keeps (getD bs (at + i) 0) (rw e₀ (move-inside _ _ _ _ t p i b₀ v)) e′))
 
-    pub round-set : not (getD gs (p - 1) false) ≡ false → RoundUpto most m ms bs fs gs (p - 1) (at - m) changed
-    round-set e = round-same (λ i v _. not-not (getD gs (p - 1) false) e)
+  pub sweep-new : r ≡ true → SweepUpto most m ms bs fs hs lo′ hi′ true
+  sweep-new z = rw (w .yes z .0) (record {
+    long = length-set gs p true ∙ u .long;
+    keeps = λ q b e. more q (u .keeps q b e);
+    leads = λ q i l h b v e. go q i b v e (one q l h);
+    only = λ f c s q b e. back f c s q b e (lt-cases q p) (lt-cases p q);
+    still = λ e. absurd (true≢false e);
+  })
+    where
+      same : getD (set gs p true) p false ≡ true
+      same = getD-set-same gs p true false (omega (arith, u .long, t .states-most))
 
-    pub round-none : Leads bs (at - m) m gs false → RoundUpto most m ms bs fs gs (p - 1) (at - m) changed
-    round-none l = round-same λ i v e. absurd (true≢false (sym (u .keeps (getD bs ((p - 1) * m + i) 0) (inside (p - 1) i (omega arith) v) e) ∙ clear i v))
-      where
-        clear : (i : ℕ) → i < m → flagAfter bs ((p - 1) * m) gs i ≡ false
-        clear i v = rw (row-back p at some (u .place) .1) at (l .none refl i v)
+      other : (q : ℕ) → (q ≡ p → ⊥) → getD (set gs p true) q false ≡ getD gs q false
+      other q d = getD-set-other gs p q true false d
 
-    -- a state that becomes live
-    pub round-new : Leads bs (at - m) m gs true → RoundUpto most m ms bs fs (set gs (p - 1) true) (p - 1) (at - m) true
-    round-new l = record {
-      long = length-set gs (p - 1) true ∙ u .long;
-      place = row-back p at some (u .place) .1;
-      keeps = λ q b e. more q (u .keeps q b e);
-      leads = λ q i h b v e. go q i h b v e (lt-cases q p);
-      only = λ f c s q b e. back f c s q b e (lt-cases q (p - 1)) (lt-cases (p - 1) q);
-      still = λ e. absurd (true≢false e);
-    }
-      where
-        same : getD (set gs (p - 1) true) (p - 1) false ≡ true
-        same = getD-set-same gs (p - 1) true false (omega (arith, u .long, t .states-most))
+      more : (q : ℕ) → getD gs q false ≡ true → getD (set gs p true) q false ≡ true
+      more q e = at′ (lt-cases q p) (lt-cases p q)
+        where
+          at′ : LtCases q p → LtCases p q → getD (set gs p true) q false ≡ true
+          at′ (inl x) y = other q (λ z. omega arith) ∙ e
+          at′ (inr x) (inl y) = other q (λ z. omega arith) ∙ e
+          at′ (inr x) (inr y) = let z : q ≡ p = omega arith in rw z same
 
-        other : (q : ℕ) → (q ≡ p - 1 → ⊥) → getD (set gs (p - 1) true) q false ≡ getD gs q false
-        other q d = getD-set-other gs (p - 1) q true false d
+      go : (q i : ℕ) → q < length ms → i < m → flagAfter bs (q * m) fs i ≡ true → ((lo ≤ q) × (q < hi)) ⊎ (q ≡ p) → getD (set gs p true) q false ≡ true
+      go q i b v e (inl x) = more q (u .leads q i (x .0) (x .1) b v e)
+      go q i b v e (inr x) = rw x same
 
-        more : (q : ℕ) → getD gs q false ≡ true → getD (set gs (p - 1) true) q false ≡ true
-        more q e = at′ (lt-cases q (p - 1)) (lt-cases (p - 1) q)
-          where
-            at′ : LtCases q (p - 1) → LtCases (p - 1) q → getD (set gs (p - 1) true) q false ≡ true
-            at′ (inl x) y = other q (λ z. omega arith) ∙ e
-            at′ (inr x) (inl y) = other q (λ z. omega arith) ∙ e
-            at′ (inr x) (inr y) = let z : q ≡ p - 1 = omega arith in rw z same
+      back : (f : ℕ → Bool) → ((q i : ℕ) → q < length ms → i < m → f (getD bs (q * m + i) 0) ≡ true → f q ≡ true)
+          → ((q : ℕ) → q < length ms → getD fs q false ≡ true → f q ≡ true) → (q : ℕ) → q < length ms → getD (set gs p true) q false ≡ true
+          → LtCases q p → LtCases p q → f q ≡ true
+      back f c s q b e (inl x) y = u .only f c s q b (sym (other q (λ z. omega arith)) ∙ e)
+      back f c s q b e (inr x) (inl y) = u .only f c s q b (sym (other q (λ z. omega arith)) ∙ e)
+      back f c s q b e (inr x) (inr y) =
+          let x′ : q ≡ p = omega arith in
+          let (i, v, g) = w .yes z .1 in
+          let g′ : flagAfter bs (p * m) gs i ≡ true = rw e₀ at g in
+          rw x′ (c p i b₀ v (u .only f c s (getD bs (p * m + i) 0) (move-inside _ _ _ _ t p i b₀ v) g′))
 
-        go : (q i : ℕ) → p - 1 ≤ q → q < length ms → i < m → flagAfter bs (q * m) fs i ≡ true → LtCases q p → getD (set gs (p - 1) true) q false ≡ true
-        go q i h b v e (inl x) = let z : q ≡ p - 1 = omega arith in rw z same
-        go q i h b v e (inr x) = more q (u .leads q i (x .0) b v e)
+-- ---- all sweeps
 
-        back : (f : ℕ → Bool) → ((q i : ℕ) → q < length ms → i < m → f (getD bs (q * m + i) 0) ≡ true → f q ≡ true)
-            → ((q : ℕ) → q < length ms → getD fs q false ≡ true → f q ≡ true) → (q : ℕ) → q < length ms → getD (set gs (p - 1) true) q false ≡ true
-            → LtCases q (p - 1) → LtCases (p - 1) q → f q ≡ true
-        back f c s q b e (inl x) y = u .only f c s q b (sym (other q (λ z. omega arith)) ∙ e)
-        back f c s q b e (inr x) (inl y) = u .only f c s q b (sym (other q (λ z. omega arith)) ∙ e)
-        back f c s q b e (inr x) (inr y) =
-            let z : q ≡ p - 1 = omega arith in
-            let (i, v, g) = l .found refl in
-            let g′ : flagAfter bs ((p - 1) * m) gs i ≡ true = rw (row-back p at some (u .place) .1) at g in
-            rw z (c (p - 1) i (omega arith) v (u .only f c s (getD bs ((p - 1) * m + i) 0) (inside (p - 1) i (omega arith) v) g′))
-
-  pub round-done : length fs ≡ most → (gs : List Bool) (p at : ℕ) (changed : Bool) → RoundUpto most m ms bs fs gs p at changed → p ≤ 0 → Round m ms bs fs gs changed
-  round-done e gs p at changed u h = record { long = u .long ∙ sym e; keeps = u .keeps; leads = λ q i b v e. u .leads q i (omega arith) b v e; only = u .only; still = u .still }
-
--- ---- all rounds
-
--- After j rounds the flags hold live states only, and each state from which a word of at most j letters is accepted.
+-- After j sweeps the flags hold live states only, and each state from which a word of at most j letters is accepted.
 pub record LiveUpto (most m : ℕ) (ms bs : List ℕ) (fs : List Bool) (j : ℕ) : Type 0 where
   pub long : length fs ≡ most
   pub sound : (M : Machine) → Holds m ms bs M → (p : ℕ) → p < length ms → getD fs p false ≡ true → getD (live m M) p false ≡ true
@@ -206,7 +198,7 @@ live-start most m ms bs fs o = record {
     first M p ([], v, l, f) = f
     first M p (c ∷ w, v, l, f) = absurd (not-suc-le-zero l)
 
-pub live-next : (most m : ℕ) (ms bs : List ℕ) (fs gs : List Bool) (j : ℕ) (r : Bool) → LiveUpto most m ms bs fs j → Round m ms bs fs gs r → LiveUpto most m ms bs gs (j + 1)
+pub live-next : (most m : ℕ) (ms bs : List ℕ) (fs gs : List Bool) (j : ℕ) (r : Bool) → LiveUpto most m ms bs fs j → Sweep m ms bs fs gs r → LiveUpto most m ms bs gs (j + 1)
 live-next most m ms bs fs gs j r u o = record {
   long = o .long ∙ u .long;
   sound = λ M h. o .only (λ p. getD (live m M) p false) (live-back m ms bs M h) (u .sound M h);
@@ -218,7 +210,7 @@ live-next most m ms bs fs gs j r u o = record {
     deep M h p b (c ∷ w, v, l, f) = o .leads p c b (v .0) (rw (h .step p c b (v .0)) at
         (u .whole M h (automaton M .step p c) (rw (h .states) at (h .formed .inside p c (low m ms bs M h p b) (v .0))) (w, v .1, le-of-suc-le-suc l, f)))
 
--- As many rounds as there are states,
+-- As many sweeps as there are states,
 pub live-full : (most m : ℕ) (ms bs : List ℕ) (fs : List Bool) (j : ℕ) → LiveUpto most m ms bs fs j → length ms ≤ j → LiveExactly m ms bs fs
 live-full most m ms bs fs j u l = record {
   exact = λ M h p b. bool-iff (getD fs p false) (getD (live m M) p false) (u .sound M h p b) λ e.
@@ -226,8 +218,8 @@ live-full most m ms bs fs j u l = record {
       u .whole M h p b (w, o, omega (arith, n, h .states), f);
 }
 
--- or a round that changes nothing, find all.
-pub live-still : (most m : ℕ) (ms bs : List ℕ) (fs gs : List Bool) (j : ℕ) (r : Bool) → LiveUpto most m ms bs fs j → Round m ms bs fs gs r → not r ≡ true → LiveExactly m ms bs gs
+-- or a sweep that changes nothing, find all.
+pub live-still : (most m : ℕ) (ms bs : List ℕ) (fs gs : List Bool) (j : ℕ) (r : Bool) → LiveUpto most m ms bs fs j → Sweep m ms bs fs gs r → not r ≡ true → LiveExactly m ms bs gs
 live-still most m ms bs fs gs j r u o e₀ = record {
   exact = λ M h p b. same p b ∙ live-only m M (h .formed) (λ p. getD fs p false)
       (λ p b. u .sound M h p (rw (h .states) at b))

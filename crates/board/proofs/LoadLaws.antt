@@ -1,21 +1,20 @@
 -- The load test of a card from its parts: its letters, its moves, and the machine that its bytes hold.
 use mathlib.Core.Path.{_≡_, refl, sym, ap, subst, _∙_}
 use mathlib.Core.Bool.{Bool, true, false, not, true≢false, false≢true}
-use mathlib.Core.Logic.{_⊎_, inl, inr, _↔_, _≢_}
-use mathlib.Core.List.{List, [], _∷_}
-use Prim.Native.Nat.{ℕ, zero, suc, _+_, _*_, _/_, _%_, _≤_, _<_}
-use native.Mathlib.Nat.{not-suc-le-zero, mod-lt, div-add-mod', div-lt-iff-lt-mul, zero-mul, mul-zero}
+use mathlib.Core.Logic.{inl, inr}
+use mathlib.Core.List.{List, _∷_}
+use Prim.Native.Nat.{ℕ, _+_, _*_, _/_, _%_, _≤_, _<_}
+use native.Mathlib.Nat.{not-suc-le-zero, mod-lt, div-add-mod', div-lt-iff-lt-mul, mul-zero}
 use native.Mathlib.Numerals.{add-one}
 use native.Mathlib.Omega.{arith}
 use lib.ListN.{length, getD, drop, drop-of-length-le}
 use lib.Seq.{drop-cons}
-use lib.Dec.{ltb, eqb}
+use lib.Dec.{eqb}
 use borrow.Author.Tests.{lt-ltb, le-ltb}
-use Rattle.automata.specs.Booleans.{choose, not-true}
+use Rattle.automata.specs.Booleans.{not-true}
 use Rattle.automata.specs.Basics.{LtCases, lt-cases}
 use Rattle.automata.specs.Decide.{unless, contradict}
 use Rattle.automata.specs.Format.{Format, narrow}
-use Rattle.automata.specs.Machine.{Machine, automaton}
 use Rattle.automata.specs.Rows.{cell-below}
 use Rattle.automata.specs.NumberingTest.{numbered-whole}
 use Rattle.automata.specs.ReducedTest.{reducedTest}
@@ -23,14 +22,15 @@ use Rattle.card.specs.Layout.{letterCount, stateCount, markAt, moveAt, lettersO
 use Rattle.card.specs.LayoutLaws.{contents-whole, marksOf-length, marks-at, size-is, accepting-at, moves-length, moves-at, step-at, machine-formed}
 use Rattle.card.specs.Mark.{Mark}
 use Rattle.card.specs.Alphabet.{Alphabet, risingFrom, alphabetTest, alphabet-sound, alphabet-whole}
-use Rattle.card.specs.Counts.{Counted, countsOf}
+use Rattle.card.specs.Counts.{Counted}
 use Rattle.card.specs.Load.{loadTest, CardInside, CardMarked, CardNumbered, CardReduced, marksTest, bad-contents, bad-alphabet, transition-out-of-range, not-numbered, loaded}
 use Rattle.card.specs.Answer.{holds, rejected, load, load-holds, load-rejected}
 use Rattle.card.specs.LoadLaws.{tested-only, inside-true, marks-hold, marks-true, reduced-holds}
-use Rattle.board.specs.Holds.{Table, Holds, InsideExactly}
+use Rattle.partition.specs.Holds.{Table, Holds}
+use Rattle.board.specs.Inside.{InsideExactly}
 use Rattle.board.specs.Rows.{NumberedExactly}
-use Rattle.board.specs.LiveRounds.{MarksExactly}
-use Rattle.board.specs.Classes.{ReducedExactly}
+use Rattle.board.specs.LiveSweeps.{MarksExactly}
+use Rattle.partition.specs.Classes.{ReducedExactly}
 
 -- ---- letters
 

@@ -1,7 +1,7 @@
 -- The numbering test, row by row, and that it says whether a machine is numbered by first arrival.
 use mathlib.Core.Path.{_≡_, refl, sym, ap, _∙_}
-use mathlib.Core.Bool.{Bool, true, false, false≢true}
-use mathlib.Core.Logic.{inl, inr, _↔_}
+use mathlib.Core.Bool.{true, false, false≢true}
+use mathlib.Core.Logic.{inl, inr}
 use mathlib.Core.List.{List}
 use Prim.Native.Nat.{ℕ, zero, suc, _+_, _*_, _≤_, _<_, max}
 use native.Mathlib.Nat.{le-refl, not-suc-le-zero, suc-mul, zero-mul, mul-le-mul-right}
@@ -9,9 +9,9 @@ use native.Mathlib.Numerals.{add-one}
 use native.Mathlib.Omega.{arith}
 use lib.ListN.{length, getD}
 use Rattle.automata.specs.Basics.{LtCases, lt-cases}
-use Rattle.automata.specs.Machine.{Machine, size, automaton, Numbered}
+use Rattle.automata.specs.Machine.{Machine, size}
 use Rattle.automata.specs.Numbering.{across, seen, Arrival, arrival-sound, arrival-whole}
-use Rattle.board.specs.Holds.{Holds}
+use Rattle.partition.specs.Holds.{Holds}
 use Rattle.board.specs.Rows.{seenIn, RowSeen, NumberedExactly}
 
 -- ---- one row

@@ -1,6 +1,5 @@
 -- Definitions that the board's contracts cite.
-pub mod Holds
+pub mod Inside
 pub mod Rows
-pub mod LiveRounds
-pub mod Classes
+pub mod LiveSweeps
 pub mod Answers

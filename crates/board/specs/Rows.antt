@@ -3,10 +3,10 @@ use mathlib.Core.Path.{_≡_}
 use mathlib.Core.Bool.{Bool, true}
 use mathlib.Core.Logic.{_↔_}
 use mathlib.Core.List.{List}
-use Prim.Native.Nat.{ℕ, zero, suc, _+_, _*_, _≤_, _<_, max}
-use lib.ListN.{length, getD}
+use Prim.Native.Nat.{ℕ, zero, suc, _+_, _≤_, _<_, max}
+use lib.ListN.{getD}
 use Rattle.automata.specs.Machine.{Machine, Numbered}
-use Rattle.board.specs.Holds.{Holds}
+use Rattle.partition.specs.Holds.{Holds}
 
 -- how many states are seen, where s were, after the first i moves from the place at
 unfoldable pub seenIn : List ℕ → ℕ → ℕ → ℕ → ℕ

@@ -1,6 +1,5 @@
 // The board: it knows a card's layout and nothing else, and is lent no work buffer. Its entries ask nothing of the caller: they answer every row of
 // bytes, state, letter and plan.
-mod equivalence;
 mod live;
 mod loading;
 mod numbering;

@@ -1,10 +1,11 @@
-// Test 25: which states are live, and the marks bytes. Rounds over an array of flags, from the accepting states back along the moves; nothing is
-// assumed of the states but that their moves stay among them.
+// Test 25: which states are live, and the marks bytes. Reachability back from the accepting states, by sweeps over an array of flags, down and up in
+// turn: a sweep looks at the moves of the states that are not live yet, and mostly two or three are enough, n + 1 at most. Nothing is assumed of the
+// states but that their moves stay among them.
 ghost use mathlib.Core.Path.{_≡_};
 ghost use Prim.Native.Nat.{ℕ, _+_, _≤_, _<_};
 ghost use lib.ListN.{length, getD};
-ghost use Rattle.board.specs.Holds.{Table};
-ghost use Rattle.board.specs.LiveRounds.{Leads, Round, FlagsOf, LiveExactly, MarksExactly};
+ghost use Rattle.partition.specs.Holds.{Table};
+ghost use Rattle.board.specs.LiveSweeps.{Leads, Visited, Sweep, FlagsOf, LiveExactly, MarksExactly};
 
 // Some of the m moves from the place `at` leads to a state with its flag set.
 fn leads(moves: &[u8], at: usize, m: usize, flags: &[bool; 120]) -> bool
@@ -23,11 +24,27 @@ fn leads(moves: &[u8], at: usize, m: usize, flags: &[bool; 120]) -> bool
     false
 }
 
-// One round, the last state first: a state with a move to a live one becomes live. Whether one did.
-fn round(marks: &[u8], moves: &[u8], m: usize, flags: &mut [bool; 120]) -> bool
+// State p, whose moves are at the place `at`, becomes live where one of them leads to a live state. Whether it did.
+fn visit(moves: &[u8], at: usize, m: usize, p: usize, flags: &mut [bool; 120]) -> bool
+    requires { ⌜ (at + m ≤ length (now moves)) × (p < 120) × (length (now flags) ≡ 120) ⌝ }
+    requires { ⌜ ((q : ℕ) → q < length (now moves) → getD (now moves) q 0 < 120) ⌝ }
+    ensures { λ r. ⌜ Visited (now (moves .entry)) at m p (now (flags .entry)) (now (flags .exit)) r ⌝ }
+{
+    if flags[p] {
+        return false;
+    }
+    if leads(moves, at, m, flags) {
+        flags[p] = true;
+        return true;
+    }
+    false
+}
+
+// One sweep, the last state first. Whether a state became live.
+fn descend(marks: &[u8], moves: &[u8], m: usize, flags: &mut [bool; 120]) -> bool
     requires { ⌜ Table 120 m (now marks) (now moves) ⌝ }
     requires { ⌜ length (now flags) ≡ 120 ⌝ }
-    ensures { λ r. ⌜ Round m (now (marks .entry)) (now (moves .entry)) (now (flags .entry)) (now (flags .exit)) r ⌝ }
+    ensures { λ r. ⌜ Sweep m (now (marks .entry)) (now (moves .entry)) (now (flags .entry)) (now (flags .exit)) r ⌝ }
 {
     let mut changed = false;
     let mut p = marks.len();
@@ -35,11 +52,29 @@ fn round(marks: &[u8], moves: &[u8], m: usize, flags: &mut [bool; 120]) -> bool
     while 0 < p {
         p -= 1;
         at -= m;
-        if !flags[p] {
-            if leads(moves, at, m, flags) {
-                flags[p] = true;
-                changed = true;
-            }
+        if visit(moves, at, m, p, flags) {
+            changed = true;
+        }
+    }
+    changed
+}
+
+// One sweep, the first state first. Whether a state became live.
+fn ascend(marks: &[u8], moves: &[u8], m: usize, flags: &mut [bool; 120]) -> bool
+    requires { ⌜ Table 120 m (now marks) (now moves) ⌝ }
+    requires { ⌜ length (now flags) ≡ 120 ⌝ }
+    ensures { λ r. ⌜ Sweep m (now (marks .entry)) (now (moves .entry)) (now (flags .entry)) (now (flags .exit)) r ⌝ }
+{
+    let mut changed = false;
+    let mut p = 0;
+    let mut at = 0;
+    while p < marks.len() {
+        let q = p;
+        let row = at;
+        p += 1;
+        at += m;
+        if visit(moves, row, m, q, flags) {
+            changed = true;
         }
     }
     changed
@@ -57,7 +92,7 @@ fn accepting(marks: &[u8], flags: &mut [bool; 120])
     }
 }
 
-// The flags of the live states: as many rounds as there are states, or fewer when one changes nothing.
+// The flags of the live states: as many sweeps as there are states, or fewer when one changes nothing.
 fn live(marks: &[u8], moves: &[u8], m: usize, flags: &mut [bool; 120])
     requires { ⌜ Table 120 m (now marks) (now moves) ⌝ }
     requires { ⌜ length (now flags) ≡ 120 ⌝ }
@@ -66,10 +101,13 @@ fn live(marks: &[u8], moves: &[u8], m: usize, flags: &mut [bool; 120])
     accepting(marks, flags);
     let mut j = 0;
     while j < marks.len() {
-        if !round(marks, moves, m, flags) {
+        if !descend(marks, moves, m, flags) {
             return;
         }
-        j += 1;
+        if !ascend(marks, moves, m, flags) {
+            return;
+        }
+        j += 2;
     }
 }
 

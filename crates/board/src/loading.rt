@@ -5,7 +5,7 @@ ghost use Rattle.automata.specs.Format.{narrow};
 ghost use Rattle.card.specs.Alphabet.{alphabetTest};
 ghost use Rattle.card.specs.Counts.{Counted};
 ghost use Rattle.card.specs.Load.{loadTest};
-ghost use Rattle.board.specs.Holds.{InsideExactly};
+ghost use Rattle.board.specs.Inside.{InsideExactly};
 
 // Test 22: letters strictly rising, a to z.
 fn alphabet(letters: &[u8]) -> bool
@@ -61,7 +61,7 @@ pub fn tested(card: &[u8], m: usize, n: usize) -> u8
     if !crate::live::marked(marks, moves, m) {
         return 25;
     }
-    if !crate::equivalence::reduced(marks, moves, m) {
+    if !partition::reduced(marks, moves, m) {
         return 26;
     }
     0

@@ -1,5 +1,6 @@
 -- `live` meets its contract.
-use Prim.Native.Nat.{_≤_, _-_}
+use mathlib.Core.Path.{_≡_}
+use Prim.Native.Nat.{_≤_, _+_, _-_}
 use native.Mathlib.Omega.{arith}
 use lib.ListN.{length}
 use borrow.Author.Needs.{needs}
@@ -8,7 +9,7 @@ use Rattle.board.proofs.live.live.Statement.{statement}
 use Rattle.board.proofs.live.live.Tie as tie
 
 abbrev Inv-loop : tie.InvT-loop
-Inv-loop marks moves m flags₀ j₀ flags j = (j ≤ length marks) × LiveUpto 120 m marks moves flags j
+Inv-loop marks moves m flags₀ j₀ flags j = (j ≤ length marks + 1) × LiveUpto 120 m marks moves flags j
 
 abbrev μ-loop : tie.MeasureT-loop
 μ-loop marks moves m flags₀ j₀ flags j = length marks - j
@@ -19,29 +20,32 @@ accepting-requires c κs = (c .before .before .before .pre .0 .states-most, c .b
 loop-holds : tie.Need-loop-holds Inv-loop μ-loop
 loop-holds c = (search needs, live-start _ _ _ _ _ (c .accepting .ensures))
 
-round-requires : tie.Need-round-requires Inv-loop μ-loop
-round-requires c κs = ((c .before .before .before .before .before .before .before .pre .0), c .before .before .loop .inv .1 .long)
+descend-requires : tie.Need-descend-requires Inv-loop μ-loop
+descend-requires c κs = ((c .before .before .before .before .before .before .before .pre .0), c .before .before .loop .inv .1 .long)
 
 returns : tie.Need-returns Inv-loop μ-loop
-returns c = live-still _ _ _ _ _ _ _ _ (c .before .before .before .before .loop .inv .1) (c .before .round .ensures) (c .if1 .taken)
+returns c = live-still _ _ _ _ _ _ _ _ (c .before .before .before .before .loop .inv .1) (c .before .descend .ensures) (c .if1 .taken)
 
-loop-again : tie.Need-loop-again Inv-loop μ-loop
-loop-again c = (omega arith, live-next _ _ _ _ _ _ _ _ (c .before .before .before .before .loop .inv .1) (c .before .round .ensures))
+ascend-requires : tie.Need-ascend-requires Inv-loop μ-loop
+ascend-requires c κs =
+    let u = live-next _ _ _ _ _ _ _ _ (c .before .before .before .before .before .loop .inv .1) (c .before .before .descend .ensures) in
+    (c .before .before .before .before .before .before .before .before .before .before .pre .0, u .long)
 
 returns-2 : tie.Need-returns-2 Inv-loop μ-loop
-returns-2 c = live-full _ _ _ _ _ _ (c .before .loop .inv .1) (c .loop-test .left)
+returns-2 c =
+    let u = live-next _ _ _ _ _ _ _ _ (c .before .before .before .before .before .before .before .loop .inv .1) (c .before .before .before .before .descend .ensures) in
+    live-still _ _ _ _ _ _ _ _ u (c .before .ascend .ensures) (c .if2 .taken)
+
+loop-again : tie.Need-loop-again Inv-loop μ-loop
+loop-again c =
+    let u = live-next _ _ _ _ _ _ _ _ (c .before .before .before .before .before .before .before .loop .inv .1) (c .before .before .before .before .descend .ensures) in
+    let z : c .before .before .before .before .before .before .before .loop .j + 1 + 1 ≡ c .before .before .before .before .before .before .before .loop .j + 2 = omega arith in
+    (omega arith, rw z at (live-next _ _ _ _ _ _ _ _ u (c .before .ascend .ensures)))
+
+returns-3 : tie.Need-returns-3 Inv-loop μ-loop
+returns-3 c = live-full _ _ _ _ _ _ (c .before .loop .inv .1) (c .loop-test .left)
 
 pub live-spec : {M : Type 1} → statement M
 live-spec =
     tie.close
-    (tie.spec
-    Inv-loop
-    μ-loop
-    accepting-requires
-    loop-holds
-    round-requires
-    returns
-    (λ c. search needs)
-    (λ c. search needs)
-    loop-again
-    returns-2)
+    (tie.spec Inv-loop μ-loop accepting-requires loop-holds descend-requires returns ascend-requires returns-2 (λ c. search needs) (λ c. search needs) loop-again returns-3)
