@@ -1,5 +1,5 @@
 // Test 25: which states are live, and the marks bytes. Reachability back from the accepting states, by sweeps over an array of flags, down and up in
-// turn: a sweep looks at the moves of the states that are not live yet, and mostly two or three are enough, n + 1 at most. Nothing is assumed of the
+// turn: a sweep looks at the moves of the states that are not live yet, and mostly one or two are enough, n + 1 at most. Nothing is assumed of the
 // states but that their moves stay among them.
 ghost use mathlib.Core.Path.{_≡_};
 ghost use Prim.Native.Nat.{ℕ, _+_, _≤_, _<_};
@@ -92,14 +92,18 @@ fn accepting(marks: &[u8], flags: &mut [bool; 120])
     }
 }
 
-// The flags of the live states: as many sweeps as there are states, or fewer when one changes nothing.
+// The flags of the live states: as many sweeps as there are states, or fewer when one changes nothing. Most moves lead to later states, so the second
+// goes down too.
 fn live(marks: &[u8], moves: &[u8], m: usize, flags: &mut [bool; 120])
     requires { ⌜ Table 120 m (now marks) (now moves) ⌝ }
     requires { ⌜ length (now flags) ≡ 120 ⌝ }
     ensures { λ _. ⌜ LiveExactly m (now (marks .entry)) (now (moves .entry)) (now (flags .exit)) ⌝ }
 {
     accepting(marks, flags);
-    let mut j = 0;
+    if !descend(marks, moves, m, flags) {
+        return;
+    }
+    let mut j = 1;
     while j < marks.len() {
         if !descend(marks, moves, m, flags) {
             return;

@@ -44,6 +44,9 @@ classes-start m ms bs ks cs k a s = record {
   quiet = λ _ p q i h b v. absurd (not-suc-le-zero v);
 }
 
+pub refined-low : (m n c : ℕ) (bs cs ns : List ℕ) (r : ℕ) → Refined m bs n c cs ns r → r ≤ n
+refined-low m n c bs cs ns r u = omega (arith, u .count, owned-le ns n)
+
 module _ (m : ℕ) (ms bs : List ℕ) (t : Table 120 m ms bs) where
   pub columns-of : (n c : ℕ) → n ≡ length ms → c < m → Columns m n c bs
   columns-of n c e h = rw e (record { some = t .some; most = t .states-most; column = h; long = t .long; inside = t .inside })

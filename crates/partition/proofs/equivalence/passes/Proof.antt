@@ -5,16 +5,16 @@ use native.Mathlib.Nat.{le-refl}
 use native.Mathlib.Omega.{arith}
 use lib.ListN.{length}
 use borrow.Author.Needs.{needs}
-use Rattle.partition.proofs.ReducedLaws.{ClassesUpto, upto-start, columns-of, refined-grows, classes-on, classes-stay, classes-again, stretch-alone, stretch-settled, stretch-late}
+use Rattle.partition.proofs.ReducedLaws.{ClassesUpto, upto-start, columns-of, refined-low, refined-grows, classes-on, classes-stay, classes-again, stretch-alone, stretch-settled, stretch-late}
 use Rattle.partition.proofs.equivalence.passes.Statement.{statement}
 use Rattle.partition.proofs.equivalence.passes.Tie as tie
 
 abbrev Inv-loop : tie.InvT-loop
-Inv-loop marks moves m most begun keys₀ classes₀ n third count₀ before₀ left₀ c₀ keys classes count before left c =
+Inv-loop marks moves m most begun keys₀ classes₀ n count₀ before₀ left₀ c₀ keys classes count before left c =
     (n ≡ length marks) × (c ≤ m) × (begun ≤ before) × ClassesUpto m marks moves classes count before c × (length keys ≡ 120)
 
 abbrev μ-loop : tie.MeasureT-loop
-μ-loop marks moves m most begun keys₀ classes₀ n third count₀ before₀ left₀ c₀ keys classes count before left c = (n - before) * 27 + (n - count) + (m - c)
+μ-loop marks moves m most begun keys₀ classes₀ n count₀ before₀ left₀ c₀ keys classes count before left c = (n - before) * 27 + (n - count) + (m - c)
 
 loop-holds : tie.Need-loop-holds Inv-loop μ-loop
 loop-holds c = (search needs, search needs, le-refl _, upto-start _ _ _ _ _ (c .before .before .pre .1), search needs)
@@ -33,6 +33,9 @@ loop-less-3 c = omega (arith, refined-grows _ _ _ (c .before .before .before .be
 
 loop-again-3 : tie.Need-loop-again-3 Inv-loop μ-loop
 loop-again-3 c = (search needs, search needs, c .before .before .before .before .before .before .before .loop .inv .2, classes-stay _ _ _ (c .before .before .before .before .before .before .before .before .before .before .pre .0 .0) _ _ _ _ (c .before .before .before .before .before .before .before .loop .inv .3) _ _ _ (c .before .before .before .before .before .before .before .loop .inv .0) (c .before .before .before .before .before .if1 .taken) (c .before .before .refine .ensures .0), c .before .before .refine .ensures .1)
+
+mul-if5 : tie.Need-mul-if5 Inv-loop μ-loop
+mul-if5 c = omega (arith, refined-low _ _ _ _ _ _ _ (c .before .before .refine .ensures .0), c .before .before .before .before .before .before .before .loop .inv .0, c .before .before .before .before .before .before .before .before .before .before .pre .0 .0 .states-most)
 
 returns : tie.Need-returns Inv-loop μ-loop
 returns c =
@@ -76,6 +79,7 @@ passes-spec =
     (λ c. search needs)
     loop-less-3
     loop-again-3
+    mul-if5
     returns
     loop-less-4
     loop-again-4
