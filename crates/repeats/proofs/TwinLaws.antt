@@ -1,8 +1,9 @@
--- Columns that lead every state of both operands to the same place lead every row to the same row.
+-- Columns that lead the states of a row to the same places lead the row to the same row.
 use mathlib.Core.Path.{_≡_, refl, sym, ap, ap₂, _∙_}
-use mathlib.Core.Bool.{Bool, _&&_, _||_}
+use mathlib.Core.Bool.{Bool, true, false, _&&_, _||_}
 use mathlib.Core.List.{List}
-use mathlib.Core.Logic.{inl, inr}
+use mathlib.Core.Logic.{_⊎_, inl, inr}
+use Rattle.automata.specs.Booleans.{bool-cases}
 use Prim.Native.Nat.{ℕ, suc, _+_, _-_, _<_, _≤_}
 use native.Mathlib.Omega.{arith}
 use lib.Dec.{eqb}
@@ -25,39 +26,55 @@ use Rattle.repeats.specs.Twins.{Twins, TwinTable}
 row-ext : (f g : ℕ → Bool) (n : ℕ) → ((t : ℕ) → f t ≡ g t) → flagRow f n ≡ flagRow g n
 row-ext f g n e = flags-row {m = n} {f = g} {row = flagRow f n} (flags-same {m = n} {f = f} {g = g} {row = flagRow f n} (row-flags {m = n} {f = f} {row = flagRow f n} refl) (λ t h. e t))
 
-module _ (k m na nb : ℕ) (A B : Automaton ℕ) (d c : ℕ) (dm : d ≡ m → ⊥) (cm : c ≡ m → ⊥)
-    (ea : (q : ℕ) → q < na → A .step q d ≡ A .step q c) (eb : (q : ℕ) → q < nb → B .step q d ≡ B .step q c) where
-  -- what the members lead to
-  left : (member : ℕ → Bool) (t : ℕ) → leadsTo member (λ q. A .step q d) na t ≡ leadsTo member (λ q. A .step q c) na t
-  left member t = any-ext (λ q. member q && eqb (A .step q d) t) (λ q. member q && eqb (A .step q c) t) na (λ q h. ap (λ (y : ℕ). member q && eqb y t) (ea q h))
+-- members that lead alike lead to the same states
+led : (n : ℕ) (member : ℕ → Bool) (to to′ : ℕ → ℕ) → ((q : ℕ) → q < n → member q ≡ true → to q ≡ to′ q) → (t : ℕ) → leadsTo member to n t ≡ leadsTo member to′ n t
+led n member to to′ e t = any-ext (λ q. member q && eqb (to q) t) (λ q. member q && eqb (to′ q) t) n (λ q h. go q h (bool-cases (member q)))
+  where
+    go : (q : ℕ) → q < n → (member q ≡ true) ⊎ (member q ≡ false) → member q && eqb (to q) t ≡ member q && eqb (to′ q) t
+    go q h (inl y) = ap (λ (x : ℕ). member q && eqb x t) (e q h y)
+    go q h (inr y) = rw y
 
-  right : (member : ℕ → Bool) (t : ℕ) → leadsTo member (λ q. B .step q d) nb t ≡ leadsTo member (λ q. B .step q c) nb t
-  right member t = any-ext (λ q. member q && eqb (B .step q d) t) (λ q. member q && eqb (B .step q c) t) nb (λ q h. ap (λ (y : ℕ). member q && eqb y t) (eb q h))
+module _ (m na nb : ℕ) (A B : Automaton ℕ) (d c : ℕ) where
+  -- the states in a row lead to the same places by d and by c
+  abbrev pub Alike : Operation → List ℕ → Type 0
+  Alike (pairing o) r = (A .step (numberAt r 0) d ≡ A .step (numberAt r 0) c) × (B .step (numberAt r 2) d ≡ B .step (numberAt r 2) c)
+  Alike concatenation r = (A .step (numberAt r 0) d ≡ A .step (numberAt r 0) c) × ((q : ℕ) → q < nb → flagAt r (2 + q) ≡ true → B .step q d ≡ B .step q c)
+  Alike star r = (q : ℕ) → q < na → flagAt r q ≡ true → A .step q d ≡ A .step q c
+  Alike erase r = (d ≡ m → ⊥) × (c ≡ m → ⊥) × ((q : ℕ) → q < na → flagAt r q ≡ true → A .step q d ≡ A .step q c)
 
-  -- whatever a row is gained by, for members that are the same
-  some-left : (r : List ℕ) (f : ℕ → Bool) → anyBelow (λ q. leadsTo (flagAt r) (λ p. A .step p d) na q && f q) na ≡ anyBelow (λ q. leadsTo (flagAt r) (λ p. A .step p c) na q && f q) na
-  some-left r f = any-ext (λ q. leadsTo (flagAt r) (λ p. A .step p d) na q && f q) (λ q. leadsTo (flagAt r) (λ p. A .step p c) na q && f q) na
-      (λ q h. ap (λ (x : Bool). x && f q) (left (flagAt r) q))
+  -- what a row is gained by, for members that are the same
+  some-led : (r : List ℕ) → ((q : ℕ) → q < na → flagAt r q ≡ true → A .step q d ≡ A .step q c) → (f : ℕ → Bool)
+      → anyBelow (λ q. leadsTo (flagAt r) (λ p. A .step p d) na q && f q) na ≡ anyBelow (λ q. leadsTo (flagAt r) (λ p. A .step p c) na q && f q) na
+  some-led r e f = any-ext (λ q. leadsTo (flagAt r) (λ p. A .step p d) na q && f q) (λ q. leadsTo (flagAt r) (λ p. A .step p c) na q && f q) na
+      (λ q h. ap (λ (x : Bool). x && f q) (led na (flagAt r) (λ p. A .step p d) (λ p. A .step p c) e q))
 
-  same-step : (o : Operation) (r : List ℕ) → RowFits o na nb r → rowsOf o m na A nb B .step r d ≡ rowsOf o m na A nb B .step r c
+  pub alike-step : (o : Operation) (r : List ℕ) → Alike o r → rowsOf o m na A nb B .step r d ≡ rowsOf o m na A nb B .step r c
   unfolding pairRows concatRows starRows eraseRows
-  same-step (pairing o) r (h, g) = ap₂ pairRow (ea (numberAt r 0) h) (eb (numberAt r 2) g)
-  same-step concatenation r h =
-      rw (ea (numberAt r 0) h)
+  alike-step (pairing o) r (x, y) = ap₂ pairRow x y
+  alike-step concatenation r (x, e) =
+      rw x
       (ap (numberBytes (A .step (numberAt r 0) c))
-      (row-ext _ _ nb (λ t. ap (λ (x : Bool). x || (A .accepting (A .step (numberAt r 0) c) && eqb t 0)) (right (λ q. flagAt r (2 + q)) t))))
-  same-step star r h =
-      row-ext _ _ (suc na) (λ t. ap₂ (λ (x y : Bool). x || (y && ends na t)) (left (flagAt r) t) (some-left r (A .accepting)))
-  same-step erase r h =
-      rw (ne-eqb d m dm, ne-eqb c m cm)
-      (row-ext _ _ na (λ t. some-left r (λ q. anyBelow (λ i. eqb (marks A m i q) t) na)))
+      (row-ext _ _ nb (λ t. ap (λ (x : Bool). x || (A .accepting (A .step (numberAt r 0) c) && eqb t 0)) (led nb (λ q. flagAt r (2 + q)) (λ q. B .step q d) (λ q. B .step q c) e t))))
+  alike-step star r e =
+      row-ext _ _ (suc na) (λ t. ap₂ (λ (x y : Bool). x || (y && ends na t)) (led na (flagAt r) (λ q. A .step q d) (λ q. A .step q c) e t) (some-led r e (A .accepting)))
+  alike-step erase r (u, v, e) =
+      rw (ne-eqb d m u, ne-eqb c m v)
+      (row-ext _ _ na (λ t. some-led r e (λ q. anyBelow (λ i. eqb (marks A m i q) t) na)))
+
+  -- columns that lead every state alike
+  pub all-alike : (d ≡ m → ⊥) → (c ≡ m → ⊥) → ((q : ℕ) → q < na → A .step q d ≡ A .step q c) → ((q : ℕ) → q < nb → B .step q d ≡ B .step q c) → (o : Operation) (r : List ℕ) → RowFits o na nb r → Alike o r
+  all-alike u v ea eb (pairing o) r (h, g) = (ea (numberAt r 0) h, eb (numberAt r 2) g)
+  all-alike u v ea eb concatenation r h = (ea (numberAt r 0) h, λ q l f. eb q l)
+  all-alike u v ea eb star r h = λ q l f. ea q l
+  all-alike u v ea eb erase r h = (u, v, λ q l f. ea q l)
 
 pub twin-step : (s : Shape) (a b : List ℕ) (d c : ℕ) → Fits s a b → Twins s a b d c → (r : List ℕ) → RowFits (operationOf (s .op)) (s .na) (s .nb) r → rowsFor s a b .step r d ≡ rowsFor s a b .step r c
 twin-step s a b d c F W r h =
-    same-step (s .k) (s .k - 1) (s .na) (s .nb) (leftOf s a) (rightOf s b) d c (λ e. omega (arith, W .low)) (λ e. omega (arith, W .high))
+    alike-step (s .k - 1) (s .na) (s .nb) (leftOf s a) (rightOf s b) d c (operationOf (s .op)) r
+    (all-alike (s .k - 1) (s .na) (s .nb) (leftOf s a) (rightOf s b) d c (λ e. omega (arith, W .low)) (λ e. omega (arith, W .high))
     (λ q g. table-step (s .ba) (s .na) (s .k) a (F .left) q d g (omega (arith, W .low)) ∙ W .left q g ∙ sym (table-step (s .ba) (s .na) (s .k) a (F .left) q c g (omega (arith, W .high))))
     (λ q g. table-step (s .bb) (s .nb) (s .k) b (F .right) q d g (omega (arith, W .low)) ∙ W .right q g ∙ sym (table-step (s .bb) (s .nb) (s .k) b (F .right) q c g (omega (arith, W .high))))
-    (operationOf (s .op)) r h
+    (operationOf (s .op)) r h)
 
 -- By the mark an erase leads every row to the empty one.
 pub mark-step : (s : Shape) (a b : List ℕ) (r r′ : List ℕ) (c : ℕ) → operationOf (s .op) ≡ erase → c ≡ s .k - 1 → rowsFor s a b .step r c ≡ rowsFor s a b .step r′ c

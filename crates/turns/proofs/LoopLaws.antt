@@ -16,7 +16,8 @@ use Rattle.rows.specs.Chains.{Chained, Appended}
 use Rattle.rows.specs.Rows.{rowAt}
 use Rattle.rows.proofs.HashLaws.{chained-store}
 use Rattle.rows.proofs.RowLaws.{row-within}
-use Rattle.turns.specs.Partial.{Earlier, Partial, Place}
+use Rattle.repeats.specs.Repeats.{Earlier}
+use Rattle.turns.specs.Partial.{Partial, Place}
 
 -- what lies before the next place is before this one, or this one
 earlier-split : (p c state column : ℕ) → Earlier p c state (column + 1) → Earlier p c state column ⊎ ((p ≡ state) × (c ≡ column))

@@ -1,9 +1,8 @@
 -- One turn of the loop: what its calls ask, and what it leaves.
 use mathlib.Core.Path.{_≡_, refl, sym, ap, _∙_}
-use mathlib.Core.Logic.{inl, inr}
 use mathlib.Core.List.{List}
 use Prim.Native.Nat.{ℕ, _+_, _*_, _-_, _%_, _≤_, _<_}
-use native.Mathlib.Nat.{mul-le-mul-right, zero-mul, le-refl, mod-eq-of-lt}
+use native.Mathlib.Nat.{mul-le-mul-right, le-refl, mod-eq-of-lt}
 use native.Mathlib.Omega.{arith}
 use lib.ListN.{length, getD, set, take, drop, length-set}
 use Rattle.automata.specs.Stage.{MoreThan}
@@ -16,14 +15,13 @@ use Rattle.rows.proofs.HashLaws.{chained-more}
 use Rattle.rows.proofs.PairRowLaws.{number-left, number-right}
 use Rattle.rows.proofs.RowLaws.{row-within, cell-within, row-part, row-length}
 use Rattle.flags.specs.Flags.{cell}
-use Rattle.operations.specs.Fits.{rowsFor, Source, Step}
-use Rattle.operations.specs.Operations.{operationOf, erase}
+use Rattle.operations.specs.Fits.{rowsFor, Source, Step, Listed}
+use Rattle.operations.specs.Operations.{operationOf}
 use Rattle.operations.specs.declared.Shape.{Shape}
 use Rattle.operations.proofs.FitLaws.{row-source, reach-fits}
 use Rattle.operations.proofs.PairLaws.{pair-room, left-cell, right-cell, left-small, right-small, pair-next}
-use Rattle.repeats.specs.Twins.{Twins}
-use Rattle.repeats.proofs.TwinLaws.{twin-step, mark-step}
-use Rattle.turns.specs.Partial.{Earlier, Turning, Turned}
+use Rattle.repeats.specs.Repeats.{Repeats, Asking, Earlier}
+use Rattle.turns.specs.Partial.{Turning, Turned}
 use Rattle.turns.specs.declared.Explored.the-variants.{Sets}
 use Rattle.turns.proofs.LoopLaws.{partial-store, partial-found, partial-new, partial-full}
 
@@ -93,20 +91,19 @@ module _ (s : Shape) (a b rows row table heads : List ℕ) (count state column q
             (T .partial) (T .place) refl j turn-cell small inside to),
       )
 
-  -- an earlier column is this one's twin
-  pub turn-twin : (d : ℕ) → d < column → Twins s a b d column → (j : ℕ) → j ≡ getD table (s .limit + (q - (column - d))) 0 → Turned (rowsFor s a b) (s .k) (s .w) (s .limit) count state column rows (set table (s .limit + q) j) heads (Sets count)
-  turn-twin d h W j e =
-      let x : s .limit + (q - (column - d)) ≡ s .limit + (state * s .k + d) = omega (arith, T .place .cell) in
-      turn-copy state d (omega (arith, T .place .column)) (inr (refl, h))
-      (twin-step s a b d column (T .fits) W (rowAt (s .w) state rows) (reach-fits s a b (T .fits) (rowAt (s .w) state rows) (T .partial .reached state (T .place .state)))) j
-      (e ∙ ap (λ (i : ℕ). getD table i 0) x)
+  -- an earlier transition is repeated
+  pub turn-repeats : (r : ℕ) → Repeats s a b rows state column r → (j : ℕ) → j ≡ getD table (s .limit + r) 0 → Turned (rowsFor s a b) (s .k) (s .w) (s .limit) count state column rows (set table (s .limit + q) j) heads (Sets count)
+  turn-repeats r E j e = turn-copy (E .row) (E .by) (E .within) (E .before) (E .same) j (e ∙ ap (λ (i : ℕ). getD table (s .limit + i) 0) (E .place))
 
-  -- an erase by the mark
-  pub turn-mark : (operationOf (s .op) ≡ erase) × (column ≡ s .k - 1) × (0 < state) → (j : ℕ) → j ≡ getD table (s .limit + column) 0
-      → Turned (rowsFor s a b) (s .k) (s .w) (s .limit) count state column rows (set table (s .limit + q) j) heads (Sets count)
-  turn-mark (o, c, h) j e =
-      let x : s .limit + column ≡ s .limit + (0 * s .k + column) = omega (arith, zero-mul (s .k)) in
-      turn-copy 0 column (T .place .column) (inl h) (mark-step s a b (rowAt (s .w) 0 rows) (rowAt (s .w) state rows) column o c) j (e ∙ ap (λ (i : ℕ). getD table i 0) x)
+  pub turn-asking : (held : ℕ) (members : List ℕ) → Listed (operationOf (s .op)) (s .na) (s .nb) (rowAt (s .w) state rows) held members → Asking s a b rows held members state column q
+  turn-asking held members L = record {
+    fits = T .fits;
+    within = T .place .column;
+    place = T .place .cell;
+    room = turn-row;
+    states = reach-fits s a b (T .fits) (rowAt (s .w) state rows) (T .partial .reached state (T .place .state));
+    listed = L;
+  }
 
 -- ---- a row of a pair
 

@@ -1,6 +1,5 @@
 -- What holds of the rows found so far and of the transitions laid out so far, and what one more transition leaves.
 use mathlib.Core.Path.{_≡_}
-use mathlib.Core.Logic.{_⊎_}
 use mathlib.Core.List.{List}
 use Prim.Native.Nat.{ℕ, _+_, _*_, _≤_, _<_}
 use lib.ListN.{length, getD}
@@ -10,6 +9,7 @@ use Rattle.rows.specs.Chains.{Chained}
 use Rattle.rows.specs.Rows.{rowAt}
 use Rattle.operations.specs.Fits.{rowsFor, Fits}
 use Rattle.operations.specs.declared.Shape.{Shape}
+use Rattle.repeats.specs.Repeats.{Earlier}
 use Rattle.turns.specs.declared.Explored.{Explored}
 use Rattle.turns.specs.declared.Explored.the-variants.{Sets, TooMany}
 
@@ -20,10 +20,6 @@ pub record Room (s : Shape) (rows row table : List ℕ) : Type 0 where
   pub rowsLong : s .limit * s .w ≤ length rows
   pub rowLong : length row ≡ s .w
   pub tableLong : s .limit + s .limit * s .k ≤ length table
-
--- The transition by column c of row p lies before that by `column` of row `state`.
-abbrev pub Earlier : ℕ → ℕ → ℕ → ℕ → Type 0
-Earlier p c state column = (p < state) ⊎ ((p ≡ state) × (c < column))
 
 -- What holds of the first count rows where the transitions before one place are laid out. Until the flags are, their places keep the rows' links.
 pub record Partial (R : Automaton (List ℕ)) (k w limit count state column : ℕ) (rows table heads : List ℕ) : Type 0 where

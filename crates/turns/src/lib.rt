@@ -2,12 +2,11 @@
 // These are parts: callers give closed tables and buffers that are long enough.
 use flags::table;
 use operations::Shape;
-use repeats::erases;
 use rows::chains;
 use rows::number;
 use rows::pair;
 ghost use mathlib.Core.Path.{_≡_};
-ghost use Prim.Native.Nat.{_+_, _*_, _-_, _<_, _≤_};
+ghost use Prim.Native.Nat.{_+_, _*_, _<_, _≤_};
 ghost use Rattle.rows.specs.Rows.{rowAt};
 ghost use Rattle.operations.specs.Fits.{Listed, rowsFor};
 ghost use Rattle.operations.specs.Operations.{operationOf};
@@ -134,13 +133,9 @@ pub fn advance(
     ensures { λ r. ⌜ Turned (rowsFor s (now (a .entry)) (now (b .entry))) (s .k) (s .w) (s .limit) count state column (now (rows .exit)) (now (table .exit)) (now (heads .exit)) r × (rowAt (s .w) state (now (rows .exit)) ≡ rowAt (s .w) state (now (rows .entry))) ⌝ }
 {
     let limit = s.limit;
-    if twin < column {
-        let j = table[limit + (q - (column - twin))];
-        table[limit + q] = j;
-        return Explored::Sets(count);
-    }
-    if erases(s, state, column) {
-        let j = table[limit + column];
+    let place = repeats::earlier(a, b, s, &rows[..], members, held, state, column, twin, q);
+    if place < q {
+        let j = table[limit + place];
         table[limit + q] = j;
         return Explored::Sets(count);
     }

@@ -52,7 +52,7 @@ same-length-2 : tie.Need-same-length-2 Inv-loop μ-loop
 same-length-2 c = c .before .before .before .before .before .before .before .before .advance .kept .1 .1 .1 .1 .0 ∙ c .before .before .before .before .before .before .before .before .before .before .before .before .before .before .before .before .before .before .before .before .before .before .loop .inv .2 ∙ c .before .before .before .before .before .before .before .before .before .before .before .before .before .before .before .before .before .before .before .before .before .before .before .before .before .before .before .before .before .before .before .before .before .before .before .before .start-row .kept .1 .1 .1 .0
 
 returns : tie.Need-returns Inv-loop μ-loop
-returns c = let a = c .before .before .before .before .before .before .before .before .before .before .before .before .before .before .before .before .before .before .before .before .before .before .before .before .before .before .before .before .before .before .before .before .before .before .before .before .before .before .before .before .before .before .before .before .before .before .args in let l = c .before .before .before .before .before .before .before .before .before .before .before .before .before .before .before .before .before .before .before .before .before .before .loop in run-many (a .s) (a .a .now) (a .b .now) (l .rows) (l .row) (l .table) (l .heads) (l .count) (l .state) (l .column) (l .q) (l .inv .0) (c .before .before .before .before .before .before .before .before .before .before .before .before .before .before .before .before .before .before .before .before .before .loop-test .taken) _ (c .before .before .before .before .before .before .before .before .advance .last .1 .1 .1 .1 .0) _ _ (c .before .before .before .before .before .before .before .before .advance .kept .1 .1 .1 .0) (c .before .before .before .before .before .before .before .before .advance .kept .1 .1 .1 .1 .0) (c .before .before .before .before .before .before .before .before .advance .kept .1 .1 .1 .1 .1 .0) _ (c .before .before .before .before .before .before .before .before .advance .ensures .0) (c .enum-told .given .1)
+returns c = let a = c .before .before .before .before .before .before .before .before .before .before .before .before .before .before .before .before .before .before .before .before .before .before .before .before .before .before .before .before .before .before .before .before .before .before .before .before .before .before .before .before .before .before .before .before .before .before .args in let l = c .before .before .before .before .before .before .before .before .before .before .before .before .before .before .before .before .before .before .before .before .before .before .loop in run-many (a .s) (a .a .now) (a .b .now) (l .rows) (l .row) (l .table) (l .heads) (l .count) (l .state) (l .column) (l .q) (l .inv .0) (c .before .before .before .before .before .before .before .before .before .before .before .before .before .before .before .before .before .before .before .before .before .loop-test .taken) (c .before .before .before .before .before .before .before .before .advance .last .1 .1 .1 .0) (c .before .before .before .before .before .before .before .before .advance .last .1 .1 .1 .1 .0) (c .before .before .before .before .before .before .before .before .advance .last .1 .1 .1 .1 .1 .0) (c .before .before .before .before .before .before .before .before .advance .last .1 .1 .1 .1 .1 .1 .0) (c .before .before .before .before .before .before .before .before .advance .kept .1 .1 .1 .0) (c .before .before .before .before .before .before .before .before .advance .kept .1 .1 .1 .1 .0) (c .before .before .before .before .before .before .before .before .advance .kept .1 .1 .1 .1 .1 .0) (c .before .before .before .before .before .before .before .before .advance .result) (c .before .before .before .before .before .before .before .before .advance .ensures .0) (c .enum-told .given .1)
 
 add-q : tie.Need-add-q Inv-loop μ-loop
 add-q c = let a = c .before .before .before .before .before .before .before .before .before .before .before .before .before .before .before .before .before .before .before .before .before .before .before .before .before .before .before .before .before .before .before .before .before .before .before .before .before .before .before .before .before .before .before .before .before .before .before .args in let l = c .before .before .before .before .before .before .before .before .before .before .before .before .before .before .before .before .before .before .before .before .before .before .before .loop in omega (arith, run-below (a .s) (a .a .now) (a .b .now) (l .rows) (l .row) (l .table) (l .heads) (l .count) (l .state) (l .column) (l .q) (l .inv .0) (c .before .before .before .before .before .before .before .before .before .before .before .before .before .before .before .before .before .before .before .before .before .before .loop-test .taken), l .inv .0 .room .tableLong, l .inv .3, c .before .before .before .before .before .before .before .before .before .before .before .before .before .before .before .before .before .before .before .before .before .before .before .before .before .before .chain .kept .0, (c .before .before .before .before .before .before .before .before .before .before .before .before .before .before .before .before .before .before .before .before .before .before .before .before .before .before .before .before .before .before .before .before .before .before .before .before .before .before .before .before .before .before .before .before .before .before .before .good))
@@ -67,11 +67,11 @@ loop-again : tie.Need-loop-again Inv-loop μ-loop
 loop-again c =
     let a = c .before .before .before .before .before .before .before .before .before .before .before .before .before .before .before .before .before .before .before .before .before .before .before .before .before .before .before .before .before .before .before .before .before .before .before .before .before .before .before .before .before .before .before .before .before .before .before .before .args in
     let l = c .before .before .before .before .before .before .before .before .before .before .before .before .before .before .before .before .before .before .before .before .before .before .before .before .loop in (
-      run-wrap (a .s) (a .a .now) (a .b .now) (l .rows) (l .row) (l .table) (l .heads) (l .count) (l .state) (l .column) (l .q) (l .inv .0) (c .before .before .before .before .before .before .before .before .before .before .before .before .before .before .before .before .before .before .before .before .before .before .before .loop-test .taken) _ (c .before .before .before .before .before .before .before .before .before .before .advance .last .1 .1 .1 .1 .0) _ _ (c .before .before .before .before .before .before .before .before .before .before .advance .kept .1 .1 .1 .0) (c .before .before .before .before .before .before .before .before .before .before .advance .kept .1 .1 .1 .1 .0) (c .before .before .before .before .before .before .before .before .before .before .advance .kept .1 .1 .1 .1 .1 .0) _ (c .before .before .before .before .before .before .before .before .before .before .advance .ensures .0) _ (c .before .before .n .given .1) (c .if1 .taken),
-      c .before .before .before .before .before .before .before .before .before .before .advance .kept .1 .1 .1 .0 ∙ l .inv .1,
-      c .before .before .before .before .before .before .before .before .before .before .advance .kept .1 .1 .1 .1 .0 ∙ l .inv .2,
-      c .before .before .before .before .before .before .before .before .before .before .advance .kept .1 .1 .1 .1 .1 .0 ∙ l .inv .3,
-      c .before .before .before .before .before .before .before .before .before .before .before .before .before .before .before .before .before .before .before .before .list .kept .1 .1 .1 .1 .1 .0 ∙ l .inv .4,
+      run-wrap (a .s) (a .a .now) (a .b .now) (l .rows) (l .row) (l .table) (l .heads) (l .count) (l .state) (l .column) (l .q) (l .inv .0) (c .before .before .before .before .before .before .before .before .before .before .before .before .before .before .before .before .before .before .before .before .before .before .before .loop-test .taken) (c .before .before .before .before .before .before .before .before .before .before .advance .last .1 .1 .1 .0) (c .before .before .before .before .before .before .before .before .before .before .advance .last .1 .1 .1 .1 .0) (c .before .before .before .before .before .before .before .before .before .before .advance .last .1 .1 .1 .1 .1 .0) (c .before .before .before .before .before .before .before .before .before .before .advance .last .1 .1 .1 .1 .1 .1 .0) (c .before .before .before .before .before .before .before .before .before .before .advance .kept .1 .1 .1 .0) (c .before .before .before .before .before .before .before .before .before .before .advance .kept .1 .1 .1 .1 .0) (c .before .before .before .before .before .before .before .before .before .before .advance .kept .1 .1 .1 .1 .1 .0) (c .before .before .before .before .before .before .before .before .before .before .advance .result) (c .before .before .before .before .before .before .before .before .before .before .advance .ensures .0) _ (c .before .before .n .given .1) (c .if1 .taken),
+      _∙_ {b = length (l .rows)} (c .before .before .before .before .before .before .before .before .before .before .advance .kept .1 .1 .1 .0) (l .inv .1),
+      _∙_ {b = length (l .row)} (c .before .before .before .before .before .before .before .before .before .before .advance .kept .1 .1 .1 .1 .0) (l .inv .2),
+      _∙_ {b = length (l .table)} (c .before .before .before .before .before .before .before .before .before .before .advance .kept .1 .1 .1 .1 .1 .0) (l .inv .3),
+      _∙_ {b = length (l .members)} (c .before .before .before .before .before .before .before .before .before .before .before .before .before .before .before .before .before .before .before .before .list .kept .1 .1 .1 .1 .1 .0) (l .inv .4),
       λ h. absurd (omega arith),
     )
 
@@ -82,11 +82,11 @@ loop-again-2 : tie.Need-loop-again-2 Inv-loop μ-loop
 loop-again-2 c =
     let a = c .before .before .before .before .before .before .before .before .before .before .before .before .before .before .before .before .before .before .before .before .before .before .before .before .before .before .before .before .before .before .before .before .before .before .before .before .before .before .before .before .before .before .before .before .before .before .before .before .args in
     let l = c .before .before .before .before .before .before .before .before .before .before .before .before .before .before .before .before .before .before .before .before .before .before .before .before .loop in (
-      run-on (a .s) (a .a .now) (a .b .now) (l .rows) (l .row) (l .table) (l .heads) (l .count) (l .state) (l .column) (l .q) (l .inv .0) (c .before .before .before .before .before .before .before .before .before .before .before .before .before .before .before .before .before .before .before .before .before .before .before .loop-test .taken) _ (c .before .before .before .before .before .before .before .before .before .before .advance .last .1 .1 .1 .1 .0) _ _ (c .before .before .before .before .before .before .before .before .before .before .advance .kept .1 .1 .1 .0) (c .before .before .before .before .before .before .before .before .before .before .advance .kept .1 .1 .1 .1 .0) (c .before .before .before .before .before .before .before .before .before .before .advance .kept .1 .1 .1 .1 .1 .0) _ (c .before .before .before .before .before .before .before .before .before .before .advance .ensures .0) _ (c .before .before .n .given .1) (c .if1 .left),
-      c .before .before .before .before .before .before .before .before .before .before .advance .kept .1 .1 .1 .0 ∙ l .inv .1,
-      c .before .before .before .before .before .before .before .before .before .before .advance .kept .1 .1 .1 .1 .0 ∙ l .inv .2,
-      c .before .before .before .before .before .before .before .before .before .before .advance .kept .1 .1 .1 .1 .1 .0 ∙ l .inv .3,
-      c .before .before .before .before .before .before .before .before .before .before .before .before .before .before .before .before .before .before .before .before .list .kept .1 .1 .1 .1 .1 .0 ∙ l .inv .4,
+      run-on (a .s) (a .a .now) (a .b .now) (l .rows) (l .row) (l .table) (l .heads) (l .count) (l .state) (l .column) (l .q) (l .inv .0) (c .before .before .before .before .before .before .before .before .before .before .before .before .before .before .before .before .before .before .before .before .before .before .before .loop-test .taken) (c .before .before .before .before .before .before .before .before .before .before .advance .last .1 .1 .1 .0) (c .before .before .before .before .before .before .before .before .before .before .advance .last .1 .1 .1 .1 .0) (c .before .before .before .before .before .before .before .before .before .before .advance .last .1 .1 .1 .1 .1 .0) (c .before .before .before .before .before .before .before .before .before .before .advance .last .1 .1 .1 .1 .1 .1 .0) (c .before .before .before .before .before .before .before .before .before .before .advance .kept .1 .1 .1 .0) (c .before .before .before .before .before .before .before .before .before .before .advance .kept .1 .1 .1 .1 .0) (c .before .before .before .before .before .before .before .before .before .before .advance .kept .1 .1 .1 .1 .1 .0) (c .before .before .before .before .before .before .before .before .before .before .advance .result) (c .before .before .before .before .before .before .before .before .before .before .advance .ensures .0) _ (c .before .before .n .given .1) (c .if1 .left),
+      _∙_ {b = length (l .rows)} (c .before .before .before .before .before .before .before .before .before .before .advance .kept .1 .1 .1 .0) (l .inv .1),
+      _∙_ {b = length (l .row)} (c .before .before .before .before .before .before .before .before .before .before .advance .kept .1 .1 .1 .1 .0) (l .inv .2),
+      _∙_ {b = length (l .table)} (c .before .before .before .before .before .before .before .before .before .before .advance .kept .1 .1 .1 .1 .1 .0) (l .inv .3),
+      _∙_ {b = length (l .members)} (c .before .before .before .before .before .before .before .before .before .before .before .before .before .before .before .before .before .before .before .before .list .kept .1 .1 .1 .1 .1 .0) (l .inv .4),
       λ h. rw (c .before .before .before .before .before .before .before .before .before .before .advance .ensures .1) (c .before .before .before .before .before .before .before .before .before .before .before .before .before .before .before .before .before .before .before .before .list .ensures),
     )
 
