@@ -14,10 +14,10 @@ use Rattle.rows.specs.Rows.{rowAt}
 use Rattle.rows.specs.Sums.{rowHash}
 use Rattle.rows.proofs.HashLaws.{chained-none, chained-more}
 use Rattle.rows.proofs.RowLaws.{row-within, cell-within}
-use Rattle.operations.specs.Fits.{Listing, rowsFor, RowFits, Fits}
-use Rattle.operations.specs.Operations.{operationOf}
-use Rattle.operations.specs.declared.Shape.{Shape}
-use Rattle.operations.proofs.FitLaws.{reach-fits}
+use Rattle.sets.specs.Fits.{Listing, rowsFor, RowFits, Fits}
+use Rattle.sets.specs.Operations.{operationOf}
+use Rattle.sets.specs.declared.Shape.{Shape}
+use Rattle.sets.proofs.FitLaws.{reach-fits}
 use Rattle.turns.specs.Partial.{Room, Partial, Turning, Turned}
 use Rattle.turns.specs.declared.Explored.{Explored}
 use Rattle.turns.specs.declared.Explored.the-variants.{Sets, TooMany}

@@ -10,7 +10,7 @@ use Rattle.automata.specs.Basics.{LtCases, lt-cases}
 use Rattle.automata.specs.Automaton.{Automaton}
 use Rattle.rows.specs.Rows.{rowAt, bit}
 use Rattle.rows.proofs.RowLaws.{row-within, row-part}
-use Rattle.operations.specs.declared.Shape.{Shape}
+use Rattle.sets.specs.declared.Shape.{Shape}
 use Rattle.explore.specs.Answer.{Flagging, Flagged}
 
 pub flagged-none : (R : Automaton (List ℕ)) (w limit : ℕ) (rows table : List ℕ) → Flagged R w limit 0 rows table table

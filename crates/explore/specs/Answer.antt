@@ -7,9 +7,9 @@ use lib.ListN.{length, getD}
 use Rattle.automata.specs.Automaton.{Automaton, Reachable}
 use Rattle.automata.specs.Stage.{MoreThan}
 use Rattle.rows.specs.Rows.{rowAt, bit}
-use Rattle.operations.specs.Fits.{Fits, RowFits}
-use Rattle.operations.specs.Operations.{operationOf}
-use Rattle.operations.specs.declared.Shape.{Shape}
+use Rattle.sets.specs.Fits.{Fits, RowFits}
+use Rattle.sets.specs.Operations.{operationOf}
+use Rattle.sets.specs.declared.Shape.{Shape}
 use Rattle.turns.specs.Partial.{Room}
 use Rattle.turns.specs.declared.Explored.{Explored}
 use Rattle.turns.specs.declared.Explored.the-variants.{Sets, TooMany}

@@ -1,3 +1,3 @@
 -- What callers name of the rows of a stage, passed on.
 pub use Rattle.rows.specs.Rows.{bit, numberAt}
-pub use Rattle.operations.specs.Operations.{Operation, operationOf, rowWidth, rowsOf}
+pub use Rattle.sets.specs.Operations.{Operation, operationOf, rowWidth, rowsOf}

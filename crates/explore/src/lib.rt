@@ -1,6 +1,6 @@
 // The stage loop: the sets that an operation on two machines reaches, as rows of bytes in a lent buffer, counted, with their transitions laid out as
 // a table. These are parts: callers give closed tables and buffers that are long enough.
-pub use operations::Shape;
+pub use sets::Shape;
 use repeats::columns;
 use rows::chains;
 pub use turns::Explored;
@@ -8,8 +8,8 @@ ghost use mathlib.Core.Path.{_≡_};
 ghost use Prim.Native.Nat.{_+_, _*_, _<_, _≤_};
 ghost use lib.ListN.{length};
 ghost use Rattle.rows.specs.Rows.{rowAt};
-ghost use Rattle.operations.specs.Fits.{Listed, Listing, rowsFor, RowFits};
-ghost use Rattle.operations.specs.Operations.{rowWidth, operationOf};
+ghost use Rattle.sets.specs.Fits.{Listed, Listing, rowsFor, RowFits};
+ghost use Rattle.sets.specs.Operations.{rowWidth, operationOf};
 ghost use Rattle.explore.specs.Answer.{Flagging, Flagged, Explores, Answers};
 
 // The same for the row `state`, where it is not done for an earlier column.
@@ -32,7 +32,7 @@ fn list(
     }
     let w = s.w;
     let at = state * w;
-    operations::gather(s, &rows[at..at + w], members)
+    sets::gather(s, &rows[at..at + w], members)
 }
 
 // Lays out the flags of the first `count` rows.
@@ -44,7 +44,7 @@ fn flag_rows(a: &[u16], b: &[u16], s: Shape, rows: &[u8], table: &mut [u16], cou
     let mut p = 0;
     while p < count {
         let at = p * w;
-        table[p] = operations::flag(a, b, s, &rows[at..at + w]);
+        table[p] = sets::flag(a, b, s, &rows[at..at + w]);
         p += 1;
     }
 }
@@ -68,7 +68,7 @@ pub fn explore(
     let mut twins = [255; 64];
     columns::twins(a, b, s, &mut twins);
     let mut heads = [0; 512];
-    let sum = operations::start_row(a, b, s, row);
+    let sum = sets::start_row(a, b, s, row);
     chains::append(rows, w, 0, &row[..]);
     let h = chains::hash(sum);
     chains::chain(table, &mut heads, 0, h);

@@ -14,12 +14,12 @@ use Rattle.rows.specs.Rows.{rowAt, flagAt, numberAt}
 use Rattle.rows.proofs.RowLaws.{row-part}
 use Rattle.flags.specs.Flags.{cell}
 use Rattle.flags.specs.Members.{Lists}
-use Rattle.operations.specs.Fits.{rowsFor, leftOf, rightOf, Listed}
-use Rattle.operations.specs.Operations.{operationOf, concatenation, star, erase}
-use Rattle.operations.specs.declared.Shape.{Shape}
-use Rattle.operations.proofs.ConcatLaws.{concat-left}
-use Rattle.operations.proofs.FitLaws.{is-star, is-erase, row-source}
-use Rattle.operations.proofs.PairLaws.{pair-next}
+use Rattle.sets.specs.Fits.{rowsFor, leftOf, rightOf, Listed}
+use Rattle.sets.specs.Operations.{operationOf, concatenation, star, erase}
+use Rattle.sets.specs.declared.Shape.{Shape}
+use Rattle.sets.proofs.ConcatLaws.{concat-left}
+use Rattle.sets.proofs.FitLaws.{is-star, is-erase, row-source}
+use Rattle.sets.proofs.PairLaws.{pair-next}
 use Rattle.repeats.specs.Repeats.{Repeats, Asking, Looks}
 use Rattle.repeats.specs.Twins.{Twins}
 use Rattle.repeats.proofs.TwinLaws.{alike-step, twin-step, mark-step}

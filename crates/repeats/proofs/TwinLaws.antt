@@ -17,9 +17,9 @@ use Rattle.automata.specs.Table.{table-step}
 use Rattle.rows.specs.Rows.{numberAt, numberBytes, flagAt, pairRow}
 use Rattle.flags.specs.Flags.{flagRow, leadsTo}
 use Rattle.flags.proofs.FlagLaws.{flags-row, row-flags, flags-same, any-ext}
-use Rattle.operations.specs.Fits.{leftOf, rightOf, rowsFor, RowFits, Fits}
-use Rattle.operations.specs.Operations.{ends, marks, Operation, pairing, concatenation, star, erase, operationOf, rowsOf, pairRows, concatRows, starRows, eraseRows}
-use Rattle.operations.specs.declared.Shape.{Shape}
+use Rattle.sets.specs.Fits.{leftOf, rightOf, rowsFor, RowFits, Fits}
+use Rattle.sets.specs.Operations.{ends, marks, Operation, pairing, concatenation, star, erase, operationOf, rowsOf, pairRows, concatRows, starRows, eraseRows}
+use Rattle.sets.specs.declared.Shape.{Shape}
 use Rattle.repeats.specs.Twins.{Twins, TwinTable}
 
 -- rows whose flags two tests say alike

@@ -5,9 +5,9 @@ use mathlib.Core.List.{List}
 use Prim.Native.Nat.{ℕ, _+_, _*_, _≤_, _<_}
 use lib.ListN.{length}
 use Rattle.rows.specs.Rows.{rowAt}
-use Rattle.operations.specs.Fits.{rowsFor, Fits, RowFits, Source, Listed}
-use Rattle.operations.specs.Operations.{operationOf}
-use Rattle.operations.specs.declared.Shape.{Shape}
+use Rattle.sets.specs.Fits.{rowsFor, Fits, RowFits, Source, Listed}
+use Rattle.sets.specs.Operations.{operationOf}
+use Rattle.sets.specs.declared.Shape.{Shape}
 
 -- The transition by column c of row p lies before that by `column` of row `state`.
 abbrev pub Earlier : ℕ → ℕ → ℕ → ℕ → Type 0

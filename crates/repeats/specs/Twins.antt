@@ -4,7 +4,7 @@ use mathlib.Core.List.{List}
 use Prim.Native.Nat.{ℕ, _+_, _<_}
 use lib.ListN.{getD}
 use Rattle.flags.specs.Flags.{cell}
-use Rattle.operations.specs.declared.Shape.{Shape}
+use Rattle.sets.specs.declared.Shape.{Shape}
 
 -- Columns d and c, neither the last, lead each state of both operands to the same place.
 pub record Twins (s : Shape) (a b : List ℕ) (d c : ℕ) : Type 0 where

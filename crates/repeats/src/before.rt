@@ -1,5 +1,5 @@
 // Whether a row's states lead by a column where they lead by the column before: then both lead to one row. In a book of listed words most columns do so.
-use operations::Shape;
+use sets::Shape;
 use rows::number;
 ghost use mathlib.Core.Bool.{true};
 ghost use mathlib.Core.Path.{_≡_};
@@ -7,8 +7,8 @@ ghost use Prim.Native.Nat.{ℕ, _+_, _*_, _-_, _<_};
 ghost use lib.ListN.{length, getD};
 ghost use Rattle.flags.specs.Flags.{cell};
 ghost use Rattle.flags.specs.Members.{Counted};
-ghost use Rattle.operations.specs.Fits.{Listed, rowsFor};
-ghost use Rattle.operations.specs.Operations.{operationOf, concatenation};
+ghost use Rattle.sets.specs.Fits.{Listed, rowsFor};
+ghost use Rattle.sets.specs.Operations.{operationOf, concatenation};
 ghost use Rattle.repeats.specs.Repeats.{Looks};
 ghost use Rattle.automata.specs.Table.{ClosedTable};
 

@@ -1,12 +1,12 @@
 // Columns that lead every state of both operands to the same place: one of them is explored, the others repeat it. Letters that a rule does not tell apart
 // are such columns. The last column is left alone, since erase treats it in its own way.
-use operations::Shape;
+use sets::Shape;
 ghost use mathlib.Core.Bool.{true};
 ghost use mathlib.Core.Path.{_≡_};
 ghost use Prim.Native.Nat.{ℕ, _+_, _*_, _<_, _≤_};
 ghost use lib.ListN.{length, getD, replicate};
 ghost use Rattle.flags.specs.Flags.{cell};
-ghost use Rattle.operations.specs.Fits.{Fits};
+ghost use Rattle.sets.specs.Fits.{Fits};
 ghost use Rattle.repeats.specs.Twins.{Twins, TwinTable};
 
 // Whether two columns of a table lead each of its n states to the same place.

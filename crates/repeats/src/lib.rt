@@ -2,11 +2,11 @@
 mod before;
 pub mod columns;
 
-use operations::Shape;
+use sets::Shape;
 ghost use mathlib.Core.Bool.{true};
 ghost use mathlib.Core.Path.{_≡_};
 ghost use Prim.Native.Nat.{_+_, _-_, _<_};
-ghost use Rattle.operations.specs.Operations.{operationOf, erase};
+ghost use Rattle.sets.specs.Operations.{operationOf, erase};
 ghost use Rattle.repeats.specs.Repeats.{Asking, Repeats};
 ghost use Rattle.repeats.specs.Twins.{Twins};
 

@@ -10,7 +10,7 @@ use Rattle.automata.specs.Table.{tableMachine, table-formed}
 use Rattle.automata.specs.Format.{Format}
 use Rattle.automata.specs.Stage.{Made, made, refused, MoreThan, Smallest, StageResult, kept-one, too-many-sets, too-many-states}
 use Rattle.automata.specs.Stages.{pairStage, concatStage, starStage, eraseStage}
-use Rattle.operations.specs.Operations.{Operation, pairing, concatenation, star, erase, rowsOf}
+use Rattle.sets.specs.Operations.{Operation, pairing, concatenation, star, erase, rowsOf}
 use Rattle.explore.specs.Answer.{AllRows}
 use Rattle.explore.specs.AnswerLaws.{explored-closed, explored-words, explored-counts}
 use Rattle.stages.specs.RowSets.{pair-stage-by, concat-stage-by, star-stage-by, erase-stage-by}

@@ -27,7 +27,7 @@ use Rattle.automata.specs.Stages.{Pairing, combine, pairStage, concatStage, sta
 use Rattle.automata.specs.Correspondence.{StandsFor, stage-by}
 use Rattle.rows.specs.Rows.{bit, flagAt, numberAt, numberBytes, pairRow}
 use Rattle.flags.specs.Flags.{flagRow, leadsTo, someAccepting}
-use Rattle.operations.specs.Operations.{pairRows, concatRow, concatRows, ends, starRow, starRows, marks, gained, eraseRow, eraseRows}
+use Rattle.sets.specs.Operations.{pairRows, concatRow, concatRows, ends, starRow, starRows, marks, gained, eraseRow, eraseRows}
 
 -- ---- Booleans
 

@@ -10,7 +10,7 @@ use Rattle.automata.specs.Table.{ClosedTable, tableMachine}
 use Rattle.automata.specs.Format.{Format}
 use Rattle.automata.specs.Stage.{Made as Answer, made, refused}
 use Rattle.rows.specs.Rows.{numberAt}
-use Rattle.operations.specs.Operations.{Operation, pairing, concatenation, star, erase, operationOf, rowWidth, rowsOf}
+use Rattle.sets.specs.Operations.{Operation, pairing, concatenation, star, erase, operationOf, rowWidth, rowsOf}
 use Rattle.turns.specs.declared.Explored.{Explored}
 use Rattle.explore.specs.Answer.{Answers}
 use Rattle.stages.specs.declared.slot.Sizes.{Sizes}

@@ -13,9 +13,9 @@ use Rattle.automata.specs.Table.{tableMachine, table-size, table-formed}
 use Rattle.automata.specs.Format.{Format}
 use Rattle.automata.specs.Stage.{Made as Answer, made, refused, StageResult}
 use Rattle.rows.specs.Rows.{numberAt}
-use Rattle.operations.specs.Fits.{rowsFor, Listing}
-use Rattle.operations.specs.Operations.{operationOf, rowWidth, rowsOf}
-use Rattle.operations.specs.declared.Shape.{Shape}
+use Rattle.sets.specs.Fits.{rowsFor, Listing}
+use Rattle.sets.specs.Operations.{operationOf, rowWidth, rowsOf}
+use Rattle.sets.specs.declared.Shape.{Shape}
 use Rattle.turns.specs.declared.Explored.{Explored}
 use Rattle.turns.specs.declared.Explored.the-variants.{Sets, TooMany}
 use Rattle.explore.specs.Answer.{Answers, Explores}

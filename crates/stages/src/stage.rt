@@ -7,7 +7,7 @@ use explore::Shape;
 use minimise::Kept;
 ghost use mathlib.Core.Path.{_≡_};
 ghost use Prim.Native.Nat.{_≤_};
-ghost use Rattle.operations.specs.Operations.{operationOf, rowWidth};
+ghost use Rattle.sets.specs.Operations.{operationOf, rowWidth};
 ghost use Rattle.stages.specs.Stage.{Reaches, Reached, Ready, StageDone};
 
 // The most sets that a stage may make, and the most states that a kept machine may have.

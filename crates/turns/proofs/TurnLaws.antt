@@ -15,11 +15,11 @@ use Rattle.rows.proofs.HashLaws.{chained-more}
 use Rattle.rows.proofs.PairRowLaws.{number-left, number-right}
 use Rattle.rows.proofs.RowLaws.{row-within, cell-within, row-part, row-length}
 use Rattle.flags.specs.Flags.{cell}
-use Rattle.operations.specs.Fits.{rowsFor, Source, Step, Listed}
-use Rattle.operations.specs.Operations.{operationOf}
-use Rattle.operations.specs.declared.Shape.{Shape}
-use Rattle.operations.proofs.FitLaws.{row-source, reach-fits}
-use Rattle.operations.proofs.PairLaws.{pair-room, left-cell, right-cell, left-small, right-small, pair-next}
+use Rattle.sets.specs.Fits.{rowsFor, Source, Step, Listed}
+use Rattle.sets.specs.Operations.{operationOf}
+use Rattle.sets.specs.declared.Shape.{Shape}
+use Rattle.sets.proofs.FitLaws.{row-source, reach-fits}
+use Rattle.sets.proofs.PairLaws.{pair-room, left-cell, right-cell, left-small, right-small, pair-next}
 use Rattle.repeats.specs.Repeats.{Repeats, Asking, Earlier}
 use Rattle.turns.specs.Partial.{Turning, Turned}
 use Rattle.turns.specs.declared.Explored.the-variants.{Sets}

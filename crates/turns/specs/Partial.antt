@@ -7,8 +7,8 @@ use Rattle.automata.specs.Automaton.{Automaton, Reachable}
 use Rattle.automata.specs.Stage.{MoreThan}
 use Rattle.rows.specs.Chains.{Chained}
 use Rattle.rows.specs.Rows.{rowAt}
-use Rattle.operations.specs.Fits.{rowsFor, Fits}
-use Rattle.operations.specs.declared.Shape.{Shape}
+use Rattle.sets.specs.Fits.{rowsFor, Fits}
+use Rattle.sets.specs.declared.Shape.{Shape}
 use Rattle.repeats.specs.Repeats.{Earlier}
 use Rattle.turns.specs.declared.Explored.{Explored}
 use Rattle.turns.specs.declared.Explored.the-variants.{Sets, TooMany}

@@ -1,15 +1,15 @@
 // One transition of a stage laid out: it repeats an earlier one, or the row that it leads to is made, looked up, and put behind the others where it is new.
 // These are parts: callers give closed tables and buffers that are long enough.
 use flags::table;
-use operations::Shape;
+use sets::Shape;
 use rows::chains;
 use rows::number;
 use rows::pair;
 ghost use mathlib.Core.Path.{_≡_};
 ghost use Prim.Native.Nat.{_+_, _*_, _<_, _≤_};
 ghost use Rattle.rows.specs.Rows.{rowAt};
-ghost use Rattle.operations.specs.Fits.{Listed, rowsFor};
-ghost use Rattle.operations.specs.Operations.{operationOf};
+ghost use Rattle.sets.specs.Fits.{Listed, rowsFor};
+ghost use Rattle.sets.specs.Operations.{operationOf};
 ghost use Rattle.repeats.specs.Twins.{Twins};
 ghost use Rattle.turns.specs.Partial.{Turning, Turned};
 
@@ -43,7 +43,7 @@ pub fn turn(
     let w = s.w;
     let limit = s.limit;
     let at = state * w;
-    let sum = operations::next_row(a, b, s, column, &rows[at..at + w], members, held, row);
+    let sum = sets::next_row(a, b, s, column, &rows[at..at + w], members, held, row);
     let h = chains::hash(sum);
     match chains::find(&rows[..], &table[..], heads, w, count, &row[..], h) {
         chains::Found::At(j) => {

@@ -6,8 +6,8 @@ use lib.ListN.{length}
 use borrow.Author.Needs.{needs}
 use Rattle.rows.specs.Rows.{rowAt}
 use Rattle.rows.proofs.SumLaws.{hash-is}
-use Rattle.operations.specs.Fits.{Listed}
-use Rattle.operations.specs.Operations.{operationOf}
+use Rattle.sets.specs.Fits.{Listed}
+use Rattle.sets.specs.Operations.{operationOf}
 use Rattle.explore.proofs.ExploreLaws.{Running, first-room, run-start, run-turning, run-source, listing-kept, run-below, run-less, run-on, run-wrap, run-many, run-flagging, run-done}
 use Rattle.explore.proofs.explore.Statement.{statement}
 use Rattle.explore.proofs.explore.Tie as tie

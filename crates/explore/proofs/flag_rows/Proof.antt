@@ -1,7 +1,7 @@
 -- `flag_rows` meets its contract: the flags before p are laid out.
 use Prim.Native.Nat.{_-_, _<_, _≤_}
-use Rattle.operations.specs.Fits.{rowsFor}
-use Rattle.operations.proofs.FitLaws.{row-source}
+use Rattle.sets.specs.Fits.{rowsFor}
+use Rattle.sets.proofs.FitLaws.{row-source}
 use Rattle.explore.specs.Answer.{Flagged}
 use Rattle.explore.proofs.FlaggedLaws.{flagged-none, flagged-more, flagging-row}
 use borrow.Author.Needs.{needs}

@@ -1,7 +1,7 @@
 -- `list` meets its contract.
 use borrow.Author.Needs.{needs}
 use Rattle.rows.proofs.RowLaws.{row-part}
-use Rattle.operations.proofs.FitLaws.{row-source}
+use Rattle.sets.proofs.FitLaws.{row-source}
 use Rattle.explore.proofs.list.Statement.{statement}
 use Rattle.explore.proofs.list.Tie as tie
 

@@ -1,5 +1,5 @@
 -- `erases` meets its contract.
-use Rattle.operations.proofs.FitLaws.{is-erase}
+use Rattle.sets.proofs.FitLaws.{is-erase}
 use borrow.Author.Tests.{ltb-true}
 use mathlib.Core.Bool.{false≢true}
 use native.Mathlib.Omega.{arith}

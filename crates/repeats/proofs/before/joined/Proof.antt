@@ -1,7 +1,7 @@
 -- `joined` meets its contract.
 use mathlib.Core.Bool.{false≢true}
 use native.Mathlib.Omega.{arith}
-use Rattle.operations.proofs.ConcatLaws.{concat-long, concat-cell}
+use Rattle.sets.proofs.ConcatLaws.{concat-long, concat-cell}
 use Rattle.repeats.proofs.BeforeLaws.{before-joined}
 use Rattle.repeats.proofs.before.joined.Statement.{statement}
 use Rattle.repeats.proofs.before.joined.Tie as tie

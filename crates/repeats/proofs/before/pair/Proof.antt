@@ -1,7 +1,7 @@
 -- `pair` meets its contract.
 use mathlib.Core.Bool.{false≢true}
 use native.Mathlib.Omega.{arith}
-use Rattle.operations.proofs.PairLaws.{pair-long, left-cell, right-cell}
+use Rattle.sets.proofs.PairLaws.{pair-long, left-cell, right-cell}
 use Rattle.repeats.proofs.BeforeLaws.{before-pair}
 use Rattle.repeats.proofs.before.pair.Statement.{statement}
 use Rattle.repeats.proofs.before.pair.Tie as tie

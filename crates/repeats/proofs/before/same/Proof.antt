@@ -1,7 +1,7 @@
 -- `same` meets its contract: a case for each kind of row.
 use mathlib.Core.Bool.{false≢true}
 use borrow.Author.Needs.{needs}
-use Rattle.operations.proofs.FitLaws.{is-concatenation}
+use Rattle.sets.proofs.FitLaws.{is-concatenation}
 use Rattle.repeats.proofs.BeforeLaws.{flags-listed, before-flags}
 use Rattle.repeats.proofs.before.same.Statement.{statement}
 use Rattle.repeats.proofs.before.same.Tie as tie
