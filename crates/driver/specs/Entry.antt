@@ -1,27 +1,48 @@
 -- What the entry promises: its answer and the card buffer are those of `outcome`.
 use mathlib.Core.Path.{_≡_}
 use mathlib.Core.List.{List, [], _∷_}
-use Prim.Native.Nat.{ℕ, suc, _≤_}
+use Prim.Native.Nat.{ℕ, suc, _+_, _-_, _*_, _≤_}
+use native.Mathlib.Omega.{arith}
 use lib.Dec.{ltb}
-use lib.ListN.{length, drop}
+use lib.ListN.{length, drop, take}
 use Rattle.automata.specs.Booleans.{choose}
 use Rattle.automata.specs.Format.{narrow}
 use Rattle.automata.specs.Machine.{Machine, Canonical}
 use Rattle.automata.specs.Restrict.{Unmarked}
 use Rattle.card.specs.Same.{cardOf}
-use Rattle.book.specs.Text.{linesOf}
-use Rattle.compiler.specs.Book.{compileBook, compileLines, startDraft}
-use Rattle.compiler.specs.Outcome.{Outcome, card, stop, Answer, answer, bufferAfter}
-use Rattle.driver.specs.Stored.{InSlot}
-use Rattle.driver.specs.Lines.{Room}
+use Rattle.compiler.specs.Book.{compileBook, stopped}
+use Rattle.compiler.specs.Outcome.{Outcome, card, stop, Answer, answer, bufferAfter, enough, outcome}
+use Rattle.kept.specs.Stored.{InSlot}
+use Rattle.lines.specs.Lines.{linesFrom, Placed}
 use Rattle.driver.specs.declared.Compiled.{Compiled}
 use Rattle.driver.specs.declared.Compiled.the-variants.{Card, Refused}
+use Rattle.driver.specs.declared.Opened.{Opened}
+use Rattle.driver.specs.declared.Opened.the-variants as opened
 
--- "a lent work buffer is below its documented length (at most 8 buffers, none needing over 65,536 bytes)": the documented lengths. 13 slots of 3,362 bytes
--- for the names A to M, 13 for N to Z, 3 for the book so far and a rule's two machines, 19 for the stack; the rows of 512 sets, 122 bytes each; their table
--- and the tables of two operands, both of 16-bit numbers; two codes for each byte of a text, and 64.
+-- "a lent work buffer is below its documented length (at most 8 buffers, none needing over 65,536 bytes)": each buffer's length, and the bytes of one of
+-- its numbers. 13 slots of 3,362 bytes for the names A to M, 13 for N to Z, 3 for the book so far and a rule's two machines, 19 for the stack; the rows of
+-- 512 sets, 122 bytes each; their table and the tables of two operands, both of 16-bit numbers; two codes for each byte of a text, and 64.
+abbrev pub buffers : List (ℕ × ℕ)
+buffers = (43706, 1) ∷ (43706, 1) ∷ (10086, 1) ∷ (63878, 1) ∷ (62464, 1) ∷ (14336, 2) ∷ (6720, 2) ∷ (32832, 1) ∷ []
+
+abbrev pub lengthsOf : List (ℕ × ℕ) → List ℕ
+lengthsOf [] = []
+lengthsOf ((n, w) ∷ bs) = n ∷ lengthsOf bs
+
 abbrev pub documented : List ℕ
-documented = 43706 ∷ 43706 ∷ 10086 ∷ 63878 ∷ 62464 ∷ 14336 ∷ 6720 ∷ 32832 ∷ []
+documented = lengthsOf buffers
+
+-- each buffer's bytes
+abbrev pub bytesOf : List (ℕ × ℕ) → List ℕ
+bytesOf [] = []
+bytesOf ((n, w) ∷ bs) = n * w ∷ bytesOf bs
+
+abbrev pub AllAtMost : ℕ → List ℕ → Type 0
+AllAtMost most [] = Unit {0}
+AllAtMost most (n ∷ ns) = (n ≤ most) × AllAtMost most ns
+
+pub buffers-fit : (length buffers ≤ 8) × AllAtMost 65536 (bytesOf buffers)
+buffers-fit = (omega arith, omega arith, omega arith, omega arith, omega arith, omega arith, omega arith, omega arith, omega arith, tt)
 
 -- the lengths of the lent buffers, in this order
 abbrev pub lentLengths : List ℕ → List ℕ → List ℕ → List ℕ → List ℕ → List ℕ → List ℕ → List ℕ → List ℕ
@@ -59,12 +80,26 @@ pub record PutsCard (ls slot : List ℕ) (peak : ℕ) (old new : List ℕ) (r : 
 
 -- Line 1 was read, and the other lines start at a place.
 pub record Headed (text ls : List ℕ) (next : ℕ) : Type 0 where
-  pub is : compileBook narrow text ≡ compileLines narrow ls (linesOf (drop next text)) 2 (startDraft (length ls))
-  pub letters : (1 ≤ length ls) × (length ls ≤ 26)
-  pub at : next ≤ suc (length text)
-  pub short : length text ≤ 16384
+  pub is : compileBook narrow text ≡ linesFrom text ls next
+  pub placed : Placed text ls next
 
--- The lent buffers have their documented lengths.
-pub record Lent (low high registers stack rows table work code : List ℕ) : Type 0 where
-  pub room : Room low high registers stack rows table work
-  pub long : 32832 ≤ length code
+-- Line 1 ends at a place, and its letters stand behind its first byte.
+pub record FirstLine (text : List ℕ) (end : ℕ) : Type 0 where
+  pub headed : Headed text (take (end - 1) (drop 1 text)) (end + 1)
+  pub some : 1 ≤ end
+  pub within : end ≤ length text
+
+abbrev pub HeadsSay : List ℕ → Opened → Type 0
+HeadsSay text (opened.Lines end) = FirstLine text end
+HeadsSay text (opened.Refused n l) = compileBook narrow text ≡ stopped n l
+
+pub record Heads (text : List ℕ) (r : Opened) : Type 0 where
+  pub says : HeadsSay text r
+
+-- The text is not too long, the lent buffers are long enough, and line 1 was read; or the outcome is a refusal, whatever the card buffer's length.
+abbrev pub OpensSay : List ℕ → List ℕ → Opened → Type 0
+OpensSay text lent (opened.Lines end) = (length text ≤ 16384) × (enough documented lent ≡ true) × FirstLine text end
+OpensSay text lent (opened.Refused n l) = (room : ℕ) → outcome narrow documented text lent room ≡ stop n l
+
+pub record Opens (text lent : List ℕ) (r : Opened) : Type 0 where
+  pub says : OpensSay text lent r

@@ -1,11 +1,10 @@
 // A program's codes, one after another; and the machine that a line's program leaves.
-use crate::Layout;
-use crate::apply;
-use crate::apply::Stepped;
-use crate::code;
-use crate::code::Sort;
-use crate::operand;
-use crate::slots;
+use codes::Sort;
+use operations::Layout;
+use operations::apply;
+use operations::apply::Stepped;
+use operations::operand;
+use operations::slots;
 ghost use Rattle.evaluate.specs.Steps.{Stepping, Steps};
 ghost use Rattle.evaluate.specs.Run.{Running, Runs, heightOf};
 ghost use Rattle.evaluate.specs.Evaluated.{Evaluates};
@@ -30,7 +29,7 @@ fn step(
     ensures { λ r. ⌜ Steps l (now (letters .entry)) (now (first .entry)) (now (second .entry)) c sp (now (registers .entry)) (now (stack .entry)) (now (registers .exit)) (now (stack .exit)) r ⌝ }
 {
     let size = l.size;
-    match code::sort_of(c) {
+    match codes::sort_of(c) {
         Sort::Push(source) => {
             operand::bring(source, l, letters, first, second, &registers[..], stack, sp);
             Stepped::Next(sp + 1, 0)

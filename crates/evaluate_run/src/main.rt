@@ -2,7 +2,7 @@
 // Writes for each line the most sets that a stage made with the states of its machine, or the number of its refusal. A rule is met with `.*`, as in a
 // book of this one rule; no line may use a name.
 use choice::kinds::kind;
-use evaluate::Layout;
+use operations::Layout;
 use evaluate::run;
 use evaluate::run::Evaluated;
 use libc::STDIN_FILENO;
@@ -17,7 +17,7 @@ use stages::given;
 use stages::slot;
 ghost use Prim.Native.Nat.{_+_, _*_, _<_, _≤_, suc};
 ghost use lib.ListN.{length};
-ghost use Rattle.evaluate.specs.Stack.{Slots};
+ghost use Rattle.operations.specs.Stack.{Slots};
 ghost use Rattle.evaluate_run.specs.Ready.{Nameless, Coded, Coding, Ready};
 
 // The length of a line's program and where the next line starts, or the number of a refusal.
