@@ -94,6 +94,22 @@ module _ (text ls : List ℕ) (next : ℕ) (b : Book) (low high registers : List
         let z : R .draft .ruled ≡ false = sym (R .drafted .ruled) ∙ t in
         record { says = at-end ∙ ap (λ v. choose v (λ _. done ls (R .draft)) (λ _. stopped 10 0)) z }
 
+-- the buffers behind the start
+pub lent-begun : {low high registers registers′ stack stack′ rows table work code : List ℕ} → Lent low high registers stack rows table work code → length registers′ ≡ length registers
+    → length stack′ ≡ length stack → Lent low high registers′ stack′ rows table work code
+lent-begun L e f = record {
+  room = record {
+    low = L .room .low;
+    high = L .room .high;
+    registers = omega (arith, L .room .registers, e);
+    stack = omega (arith, L .room .stack, f);
+    rows = L .room .rows;
+    table = L .room .table;
+    work = L .room .work;
+  };
+  long = L .long;
+}
+
 -- The book and the buffers are ready for the line at the book's place.
 pub going : (text ls : List ℕ) (next : ℕ) (b : Book) (low₀ high₀ registers₀ stack₀ rows₀ table₀ work₀ code₀ low high registers stack rows table work code : List ℕ)
     → Placed text ls next → Lent low₀ high₀ registers₀ stack₀ rows₀ table₀ work₀ code₀ → Lengths low₀ high₀ registers₀ stack₀ rows₀ table₀ work₀ code₀ low high registers stack rows table work code
