@@ -1,6 +1,6 @@
 -- The entry: line 1, the card, and the refusals 1, 2 and 11.
 use mathlib.Core.Path.{_≡_, refl, sym, ap, _∙_, subst}
-use mathlib.Core.Bool.{Bool, true, false, _&&_, false≢true}
+use mathlib.Core.Bool.{Bool, true, false, _&&_}
 use mathlib.Core.Logic.{inl, inr}
 use mathlib.Core.List.{List, [], _∷_, _++_}
 use Prim.Native.Nat.{ℕ, zero, suc, _+_, _-_, _≤_, _<_}
@@ -22,10 +22,10 @@ use Rattle.book.specs.Line as L
 use Rattle.book.specs.Line.{HeadRead, letters, readHead}
 use Rattle.book.specs.HeadLaws.{Letters, head-elim, head-letters}
 use Rattle.compiler.specs.Allows.{allows}
-use Rattle.compiler.specs.Book.{BookResult, done, stopped, compileLines, startDraft, afterHead, compileHead, compileText, compileBook}
+use Rattle.compiler.specs.Book.{done, stopped, compileLines, startDraft, afterHead, compileHead, compileText, compileBook}
 use Rattle.compiler.specs.BookLaws.{accepted-right}
 use Rattle.compiler.specs.Outcome.{card, stop, answer, most, written, outcome, enough}
-use Rattle.stages.specs.Slot.{slotMachine, Holds}
+use Rattle.stages.specs.Slot.{slotMachine}
 use Rattle.writer.specs.Written.{Kept, keptCard}
 use Rattle.writer.specs.Written as W
 use Rattle.writer.specs.declared.Wrote.{Wrote}
@@ -39,7 +39,7 @@ use Rattle.kept.specs.Stored.{InSlot}
 use Rattle.lines.specs.Lines.{linesFrom, Lent, LinesSay, CompilesLines}
 use Rattle.lines.specs.declared.Ended.{Ended}
 use Rattle.lines.specs.declared.Ended.the-variants as ended
-use Rattle.driver.specs.Entry.{documented, lentLengths, Answers, Writable, cardOrStop, PutsCard, Headed, FirstLine, HeadsSay, Heads, OpensSay, Opens}
+use Rattle.driver.specs.Entry.{documented, lentLengths, Answers, Writable, cardOrStop, PutsCard, Headed, FirstLine, Heads, OpensSay, Opens}
 use Rattle.driver.specs.declared.Compiled.{Compiled}
 use Rattle.driver.specs.declared.Compiled.the-variants.{Card, Refused}
 use Rattle.driver.specs.declared.Opened.{Opened}

@@ -1,5 +1,6 @@
 -- What the entry promises: its answer and the card buffer are those of `outcome`.
 use mathlib.Core.Path.{_≡_}
+use mathlib.Core.Bool.{true}
 use mathlib.Core.List.{List, [], _∷_}
 use Prim.Native.Nat.{ℕ, suc, _+_, _-_, _*_, _≤_}
 use native.Mathlib.Omega.{arith}
@@ -42,7 +43,7 @@ AllAtMost most [] = Unit {0}
 AllAtMost most (n ∷ ns) = (n ≤ most) × AllAtMost most ns
 
 pub buffers-fit : (length buffers ≤ 8) × AllAtMost 65536 (bytesOf buffers)
-buffers-fit = (omega arith, omega arith, omega arith, omega arith, omega arith, omega arith, omega arith, omega arith, omega arith, tt)
+buffers-fit = (omega arith, (omega arith, (omega arith, (omega arith, (omega arith, (omega arith, (omega arith, (omega arith, (omega arith, tt)))))))))
 
 -- the lengths of the lent buffers, in this order
 abbrev pub lentLengths : List ℕ → List ℕ → List ℕ → List ℕ → List ℕ → List ℕ → List ℕ → List ℕ → List ℕ

@@ -114,7 +114,7 @@ fn first_line(text: &[u8]) -> Opened
 }
 
 // The lengths of the text and the lent buffers, then line 1.
-fn open(
+fn opening(
     text: &[u8],
     low: usize,
     high: usize,
@@ -188,7 +188,7 @@ pub fn compile(
 ) -> Compiled
     ensures { λ r. ⌜ Answers (outcome narrow documented (now (text .entry)) (lentLengths (now (low .entry)) (now (high .entry)) (now (registers .entry)) (now (stack .entry)) (now (rows .entry)) (now (table .entry)) (now (work .entry)) (now (code .entry))) (length (now (card .entry)))) (now (card .entry)) (now (card .exit)) r ⌝ }
 {
-    match open(
+    match opening(
         text,
         low.len(),
         high.len(),
