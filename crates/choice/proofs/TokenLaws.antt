@@ -3,6 +3,7 @@ use mathlib.Core.Path.{_≡_, refl, sym, ap, _∙_}
 use mathlib.Core.List.{List, [], _∷_}
 use Prim.Native.Nat.{ℕ, suc, _+_, _<_, _≤_}
 use native.Mathlib.Numerals.{add-one}
+use native.Mathlib.Omega.{arith}
 use borrow.Author.Tests.{eq-eqb, ne-eqb}
 use lib.ListN.{length, drop, drop-of-length-le, getD}
 use lib.Seq.{drop-cons}
@@ -33,6 +34,9 @@ past-token {s} {at} {n} p h = sym (p .same) ∙ tokens-other s n (kindOf (getD s
 
 pub past-end : {s : List ℕ} {at n : ℕ} → Past s at n → length s ≤ n → tokens (drop at s) ≡ []
 past-end {s} {at} {n} p h = sym (p .same) ∙ tokens-end s n h
+
+pub past-at : {s : List ℕ} {at m k b n : ℕ} → Past s at m → At s m k b n → At s at k b n
+past-at p x = record { rest-is = sym (p .same) ∙ x .rest-is; kind-is = x .kind-is; falls = omega (arith, p .up, x .falls) }
 
 pub lexed-token : {s : List ℕ} {at k b : ℕ} {n : Cursor} → At s at k b (n .at) → Lexed s at (record { kind = k; byte = b; next = n })
 lexed-token x = record { kind-is = x .kind-is ∙ sym (ap kindAhead (x .rest-is)); token = λ _. x }

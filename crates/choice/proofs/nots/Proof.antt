@@ -18,12 +18,6 @@ abbrev μ-loop : tie.MeasureT-loop
 loop-holds : tie.Need-loop-holds Inv-loop μ-loop
 loop-holds c = passed-start _ _
 
-skip-requires : tie.Need-skip-requires Inv-loop μ-loop
-skip-requires c κs = search needs
-
-token-requires : tie.Need-token-requires Inv-loop μ-loop
-token-requires c κs = search needs
-
 returns : tie.Need-returns Inv-loop μ-loop
 returns c = record { passed = passed-spaces (c .before .before .before .loop .inv) (c .before .before .skip .ensures); none = λ e. c .if1 .taken (c .before .token .ensures .kind-is ∙ e) }
 
@@ -43,4 +37,4 @@ loop-again c = passed-turn (passed-spaces (c .before .before .before .before .lo
 pub nots-spec : {M : Type 1} → statement M
 nots-spec =
     tie.close
-    (tie.spec Inv-loop μ-loop loop-holds skip-requires token-requires returns add-count loop-less loop-again)
+    (tie.spec Inv-loop μ-loop loop-holds (λ c κs. search needs) (λ c κs. search needs) returns add-count loop-less loop-again)

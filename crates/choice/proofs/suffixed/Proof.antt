@@ -18,20 +18,8 @@ abbrev μ-loop : tie.MeasureT-loop
 loop-holds : tie.Need-loop-holds Inv-loop μ-loop
 loop-holds c = suffixing-start _ _ _
 
-skip-requires : tie.Need-skip-requires Inv-loop μ-loop
-skip-requires c κs = search needs
-
-token-requires : tie.Need-token-requires Inv-loop μ-loop
-token-requires c κs = search needs
-
-same-length : tie.Need-same-length Inv-loop μ-loop
-same-length c = search needs
-
 returns : tie.Need-returns Inv-loop μ-loop
 returns c = suffixing-done (suffixing-spaces (c .before .before .before .before .loop .inv) (c .before .before .skip .ensures)) (λ e. repeats-stop _ _ e (c .before .token .ensures .kind-is) (λ q. omega arith) (λ q. omega arith) (λ q. omega arith))
-
-same-length-2 : tie.Need-same-length-2 Inv-loop μ-loop
-same-length-2 c = search needs
 
 returns-2 : tie.Need-returns-2 Inv-loop μ-loop
 returns-2 c = suffixing-done (suffixing-spaces (c .before .before .before .before .before .loop .inv) (c .before .before .before .skip .ensures)) (λ e. repeats-stop _ _ e (c .before .before .token .ensures .kind-is) (λ q. omega arith) (λ q. omega arith) (λ q. omega arith))
@@ -57,11 +45,11 @@ suffixed-spec =
     Inv-loop
     μ-loop
     loop-holds
-    skip-requires
-    token-requires
-    same-length
+    (λ c κs. search needs)
+    (λ c κs. search needs)
+    (λ c. search needs)
     returns
-    same-length-2
+    (λ c. search needs)
     returns-2
     put-requires
     loop-less

@@ -19,19 +19,10 @@ abbrev μ-loop : tie.MeasureT-loop
 loop-holds : tie.Need-loop-holds Inv-loop μ-loop
 loop-holds c = (refl, omega arith)
 
-shared-slice-read-kind : tie.Need-shared-slice-read-kind Inv-loop μ-loop
-shared-slice-read-kind c = search needs
-
-kind-requires : tie.Need-kind-requires Inv-loop μ-loop
-kind-requires c κs = search needs
-
 returns : tie.Need-returns Inv-loop μ-loop
 returns c =
     let v = c .before .before .before .before .loop .inv in
     record { same = v .0; up = v .1; token = λ h e. c .if1 .taken (c .before .kind .ensures ∙ e) }
-
-add-at : tie.Need-add-at Inv-loop μ-loop
-add-at c = search needs
 
 loop-less : tie.Need-loop-less Inv-loop μ-loop
 loop-less c = omega arith
@@ -51,10 +42,10 @@ skip-spec =
     Inv-loop
     μ-loop
     loop-holds
-    shared-slice-read-kind
-    kind-requires
+    (λ c. search needs)
+    (λ c κs. search needs)
     returns
-    add-at
+    (λ c. search needs)
     loop-less
     loop-again
     returns-2)
