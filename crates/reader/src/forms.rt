@@ -30,11 +30,31 @@ ghost use Rattle.reader.specs.Forms.{Row, Room, ReadsContext, Ruled, Rea
 
 // The programs of specs/Program.antt.
 const PATTERN_PROGRAM: [u8; 10] = [
-    STORE_PATTERN_CODE, ALL_CODE, MARK_CODE, JOIN_CODE, PATTERN_CODE, JOIN_CODE, MARK_CODE, JOIN_CODE, ALL_CODE, JOIN_CODE,
+    STORE_PATTERN_CODE,
+    ALL_CODE,
+    MARK_CODE,
+    JOIN_CODE,
+    PATTERN_CODE,
+    JOIN_CODE,
+    MARK_CODE,
+    JOIN_CODE,
+    ALL_CODE,
+    JOIN_CODE,
 ];
+
 const CONTEXT_PROGRAM: [u8; 10] = [
-    STORE_RIGHT_CODE, MARK_CODE, JOIN_CODE, PATTERN_CODE, JOIN_CODE, MARK_CODE, JOIN_CODE, RIGHT_CODE, JOIN_CODE, WITHOUT_CODE,
+    STORE_RIGHT_CODE,
+    MARK_CODE,
+    JOIN_CODE,
+    PATTERN_CODE,
+    JOIN_CODE,
+    MARK_CODE,
+    JOIN_CODE,
+    RIGHT_CODE,
+    JOIN_CODE,
+    WITHOUT_CODE,
 ];
+
 const FINISH_PROGRAM: [u8; 3] = [ERASE_CODE, COMPLEMENT_CODE, MEET_CODE];
 
 // A name with the length of its program, the length of a rule's program, or that the line is of neither form.

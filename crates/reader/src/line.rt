@@ -28,7 +28,14 @@ pub enum LineAnswer {
 }
 
 // The line of these bytes, which has its end or not. A name's own line does not define it.
-pub fn check(kinds: &KindTable, line: &[u8], ended: bool, letters: &[u8], names: Names, out: &mut [u8]) -> Answer
+pub fn check(
+    kinds: &KindTable,
+    line: &[u8],
+    ended: bool,
+    letters: &[u8],
+    names: Names,
+    out: &mut [u8],
+) -> Answer
     requires { ⌜ Kinds (now kinds) ⌝ }
     requires { ⌜ Room (now line) (now out) ⌝ }
     ensures { λ r. ⌜ ReadsLine (lineOf (now (line .entry)) ended) (now (letters .entry)) names (now (out .entry)) (now (out .exit)) r ⌝ }
@@ -58,7 +65,14 @@ pub fn check(kinds: &KindTable, line: &[u8], ended: bool, letters: &[u8], names:
 }
 
 // The line that starts at `at`.
-pub fn read_line(kinds: &KindTable, text: &[u8], at: usize, letters: &[u8], names: Names, out: &mut [u8]) -> LineAnswer
+pub fn read_line(
+    kinds: &KindTable,
+    text: &[u8],
+    at: usize,
+    letters: &[u8],
+    names: Names,
+    out: &mut [u8],
+) -> LineAnswer
     requires { ⌜ Kinds (now kinds) ⌝ }
     requires { ⌜ at < length (now text) ⌝ }
     requires { ⌜ 2 * length (now text) + 64 ≤ length (now out) ⌝ }
