@@ -1,36 +1,28 @@
--- `choice::lexer::past_spaces` meets its contract: as the loop passes spaces, the tokens left stay the same.
+-- `choice::lexer::Cursor::skip` meets its contract: as the loop passes spaces, the tokens left stay the same.
 use mathlib.Core.Path.{_≡_, refl, _∙_}
 use Prim.Native.Nat.{_≤_, _-_}
 use native.Mathlib.Omega.{arith}
 use borrow.Author.Needs.{needs}
 use lib.ListN.{length, drop}
 use Rattle.book.specs.Text.{tokens}
+use Rattle.choice.specs.Kinds.{Kinds}
 use Rattle.choice.proofs.TokenLaws.{tokens-space}
-use Rattle.choice.proofs.lexer.past_spaces.Statement.{statement}
-use Rattle.choice.proofs.lexer.past_spaces.Tie as tie
+use Rattle.choice.proofs.lexer.Cursor.skip.Statement.{statement}
+use Rattle.choice.proofs.lexer.Cursor.skip.Tie as tie
 
 abbrev Inv-loop : tie.InvT-loop
-Inv-loop s at i₀ i = (tokens (drop i s) ≡ tokens (drop at s)) × (at ≤ i)
+Inv-loop kinds s at₀ at = (tokens (drop at s) ≡ tokens (drop at₀ s)) × (at₀ ≤ at)
 
 abbrev μ-loop : tie.MeasureT-loop
-μ-loop s at i₀ i = length s - i
+μ-loop kinds s at₀ at = length s - at
 
 loop-holds : tie.Need-loop-holds Inv-loop μ-loop
 loop-holds c = (refl, omega arith)
-
-shared-slice-read-kind : tie.Need-shared-slice-read-kind Inv-loop μ-loop
-shared-slice-read-kind c = omega arith
-
-kind-requires : tie.Need-kind-requires Inv-loop μ-loop
-kind-requires c κs = search needs
 
 returns : tie.Need-returns Inv-loop μ-loop
 returns c =
     let v = c .before .before .before .before .loop .inv in
     record { same = v .0; up = v .1; token = λ h e. c .if1 .taken (c .before .kind .ensures ∙ e) }
-
-add-i : tie.Need-add-i Inv-loop μ-loop
-add-i c = omega arith
 
 loop-less : tie.Need-loop-less Inv-loop μ-loop
 loop-less c = omega arith
@@ -43,17 +35,17 @@ returns-2 c =
     let v = c .before .loop .inv in
     record { same = v .0; up = v .1; token = λ h e. omega arith }
 
-pub past-spaces-spec : {M : Type 1} → statement M
-past-spaces-spec =
+pub skip-spec : {M : Type 1} → statement M
+skip-spec =
     tie.close
     (tie.spec
     Inv-loop
     μ-loop
     loop-holds
-    shared-slice-read-kind
-    kind-requires
+    (λ c. search needs)
+    (λ c κs. search needs)
     returns
-    add-i
+    (λ c. search needs)
     loop-less
     loop-again
     returns-2)
