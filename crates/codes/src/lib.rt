@@ -1,4 +1,22 @@
 // What each code of a line's program asks for.
+use book::codes::ALL_CODE;
+use book::codes::BOTH_CODE;
+use book::codes::COMPLEMENT_CODE;
+use book::codes::DOT_CODE;
+use book::codes::EITHER_CODE;
+use book::codes::EMPTY_CODE;
+use book::codes::ERASE_CODE;
+use book::codes::JOIN_CODE;
+use book::codes::MARK_CODE;
+use book::codes::MEET_CODE;
+use book::codes::OPTION_CODE;
+use book::codes::PATTERN_CODE;
+use book::codes::PLUS_CODE;
+use book::codes::RIGHT_CODE;
+use book::codes::STAR_CODE;
+use book::codes::STORE_PATTERN_CODE;
+use book::codes::STORE_RIGHT_CODE;
+use book::codes::WITHOUT_CODE;
 ghost use Rattle.codes.specs.Codes.{Leafless, Sorted};
 
 // Where an operand comes from: a letter and a name by their bytes, a given machine (0 `@`, 1 `.*`, 2 `.`, 3 the mark), a register (0 the book so far,
@@ -27,24 +45,24 @@ fn sign(c: u8) -> Sort
     ensures { λ r. ⌜ Sorted c r ⌝ }
 {
     match c {
-        46 => Sort::Push(Source::Given(2)),
-        64 => Sort::Push(Source::Given(0)),
-        1 => Sort::Push(Source::Given(1)),
-        2 => Sort::Push(Source::Given(3)),
-        3 => Sort::Push(Source::Register(1)),
-        4 => Sort::Push(Source::Register(2)),
-        124 => Sort::Top(0, 2),
-        38 => Sort::Top(1, 2),
-        45 => Sort::Top(2, 2),
-        59 => Sort::Top(3, 2),
-        42 => Sort::Top(4, 1),
-        7 => Sort::Top(5, 1),
-        63 => Sort::Beside(0, Source::Given(0)),
-        33 => Sort::Beside(2, Source::Given(1)),
-        8 => Sort::Beside(1, Source::Register(0)),
-        43 => Sort::Plus,
-        5 => Sort::Store(1),
-        6 => Sort::Store(2),
+        DOT_CODE => Sort::Push(Source::Given(2)),
+        EMPTY_CODE => Sort::Push(Source::Given(0)),
+        ALL_CODE => Sort::Push(Source::Given(1)),
+        MARK_CODE => Sort::Push(Source::Given(3)),
+        PATTERN_CODE => Sort::Push(Source::Register(1)),
+        RIGHT_CODE => Sort::Push(Source::Register(2)),
+        EITHER_CODE => Sort::Top(0, 2),
+        BOTH_CODE => Sort::Top(1, 2),
+        WITHOUT_CODE => Sort::Top(2, 2),
+        JOIN_CODE => Sort::Top(3, 2),
+        STAR_CODE => Sort::Top(4, 1),
+        ERASE_CODE => Sort::Top(5, 1),
+        OPTION_CODE => Sort::Beside(0, Source::Given(0)),
+        COMPLEMENT_CODE => Sort::Beside(2, Source::Given(1)),
+        MEET_CODE => Sort::Beside(1, Source::Register(0)),
+        PLUS_CODE => Sort::Plus,
+        STORE_PATTERN_CODE => Sort::Store(1),
+        STORE_RIGHT_CODE => Sort::Store(2),
         _ => Sort::Unknown,
     }
 }

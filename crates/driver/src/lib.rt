@@ -1,4 +1,5 @@
 // The compiler's entry: the lines of a book in order, their stages, and the card. It has no requires; all below it are its parts.
+use choice::kinds::KindTable;
 use lines::Ended;
 use reader::ends;
 use reader::head;
@@ -12,6 +13,7 @@ ghost use lib.ListN.{length};
 ghost use Rattle.automata.specs.Format.{narrow};
 ghost use Rattle.compiler.specs.Book.{compileBook};
 ghost use Rattle.compiler.specs.Outcome.{enough, written, outcome};
+ghost use Rattle.choice.specs.Kinds.{Kinds};
 ghost use Rattle.lines.specs.Lines.{Lent};
 ghost use Rattle.driver.specs.Entry.{documented, lentLengths, Answers, Writable, PutsCard, Headed, Heads, Opens};
 
@@ -98,16 +100,17 @@ enum Opened {
 }
 
 // Line 1.
-fn first_line(text: &[u8]) -> Opened
+fn first_line(kinds: &KindTable, text: &[u8]) -> Opened
+    requires { ⌜ Kinds (now kinds) ⌝ }
     requires { ⌜ length (now text) ≤ 16384 ⌝ }
     ensures { λ r. ⌜ Heads (now (text .entry)) r ⌝ }
 {
     if text.len() == 0 {
         return Opened::Refused(5, 1);
     }
-    let end = ends::line_end(text, 0);
+    let end = ends::line_end(kinds, text, 0);
     let ended = end < text.len();
-    match head::read_head(&text[0..end], ended) {
+    match head::read_head(kinds, &text[0..end], ended) {
         Head::Letters(_m) => Opened::Lines(end),
         Head::Refused(n) => Opened::Refused(n, 1),
     }
@@ -115,6 +118,7 @@ fn first_line(text: &[u8]) -> Opened
 
 // The lengths of the text and the lent buffers, then line 1.
 fn opening(
+    kinds: &KindTable,
     text: &[u8],
     low: usize,
     high: usize,
@@ -125,6 +129,7 @@ fn opening(
     work: usize,
     code: usize,
 ) -> Opened
+    requires { ⌜ Kinds (now kinds) ⌝ }
     ensures { λ r. ⌜ Opens (now (text .entry)) (low ∷ high ∷ registers ∷ stack ∷ rows ∷ table ∷ work ∷ code ∷ []) r ⌝ }
 {
     if TEXT < text.len() {
@@ -133,11 +138,12 @@ fn opening(
     if !long_enough(low, high, registers, stack, rows, table, work, code) {
         return Opened::Refused(2, 0);
     }
-    first_line(text)
+    first_line(kinds, text)
 }
 
 // The lines behind line 1, and the card.
 fn compile_lines(
+    kinds: &KindTable,
     text: &[u8],
     letters: &[u8],
     next: usize,
@@ -151,11 +157,13 @@ fn compile_lines(
     work: &mut [u16],
     code: &mut [u8],
 ) -> Compiled
+    requires { ⌜ Kinds (now kinds) ⌝ }
     requires { ⌜ Headed (now text) (now letters) next ⌝ }
     requires { ⌜ Lent (now low) (now high) (now registers) (now stack) (now rows) (now table) (now work) (now code) ⌝ }
     ensures { λ r. ⌜ Answers (written narrow (length (now (card .entry))) (compileBook narrow (now (text .entry)))) (now (card .entry)) (now (card .exit)) r ⌝ }
 {
     match lines::lines(
+        kinds,
         text,
         letters,
         next,
@@ -188,7 +196,9 @@ pub fn compile(
 ) -> Compiled
     ensures { λ r. ⌜ Answers (outcome narrow documented (now (text .entry)) (lentLengths (now (low .entry)) (now (high .entry)) (now (registers .entry)) (now (stack .entry)) (now (rows .entry)) (now (table .entry)) (now (work .entry)) (now (code .entry))) (length (now (card .entry)))) (now (card .entry)) (now (card .exit)) r ⌝ }
 {
+    let kinds = choice::kinds::table();
     match opening(
+        &kinds,
         text,
         low.len(),
         high.len(),
@@ -200,6 +210,7 @@ pub fn compile(
         code.len(),
     ) {
         Opened::Lines(end) => compile_lines(
+            &kinds,
             text,
             &text[1..end],
             end + 1,

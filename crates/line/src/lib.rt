@@ -2,6 +2,7 @@
 // long enough.
 pub mod progress;
 
+use choice::kinds::KindTable;
 use evaluate::run;
 use evaluate::run::Evaluated;
 use kept::Place;
@@ -13,6 +14,7 @@ ghost use mathlib.Core.Path.{_≡_};
 ghost use mathlib.Core.Bool.{true, false};
 ghost use Prim.Native.Nat.{_<_};
 ghost use lib.ListN.{length};
+ghost use Rattle.choice.specs.Kinds.{Kinds};
 ghost use Rattle.kept.specs.Stored.{Right};
 ghost use Rattle.line.specs.Line.{Behind, Runs, CompilesForm, IsForm, tellOf, Going, CompilesLine};
 
@@ -136,6 +138,7 @@ fn form(
 
 // The line at the book's place.
 pub fn one_line(
+    kinds: &KindTable,
     text: &[u8],
     letters: &[u8],
     book: Book,
@@ -148,13 +151,14 @@ pub fn one_line(
     work: &mut [u16],
     code: &mut [u8],
 ) -> Next
+    requires { ⌜ Kinds (now kinds) ⌝ }
     requires { ⌜ Going (now text) (now letters) book (now low) (now high) (now registers) (now stack) (now rows) (now table) (now work) (now code) ⌝ }
     requires { ⌜ book .at < length (now text) ⌝ }
     ensures { λ r. ⌜ CompilesLine (now (text .entry)) (now (letters .entry)) book (now (low .entry)) (now (high .entry)) (now (registers .entry)) (now (low .exit)) (now (high .exit)) (now (registers .exit)) r ⌝ }
 {
     let at = book.at;
     let names = book.names;
-    let read = tell(line::read_line(text, at, letters, names, code));
+    let read = tell(line::read_line(kinds, text, at, letters, names, code));
     if !read.on {
         return stops(book, read.number);
     }

@@ -1,5 +1,7 @@
 // The lines of a book in their order, behind line 1. This is a part: its caller gives the letters of line 1 and buffers that are long enough.
+use choice::kinds::KindTable;
 use line::progress::Book;
+ghost use Rattle.choice.specs.Kinds.{Kinds};
 ghost use Rattle.lines.specs.Lines.{Lent, Placed, CompilesLines};
 
 // The most sets that a stage made, or the number of a refusal with its line.
@@ -10,6 +12,7 @@ pub enum Ended {
 
 // Compiles the lines from line 2 on, which starts at a place. The machine of the book is left in the first register.
 pub fn lines(
+    kinds: &KindTable,
     text: &[u8],
     letters: &[u8],
     next: usize,
@@ -22,6 +25,7 @@ pub fn lines(
     work: &mut [u16],
     code: &mut [u8],
 ) -> Ended
+    requires { ⌜ Kinds (now kinds) ⌝ }
     requires { ⌜ Placed (now text) (now letters) next ⌝ }
     requires { ⌜ Lent (now low) (now high) (now registers) (now stack) (now rows) (now table) (now work) (now code) ⌝ }
     ensures { λ r. ⌜ CompilesLines (now (text .entry)) (now (letters .entry)) next (now (registers .exit)) r ⌝ }
@@ -38,6 +42,7 @@ pub fn lines(
         }
         let number = book.line;
         let next = line::one_line(
+            kinds,
             text,
             letters,
             book,

@@ -13,6 +13,42 @@ mul-stage-2 c = omega (arith, slot-room (c .before .before .before .before .befo
 stage-requires : tie.Need-stage-requires
 stage-requires c κs = apply-ready (c .before .before .before .before .before .before .before .before .pre)
 
+same-length : tie.Need-same-length
+same-length c = c .before .before .before .before .before .before .before .before .before .before .before .stage .kept .1 .1 .1 .0
+
+same-length-2 : tie.Need-same-length-2
+same-length-2 c = c .before .before .before .before .before .before .before .before .before .before .before .stage .kept .1 .1 .1 .1 .1 .1 .1 .0
+
+same-length-3 : tie.Need-same-length-3
+same-length-3 c = c .before .before .before .before .before .before .before .before .before .before .before .stage .kept .1 .1 .1 .1 .1 .1 .1 .1 .0
+
+same-length-4 : tie.Need-same-length-4
+same-length-4 c = c .before .before .before .before .before .before .before .before .before .before .before .stage .kept .1 .1 .1 .1 .1 .1 .0
+
+same-length-5 : tie.Need-same-length-5
+same-length-5 c = c .before .before .before .before .before .before .before .before .before .before .stage .kept .1 .1 .1 .0
+
+same-length-6 : tie.Need-same-length-6
+same-length-6 c = c .before .before .before .before .before .before .before .before .before .before .stage .kept .1 .1 .1 .1 .1 .1 .1 .0
+
+same-length-7 : tie.Need-same-length-7
+same-length-7 c = c .before .before .before .before .before .before .before .before .before .before .stage .kept .1 .1 .1 .1 .1 .1 .1 .1 .0
+
+same-length-8 : tie.Need-same-length-8
+same-length-8 c = c .before .before .before .before .before .before .before .before .before .before .stage .kept .1 .1 .1 .1 .1 .1 .0
+
+same-length-9 : tie.Need-same-length-9
+same-length-9 c = c .before .before .before .before .before .before .before .before .before .before .stage .kept .1 .1 .1 .0
+
+same-length-10 : tie.Need-same-length-10
+same-length-10 c = c .before .before .before .before .before .before .before .before .before .before .stage .kept .1 .1 .1 .1 .1 .1 .1 .0
+
+same-length-11 : tie.Need-same-length-11
+same-length-11 c = c .before .before .before .before .before .before .before .before .before .before .stage .kept .1 .1 .1 .1 .1 .1 .1 .1 .0
+
+same-length-12 : tie.Need-same-length-12
+same-length-12 c = c .before .before .before .before .before .before .before .before .before .before .stage .kept .1 .1 .1 .1 .1 .1 .0
+
 returns : tie.Need-returns
 returns c = apply-made _ _ _ _ _ _ _ _ _ _ (c .before .before .before .before .before .before .before .before .before .before .before .stage .ensures) (c .before .n .given .1)
 
@@ -33,18 +69,18 @@ apply-spec =
     (λ c. search needs)
     (λ c. search needs)
     (λ c. search needs)
-    (λ c. search needs)
-    (λ c. search needs)
-    (λ c. search needs)
-    (λ c. search needs)
+    same-length
+    same-length-2
+    same-length-3
+    same-length-4
     returns
-    (λ c. search needs)
-    (λ c. search needs)
-    (λ c. search needs)
-    (λ c. search needs)
+    same-length-5
+    same-length-6
+    same-length-7
+    same-length-8
     returns-2
-    (λ c. search needs)
-    (λ c. search needs)
-    (λ c. search needs)
-    (λ c. search needs)
+    same-length-9
+    same-length-10
+    same-length-11
+    same-length-12
     returns-3)
