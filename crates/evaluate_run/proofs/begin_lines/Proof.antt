@@ -6,7 +6,8 @@ use Rattle.evaluate_run.proofs.begin_lines.Tie as tie
 
 lines-requires : tie.Need-lines-requires
 lines-requires c κs = (
-  record {
+  search needs,
+  (record {
     few = (omega arith, omega arith);
     namesLong = omega arith;
     registersLong = omega (arith, c .before .before .before .before .before .before .before .before .begin .kept);
@@ -16,7 +17,7 @@ lines-requires c κs = (
     workLong = omega arith;
     held = c .before .before .before .before .before .before .before .before .begin .ensures;
   },
-  omega arith,
+  omega arith),
 )
 
 pub begin-lines-spec : {M : Type 1} → statement M
