@@ -3,7 +3,6 @@ use mathlib.Core.Path.{_≡_, refl, sym, ap, _∙_}
 use mathlib.Core.List.{List, [], _∷_}
 use Prim.Native.Nat.{ℕ, suc, _+_, _<_, _≤_}
 use native.Mathlib.Numerals.{add-one}
-use native.Mathlib.Omega.{arith}
 use borrow.Author.Tests.{eq-eqb, ne-eqb}
 use lib.ListN.{length, drop, drop-of-length-le, getD}
 use lib.Seq.{drop-cons}
@@ -11,6 +10,7 @@ use Rattle.book.specs.Kind.{kindOf, spaceKind, lineEndKind}
 use Rattle.book.specs.Text.{tokens}
 use Rattle.choice.specs.Token.{At, Past, Lexed, kindAhead}
 use Rattle.choice.specs.declared.lexer.Cursor.{Cursor}
+use Rattle.choice.specs.declared.lexer.Lexeme.{Lexeme}
 
 -- the bytes from i on are the byte at i and those past it
 front : (s : List ℕ) (i : ℕ) → i < length s → drop i s ≡ getD s i 0 ∷ drop (i + 1) s
@@ -35,14 +35,15 @@ past-token {s} {at} {n} p h = sym (p .same) ∙ tokens-other s n (kindOf (getD s
 pub past-end : {s : List ℕ} {at n : ℕ} → Past s at n → length s ≤ n → tokens (drop at s) ≡ []
 past-end {s} {at} {n} p h = sym (p .same) ∙ tokens-end s n h
 
-pub past-at : {s : List ℕ} {at m k b n : ℕ} → Past s at m → At s m k b n → At s at k b n
-past-at p x = record { rest-is = sym (p .same) ∙ x .rest-is; kind-is = x .kind-is; falls = omega (arith, p .up, x .falls) }
+pub lexed-token : {s : List ℕ} {at k b : ℕ} {m n : Cursor} → Past s at (m .at) → At s at k b (n .at) → Lexed s at (record { kind = k; byte = b; start = m; next = n })
+lexed-token p x = record { start = p; kind-is = x .kind-is ∙ sym (ap kindAhead (x .rest-is)); token = λ _. x }
 
-pub lexed-token : {s : List ℕ} {at k b : ℕ} {n : Cursor} → At s at k b (n .at) → Lexed s at (record { kind = k; byte = b; next = n })
-lexed-token x = record { kind-is = x .kind-is ∙ sym (ap kindAhead (x .rest-is)); token = λ _. x }
+pub lexed-end : {s : List ℕ} {at : ℕ} {m n : Cursor} → Past s at (m .at) → tokens (drop at s) ≡ [] → Lexed s at (record { kind = lineEndKind; byte = 10; start = m; next = n })
+lexed-end p e = record { start = p; kind-is = sym (ap kindAhead e); token = λ h. absurd (h refl) }
 
-pub lexed-end : {s : List ℕ} {at : ℕ} {n : Cursor} → tokens (drop at s) ≡ [] → Lexed s at (record { kind = lineEndKind; byte = 10; next = n })
-lexed-end e = record { kind-is = sym (ap kindAhead e); token = λ h. absurd (h refl) }
+-- its kind is that of what stands where the spaces end
+pub start-kind : {s : List ℕ} {at : ℕ} {t : Lexeme} → Lexed s at t → t .kind ≡ kindAhead (tokens (drop (t .start .at) s))
+start-kind d = d .kind-is ∙ ap kindAhead (sym (d .start .same))
 
 -- a token is one of the tokens left
 pub at-fewer : {s : List ℕ} {at k b n : ℕ} → At s at k b n → length (tokens (drop at s)) ≡ suc (length (tokens (drop n s)))

@@ -25,5 +25,6 @@ kindAhead [] = lineEndKind
 kindAhead (b ∷ ts) = kindOf b
 
 pub record Lexed (s : List ℕ) (at : ℕ) (t : Lexeme) : Type 0 where
+  pub start : Past s at (t .start .at)
   pub kind-is : t .kind ≡ kindAhead (tokens (drop at s))
   pub token : ((t .kind ≡ lineEndKind) → ⊥) → At s at (t .kind) (t .byte) (t .next .at)

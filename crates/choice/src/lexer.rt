@@ -10,10 +10,12 @@ pub struct Cursor {
     pub at: usize,
 }
 
-// A token, as its kind and its byte, with the cursor past it. At the line's end it is the line's end: no part of a choice begins or goes on with it.
+// A token, as its kind and its byte, with the cursor before it, where the spaces end, and past it. At the line's end it is the line's end, with which
+// no part of a choice begins or goes on, and the cursor stays.
 pub struct Lexeme {
     pub kind: u8,
     pub byte: u8,
+    pub start: Cursor,
     pub next: Cursor,
 }
 
@@ -37,20 +39,22 @@ impl Cursor {
         requires { ⌜ Kinds (now kinds) ⌝ }
         ensures { λ r. ⌜ Lexed (now (s .entry)) (self .at) r ⌝ }
     {
-        let next = self.skip(kinds, s);
-        let at = next.at;
+        let start = self.skip(kinds, s);
+        let at = start.at;
         if at < s.len() {
             let b = s[at];
             return Lexeme {
                 kind: kind(kinds, b),
                 byte: b,
+                start,
                 next: Cursor { at: at + 1 },
             };
         }
         Lexeme {
             kind: LINE_END_KIND,
             byte: b'\n',
-            next,
+            start,
+            next: start,
         }
     }
 }

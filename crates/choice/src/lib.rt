@@ -176,10 +176,10 @@ fn nots(kinds: &KindTable, s: &[u8], from: Cursor) -> Negations
     let mut here = from;
     let mut count: usize = 0;
     loop {
-        let cursor = here.skip(kinds, s);
-        let t = cursor.token(kinds, s);
+        let t = here.token(kinds, s);
         let k = t.kind;
         if k != BANG_KIND {
+            let cursor = t.start;
             return Negations { cursor, count };
         }
         count += 1;
@@ -195,9 +195,9 @@ fn suffixed(kinds: &KindTable, s: &[u8], out: &mut [u8], c: Spot) -> Spot
     let mut here = c;
     loop {
         let behind = here.cursor;
-        let cursor = behind.skip(kinds, s);
-        let t = cursor.token(kinds, s);
+        let t = behind.token(kinds, s);
         let k = t.kind;
+        let cursor = t.start;
         if k < STAR_KIND {
             return Spot {
                 cursor,

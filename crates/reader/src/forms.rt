@@ -119,12 +119,12 @@ fn contexts(kinds: &KindTable, line: &[u8], out: &mut [u8], c: Spot) -> Code
     let mut here = c;
     loop {
         let behind = here.cursor;
-        let cursor = behind.skip(kinds, line);
-        if line.len() <= cursor.at {
+        let t = behind.token(kinds, line);
+        let start = t.start;
+        if line.len() <= start.at {
             let row = FINISH_PROGRAM;
             return Code::Rule(put_row(out, here.pos, &row));
         }
-        let t = cursor.token(kinds, line);
         let k = t.kind;
         if k != SLASH_KIND {
             return Code::Malformed;

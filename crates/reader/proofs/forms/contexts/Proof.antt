@@ -1,11 +1,10 @@
 -- `reader::forms::contexts` meets its contract: as the loop passes a context, what is left of the rule's form stays the same.
-use mathlib.Core.Path.{_≡_, refl, ap, _∙_}
+use mathlib.Core.Path.{_≡_, refl, _∙_}
 use Prim.Native.Nat.{_-_}
 use native.Mathlib.Omega.{arith}
 use borrow.Author.Needs.{needs}
 use lib.ListN.{length}
-use Rattle.choice.proofs.TokenLaws.{past-token, past-end, past-at}
-use Rattle.choice.specs.Token.{kindAhead}
+use Rattle.choice.proofs.TokenLaws.{past-token, past-end}
 use Rattle.choice.specs.Buffer.{Grown}
 use Rattle.choice.specs.BufferLaws.{grown-none, grown-more}
 use Rattle.reader.specs.Forms.{Ruled}
@@ -24,40 +23,38 @@ loop-holds c = (c .before .before .pre .1, refl, grown-none _ _)
 
 put-row-requires : tie.Need-put-row-requires Inv-loop μ-loop
 put-row-requires c κs =
-    let d = c .before .before .before .before .before .before .loop .inv .0 in
+    let d = c .before .before .before .before .before .before .before .loop .inv .0 in
     omega (arith, d .room, d .few)
 
 returns : tie.Need-returns Inv-loop μ-loop
 returns c =
-    let d = c .before .before .before .before .before .before .before .before .before .loop .inv .0 in
-    rule-end d _ _ (past-end (c .before .before .before .before .before .before .before .skip .ensures) (c .before .before .before .before .before .if1 .taken)) (c .before .before .before .before .before .before .before .before .before .loop .inv .2) (c .before .before .put-row .ensures) (omega (arith, d .room, d .few, c .before .before .put-row .ensures .end-is, c .before .before .put-row .kept .0))
+    let d = c .before .before .before .before .before .before .before .before .before .before .loop .inv .0 in
+    rule-end d _ _ (past-end (c .before .before .before .before .before .before .before .before .token .ensures .start) (c .before .before .before .before .before .if1 .taken)) (c .before .before .before .before .before .before .before .before .before .before .loop .inv .2) (c .before .before .put-row .ensures) (omega (arith, d .room, d .few, c .before .before .put-row .ensures .end-is, c .before .before .put-row .kept .0))
 
 returns-2 : tie.Need-returns-2 Inv-loop μ-loop
-returns-2 c =
-    let p = c .before .before .before .before .skip .ensures in
-    rule-other (c .before .before .before .before .before .before .loop .inv .0) (past-token p (c .before .before .if1 .left)) (c .before .token .ensures .kind-is ∙ ap kindAhead (p .same)) (c .if2 .taken)
+returns-2 c = rule-other (c .before .before .before .before .before .before .loop .inv .0) (past-token (c .before .before .before .before .token .ensures .start) (c .before .if1 .left)) (c .before .before .before .before .token .ensures .kind-is) (c .if2 .taken)
 
 context-requires : tie.Need-context-requires Inv-loop μ-loop
 context-requires c κs =
     let d = c .before .before .before .before .before .before .before .before .loop .inv .0 in
-    let x = past-at (c .before .before .before .before .before .before .skip .ensures) (c .before .before .before .token .ensures .token (λ e. omega arith)) in
+    let x = c .before .before .before .before .before .before .token .ensures .token (λ e. omega arith) in
     (search needs, omega (arith, d .room, d .few, x .falls))
 
 returns-3 : tie.Need-returns-3 Inv-loop μ-loop
 returns-3 c =
     let d = c .before .before .before .before .before .before .before .before .before .before .before .before .before .loop .inv .0 in
-    let x = past-at (c .before .before .before .before .before .before .before .before .before .before .before .skip .ensures) (c .before .before .before .before .before .before .before .before .token .ensures .token (λ e. omega arith)) in
+    let x = c .before .before .before .before .before .before .before .before .before .before .before .token .ensures .token (λ e. omega arith) in
     rule-half d x (c .before .before .before .before .before .before .before .if2 .left) (context-not (c .before .before .before .before .context .ensures) (c .enum-told .given .1))
 
 loop-less : tie.Need-loop-less Inv-loop μ-loop
 loop-less c =
-    let x = past-at (c .before .before .before .before .before .before .before .before .before .before .before .before .skip .ensures) (c .before .before .before .before .before .before .before .before .before .token .ensures .token (λ e. omega arith)) in
+    let x = c .before .before .before .before .before .before .before .before .before .before .before .before .token .ensures .token (λ e. omega arith) in
     omega (arith, x .falls, context-to (c .before .before .before .before .before .context .ensures) (c .before .n .given .1) .falls)
 
 loop-again : tie.Need-loop-again Inv-loop μ-loop
 loop-again c =
     let d = c .before .before .before .before .before .before .before .before .before .before .before .before .before .before .loop .inv .0 in
-    let x = past-at (c .before .before .before .before .before .before .before .before .before .before .before .before .skip .ensures) (c .before .before .before .before .before .before .before .before .before .token .ensures .token (λ e. omega arith)) in
+    let x = c .before .before .before .before .before .before .before .before .before .before .before .before .token .ensures .token (λ e. omega arith) in
     let t = context-to (c .before .before .before .before .before .context .ensures) (c .before .n .given .1) in
     (rule-next d x _ _ (c .before .before .before .before .before .before .before .before .if2 .left) t (c .before .before .before .before .before .context .kept .1 .1 .0), c .before .before .before .before .before .context .kept .1 .1 .0 ∙ c .before .before .before .before .before .before .before .before .before .before .before .before .before .before .loop .inv .1, grown-more (c .before .before .before .before .before .before .before .before .before .before .before .before .before .before .loop .inv .2) (t .grown))
 
@@ -73,7 +70,6 @@ contexts-spec =
     put-row-requires
     (λ c. search needs)
     returns
-    (λ c κs. search needs)
     (λ c. search needs)
     returns-2
     context-requires

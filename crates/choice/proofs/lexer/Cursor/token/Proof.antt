@@ -10,14 +10,14 @@ returns c =
     let p = c .before .before .before .skip .ensures in
     let h = c .before .before .if1 .taken in
     let k = c .kind .ensures in
-    lexed-token (record {
+    lexed-token p (record {
       rest-is = past-token p h;
       kind-is = k;
       falls = omega (arith, p .up);
     })
 
 returns-2 : tie.Need-returns-2
-returns-2 c = lexed-end (past-end (c .before .skip .ensures) (c .if1 .left))
+returns-2 c = lexed-end (c .before .skip .ensures) (past-end (c .before .skip .ensures) (c .if1 .left))
 
 pub token-spec : {M : Type 1} → statement M
 token-spec =
