@@ -64,8 +64,7 @@ module _ (text ls : List ℕ) (next : ℕ) (b : Book) (low high registers : List
     pub reached-next : r .on ≡ true → Reached text ls next (r .book) low′ high′ registers′ × (b .at < r .book .at)
     reached-next q =
         let (d, f, D, at, ln, w) = said true q in
-        let g : b .at ≤ C .end = C .ends .from in
-        (
+        let g : b .at ≤ C .end = C .ends .from in (
           record {
             draft = d;
             drafted = D;

@@ -1,8 +1,8 @@
 // Operations on machines of the stack: each leaves its machine in the slot of its left operand.
 use crate::Layout;
-use codes::Source;
 use crate::operand;
 use crate::slots;
+use codes::Source;
 use stages::stage;
 use stages::stage::Limits;
 use stages::stage::Staged;

@@ -1,7 +1,7 @@
 // An operand brought into a slot of the stack.
 use crate::Layout;
-use codes::Source;
 use crate::slots;
+use codes::Source;
 ghost use mathlib.Core.Path.{_≡_};
 ghost use Prim.Native.Nat.{suc};
 ghost use lib.ListN.{length};
