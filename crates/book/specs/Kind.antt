@@ -1,5 +1,5 @@
 -- "The kind of every byte (letter, name, each sign, space, line end, stray) is one constant table of 256 entries." The reader knows bytes by their
--- kinds only. The kinds are numbered so that those which begin an item, and those which go on with one, stand in a row.
+-- kinds only.
 use mathlib.Core.Path.{_≡_, refl}
 use mathlib.Core.Bool.{Bool, true, false, _&&_}
 use mathlib.Core.Logic.{inl, inr}
@@ -11,31 +11,95 @@ use lib.ListN.{getD}
 use Rattle.automata.specs.Booleans.{choose}
 use Rattle.automata.specs.Basics.{SameCases, nat-test, same-cases}
 
+-- The kinds, numbered so that those which begin an item, those which go on with one, and those which join chains stand in a row each; the signs in
+-- the order of `signs`.
+abbrev pub strayKind : ℕ
+strayKind = 0
+
+abbrev pub letterKind : ℕ
+letterKind = 1
+
+abbrev pub nameKind : ℕ
+nameKind = 2
+
+abbrev pub dotKind : ℕ
+dotKind = 3
+
+abbrev pub atKind : ℕ
+atKind = 4
+
+abbrev pub openKind : ℕ
+openKind = 5
+
+abbrev pub bangKind : ℕ
+bangKind = 6
+
+abbrev pub starKind : ℕ
+starKind = 7
+
+abbrev pub plusKind : ℕ
+plusKind = 8
+
+abbrev pub questionKind : ℕ
+questionKind = 9
+
+abbrev pub ampersandKind : ℕ
+ampersandKind = 10
+
+abbrev pub minusKind : ℕ
+minusKind = 11
+
+abbrev pub barKind : ℕ
+barKind = 12
+
+abbrev pub closeKind : ℕ
+closeKind = 13
+
+abbrev pub spaceKind : ℕ
+spaceKind = 14
+
+abbrev pub lineEndKind : ℕ
+lineEndKind = 15
+
+abbrev pub colonKind : ℕ
+colonKind = 16
+
+abbrev pub equalsKind : ℕ
+equalsKind = 17
+
+abbrev pub greaterKind : ℕ
+greaterKind = 18
+
+abbrev pub slashKind : ℕ
+slashKind = 19
+
+abbrev pub underscoreKind : ℕ
+underscoreKind = 20
+
 -- the signs, the space and the line end:  . @ ( ! * + ? & - | ) space line-end : = > / _
 abbrev pub signs : List ℕ
 signs = 46 ∷ 64 ∷ 40 ∷ 33 ∷ 42 ∷ 43 ∷ 63 ∷ 38 ∷ 45 ∷ 124 ∷ 41 ∷ 32 ∷ 10 ∷ 58 ∷ 61 ∷ 62 ∷ 47 ∷ 95 ∷ []
 
--- 0 for a stray byte
 abbrev pub signKind : ℕ → List ℕ → ℕ → ℕ
-signKind b [] k = 0
+signKind b [] k = strayKind
 signKind b (s ∷ ss) k = choose (eqb b s) (λ _. k) (λ _. signKind b ss (suc k))
 
--- "A letter is a byte 0x61 to 0x7A (a to z)"; "a name (one byte A to Z)"; then the signs in their order, from 3 on.
+-- "A letter is a byte 0x61 to 0x7A (a to z)"; "a name (one byte A to Z)"; then the signs in their order; all others are stray.
 abbrev pub kindOf : ℕ → ℕ
 kindOf b =
-    choose (leb 97 b && leb b 122) (λ _. 1) λ _.
-    choose (leb 65 b && leb b 90) (λ _. 2) λ _.
-    signKind b signs 3
+    choose (leb 97 b && leb b 122) (λ _. letterKind) λ _.
+    choose (leb 65 b && leb b 90) (λ _. nameKind) λ _.
+    signKind b signs dotKind
 
 abbrev pub isLetter : ℕ → Bool
-isLetter b = eqb (kindOf b) 1
+isLetter b = eqb (kindOf b) letterKind
 
 abbrev pub isName : ℕ → Bool
-isName b = eqb (kindOf b) 2
+isName b = eqb (kindOf b) nameKind
 
 -- a letter, a name, `.`, `@`, `(`, `!` begin an item
 abbrev pub itemKind : ℕ → Bool
-itemKind k = leb 1 k && leb k 6
+itemKind k = leb letterKind k && leb k bangKind
 
 abbrev pub startsItem : ℕ → Bool
 startsItem b = itemKind (kindOf b)
@@ -69,10 +133,10 @@ module _ (b : ℕ) where
           subst-eq z e = rw (← z) e
 
   -- The byte of a sign, from its kind.
-  pub sign-byte : (i : ℕ) → eqb (kindOf b) (3 + i) ≡ true → b ≡ getD signs i 0
+  pub sign-byte : (i : ℕ) → eqb (kindOf b) (dotKind + i) ≡ true → b ≡ getD signs i 0
   sign-byte i e = go (leb 97 b && leb b 122) (leb 65 b && leb b 90) e
     where
-      go : (s t : Bool) → eqb (choose s (λ _. 1) (λ _. choose t (λ _. 2) (λ _. signKind b signs 3))) (3 + i) ≡ true → b ≡ getD signs i 0
-      go true t e = absurd (omega (arith, nat-test .sound 1 (3 + i) e))
-      go false true e = absurd (omega (arith, nat-test .sound 2 (3 + i) e))
-      go false false e = sign-place signs 3 i (omega arith) e
+      go : (s t : Bool) → eqb (choose s (λ _. letterKind) (λ _. choose t (λ _. nameKind) (λ _. signKind b signs dotKind))) (dotKind + i) ≡ true → b ≡ getD signs i 0
+      go true t e = absurd (omega (arith, nat-test .sound letterKind (dotKind + i) e))
+      go false true e = absurd (omega (arith, nat-test .sound nameKind (dotKind + i) e))
+      go false false e = sign-place signs dotKind i (omega arith) e

@@ -11,7 +11,7 @@ use Rattle.automata.specs.Booleans.{choose}
 use Rattle.automata.specs.Basics.{nat-test}
 use Rattle.language.specs.Restriction.{RuleKind, restricts}
 use Rattle.language.specs.Expression.{Expr}
-use Rattle.book.specs.Kind.{kindOf, isName, sign-byte}
+use Rattle.book.specs.Kind.{kindOf, isName, sign-byte, equalsKind, greaterKind, slashKind, underscoreKind}
 use Rattle.book.specs.Reader.{Read, got, bad, readChoice}
 use Rattle.book.specs.Grammar.{Choice, Stops, inChoice, reader-sound, reader-whole}
 use Rattle.book.specs.Text.{Form, define, rule, malformed, tokens, tailAt, onRead, contextsOf, defineAs, defineOf, ruleOf, formOf}
@@ -40,13 +40,13 @@ RuleIs p cs ts (define x e) = ⊥
 RuleIs p cs ts malformed = Unit {0}
 
 abbrev go-on : ℕ → Expr → List (Expr × Expr) → Expr → List ℕ → Form
-go-on n p cs l us = tailAt 20 us λ vs. onRead (readChoice vs) λ r ws. contextsOf n p (cs ++ ((l, r) ∷ [])) ws
+go-on n p cs l us = tailAt underscoreKind us λ vs. onRead (readChoice vs) λ r ws. contextsOf n p (cs ++ ((l, r) ∷ [])) ws
 
 contexts-sound : (n : ℕ) (p : Expr) (cs : List (Expr × Expr)) (ts : List ℕ) → RuleIs p cs ts (contextsOf n p cs ts)
 contexts-sound zero p cs [] = ([], refl, append-nil cs, none refl)
 contexts-sound zero p cs (b ∷ ts) = tt
 contexts-sound (suc n) p cs [] = ([], refl, append-nil cs, none refl)
-contexts-sound (suc n) p cs (b ∷ ts) = slash (eqb (kindOf b) 19) refl (λ cs ws. contexts-sound n p cs ws)
+contexts-sound (suc n) p cs (b ∷ ts) = slash (eqb (kindOf b) slashKind) refl (λ cs ws. contexts-sound n p cs ws)
   where
     Rest : Type 0
     Rest = (cs : List (Expr × Expr)) (ws : List ℕ) → RuleIs p cs ws (contextsOf n p cs ws)
@@ -65,9 +65,9 @@ contexts-sound (suc n) p cs (b ∷ ts) = slash (eqb (kindOf b) 19) refl (λ cs w
 
     under : (l : Expr) (mid us : List ℕ) → b ∷ ts ≡ 47 ∷ (mid ++ us) → Choice mid l → Rest → RuleIs p cs (b ∷ ts) (go-on n p cs l us)
     under l mid [] q c ih = tt
-    under l mid (d ∷ vs) q c ih = test (eqb (kindOf d) 20) refl
+    under l mid (d ∷ vs) q c ih = test (eqb (kindOf d) underscoreKind) refl
       where
-        test : (t : Bool) → eqb (kindOf d) 20 ≡ t → RuleIs p cs (b ∷ ts) (choose t (λ _. onRead (readChoice vs) λ r ws. contextsOf n p (cs ++ ((l, r) ∷ [])) ws) (λ _. malformed))
+        test : (t : Bool) → eqb (kindOf d) underscoreKind ≡ t → RuleIs p cs (b ∷ ts) (choose t (λ _. onRead (readChoice vs) λ r ws. contextsOf n p (cs ++ ((l, r) ∷ [])) ws) (λ _. malformed))
         test true e = right l mid vs (q ∙ ap (λ x. 47 ∷ (mid ++ (x ∷ vs))) (sign-byte d 17 e)) c (readChoice vs) refl ih
         test false e = tt
 
@@ -75,7 +75,7 @@ contexts-sound (suc n) p cs (b ∷ ts) = slash (eqb (kindOf b) 19) refl (λ cs w
     left z (got l us) e ih = let (mid, q, c) = reader-sound ts us l e in under l mid us (ap₂ _∷_ z q) c ih
     left z bad e ih = tt
 
-    slash : (t : Bool) → eqb (kindOf b) 19 ≡ t → Rest → RuleIs p cs (b ∷ ts) (choose t (λ _. onRead (readChoice ts) λ l us. go-on n p cs l us) (λ _. malformed))
+    slash : (t : Bool) → eqb (kindOf b) slashKind ≡ t → Rest → RuleIs p cs (b ∷ ts) (choose t (λ _. onRead (readChoice ts) λ l us. go-on n p cs l us) (λ _. malformed))
     slash true e ih = left (sign-byte b 16 e) (readChoice ts) refl ih
     slash false e ih = tt
 
@@ -137,8 +137,8 @@ form-sound : (bs : List ℕ) → FormIs (squeezed bs) (formOf bs)
 unfolding formOf
 form-sound [] = tt
 form-sound (b ∷ bs) =
-    choose-form (b ∷ tokens bs) (eqb (kindOf b) 17) _ _ (λ q. subst (λ x. FormIs (x ∷ tokens bs) (defineOf (tokens bs))) (sym (sign-byte b 14 q)) (define-sound (tokens bs))) λ _.
-    choose-form (b ∷ tokens bs) (eqb (kindOf b) 18) _ _ (λ q. subst (λ x. FormIs (x ∷ tokens bs) (ruleOf (tokens bs))) (sym (sign-byte b 15 q)) (rule-sound (tokens bs))) λ _.
+    choose-form (b ∷ tokens bs) (eqb (kindOf b) equalsKind) _ _ (λ q. subst (λ x. FormIs (x ∷ tokens bs) (defineOf (tokens bs))) (sym (sign-byte b 14 q)) (define-sound (tokens bs))) λ _.
+    choose-form (b ∷ tokens bs) (eqb (kindOf b) greaterKind) _ _ (λ q. subst (λ x. FormIs (x ∷ tokens bs) (ruleOf (tokens bs))) (sym (sign-byte b 15 q)) (rule-sound (tokens bs))) λ _.
     tt
 
 define-whole : (x : ℕ) (ts : List ℕ) (e : Expr) → isName x ≡ true → Choice ts e → defineOf (x ∷ ts) ≡ define x e

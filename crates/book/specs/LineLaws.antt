@@ -12,7 +12,7 @@ use Rattle.automata.specs.Decide.{contradict}
 use Rattle.language.specs.Restriction.{restricts}
 use Rattle.language.specs.Expression.{member}
 use Rattle.language.specs.Environment.{known, allKnown}
-use Rattle.book.specs.Kind.{kindOf}
+use Rattle.book.specs.Kind.{kindOf, openKind, closeKind, underscoreKind}
 use Rattle.book.specs.Text.{Line, tooDeep, countOf, lineTest, Form, define, rule, malformed, formOf, unless}
 use Rattle.book.specs.LineGrammar.{LineForm, squeezed, form-whole, define-exact, rule-exact, malformed-exact}
 use Rattle.book.specs.Line as L
@@ -20,24 +20,24 @@ use Rattle.book.specs.Line.{LineRead, reads, stops, checkForm, readLine}
 
 -- 3: "counting `(` as +1 and `)` as -1 along the line, the count passes 4": behind some first part of the line it is over 4.
 abbrev pub PassesFour : List ℕ → Type 0
-PassesFour bs = (u : List ℕ) × (v : List ℕ) × (bs ≡ u ++ v) × (countOf 13 u + 4 < countOf 5 u)
+PassesFour bs = (u : List ℕ) × (v : List ℕ) × (bs ≡ u ++ v) × (countOf closeKind u + 4 < countOf openKind u)
 
 -- ---- the count
 
 module _ where
   abbrev Passes : ℕ → ℕ → List ℕ → Type 0
-  Passes o c bs = (u : List ℕ) × (v : List ℕ) × (bs ≡ u ++ v) × (c + countOf 13 u + 4 < o + countOf 5 u)
+  Passes o c bs = (u : List ℕ) × (v : List ℕ) × (bs ≡ u ++ v) × (c + countOf closeKind u + 4 < o + countOf openKind u)
 
   deep-sound : (bs : List ℕ) (o c : ℕ) → tooDeep o c bs ≡ true → Passes o c bs
   deep-sound [] o c e = absurd (false≢true e)
-  deep-sound (b ∷ bs) o c e = go (bool-cases (eqb (kindOf b) 5)) (bool-cases (eqb (kindOf b) 13)) e (λ o c. deep-sound bs o c)
+  deep-sound (b ∷ bs) o c e = go (bool-cases (eqb (kindOf b) openKind)) (bool-cases (eqb (kindOf b) closeKind)) e (λ o c. deep-sound bs o c)
     where
-      longer : (o′ c′ : ℕ) → ((u : List ℕ) → c + countOf 13 (b ∷ u) ≡ c′ + countOf 13 u) → ((u : List ℕ) → o + countOf 5 (b ∷ u) ≡ o′ + countOf 5 u) → Passes o′ c′ bs → Passes o c (b ∷ bs)
+      longer : (o′ c′ : ℕ) → ((u : List ℕ) → c + countOf closeKind (b ∷ u) ≡ c′ + countOf closeKind u) → ((u : List ℕ) → o + countOf openKind (b ∷ u) ≡ o′ + countOf openKind u) → Passes o′ c′ bs → Passes o c (b ∷ bs)
       longer o′ c′ f g (u, v, q, h) = (b ∷ u, v, ap (λ l. b ∷ l) q, omega (arith, f u, g u))
 
-      go : (eqb (kindOf b) 5 ≡ true) ⊎ (eqb (kindOf b) 5 ≡ false) → (eqb (kindOf b) 13 ≡ true) ⊎ (eqb (kindOf b) 13 ≡ false) → tooDeep o c (b ∷ bs) ≡ true
+      go : (eqb (kindOf b) openKind ≡ true) ⊎ (eqb (kindOf b) openKind ≡ false) → (eqb (kindOf b) closeKind ≡ true) ⊎ (eqb (kindOf b) closeKind ≡ false) → tooDeep o c (b ∷ bs) ≡ true
           → ((o c : ℕ) → tooDeep o c bs ≡ true → Passes o c bs) → Passes o c (b ∷ bs)
-      go (inl x) (inl y) e ih = absurd (omega (arith, nat-test .sound (kindOf b) 5 x, nat-test .sound (kindOf b) 13 y))
+      go (inl x) (inl y) e ih = absurd (omega (arith, nat-test .sound (kindOf b) openKind x, nat-test .sound (kindOf b) closeKind y))
       go (inl x) (inr y) e ih = at (lt-cases (c + 4) (suc o)) (rw x at e)
         where
           at : LtCases (c + 4) (suc o) → choose (ltb (c + 4) (suc o)) (λ _. true) (λ _. tooDeep (suc o) c bs) ≡ true → Passes o c (b ∷ bs)
@@ -46,19 +46,19 @@ module _ where
       go (inr x) (inl y) e ih = longer o (suc c) (λ u. rw y (omega arith)) (λ u. rw x) (ih o (suc c) (rw (x, y) at e))
       go (inr x) (inr y) e ih = longer o c (λ u. rw y) (λ u. rw x) (ih o c (rw (x, y) at e))
 
-  deep-whole : (u v : List ℕ) (o c : ℕ) → o ≤ c + 4 → c + countOf 13 u + 4 < o + countOf 5 u → tooDeep o c (u ++ v) ≡ true
+  deep-whole : (u v : List ℕ) (o c : ℕ) → o ≤ c + 4 → c + countOf closeKind u + 4 < o + countOf openKind u → tooDeep o c (u ++ v) ≡ true
   deep-whole [] v o c h p = absurd (omega arith)
-  deep-whole (b ∷ u) v o c h p = go (bool-cases (eqb (kindOf b) 5)) (bool-cases (eqb (kindOf b) 13)) p (λ o c. deep-whole u v o c)
+  deep-whole (b ∷ u) v o c h p = go (bool-cases (eqb (kindOf b) openKind)) (bool-cases (eqb (kindOf b) closeKind)) p (λ o c. deep-whole u v o c)
     where
-      go : (eqb (kindOf b) 5 ≡ true) ⊎ (eqb (kindOf b) 5 ≡ false) → (eqb (kindOf b) 13 ≡ true) ⊎ (eqb (kindOf b) 13 ≡ false) → c + countOf 13 (b ∷ u) + 4 < o + countOf 5 (b ∷ u)
-          → ((o c : ℕ) → o ≤ c + 4 → c + countOf 13 u + 4 < o + countOf 5 u → tooDeep o c (u ++ v) ≡ true) → tooDeep o c (b ∷ (u ++ v)) ≡ true
-      go (inl x) (inl y) p ih = absurd (omega (arith, nat-test .sound (kindOf b) 5 x, nat-test .sound (kindOf b) 13 y))
+      go : (eqb (kindOf b) openKind ≡ true) ⊎ (eqb (kindOf b) openKind ≡ false) → (eqb (kindOf b) closeKind ≡ true) ⊎ (eqb (kindOf b) closeKind ≡ false) → c + countOf closeKind (b ∷ u) + 4 < o + countOf openKind (b ∷ u)
+          → ((o c : ℕ) → o ≤ c + 4 → c + countOf closeKind u + 4 < o + countOf openKind u → tooDeep o c (u ++ v) ≡ true) → tooDeep o c (b ∷ (u ++ v)) ≡ true
+      go (inl x) (inl y) p ih = absurd (omega (arith, nat-test .sound (kindOf b) openKind x, nat-test .sound (kindOf b) closeKind y))
       go (inl x) (inr y) p ih = rw x (at (lt-cases (c + 4) (suc o)) (rw (x, y) at p))
         where
-          at : LtCases (c + 4) (suc o) → c + countOf 13 u + 4 < o + suc (countOf 5 u) → choose (ltb (c + 4) (suc o)) (λ _. true) (λ _. tooDeep (suc o) c (u ++ v)) ≡ true
+          at : LtCases (c + 4) (suc o) → c + countOf closeKind u + 4 < o + suc (countOf openKind u) → choose (ltb (c + 4) (suc o)) (λ _. true) (λ _. tooDeep (suc o) c (u ++ v)) ≡ true
           at (inl z) p = rw (z .1)
           at (inr z) p = rw (z .1) (ih (suc o) c (z .0) (omega arith))
-      go (inr x) (inl y) p ih = let p′ : c + suc (countOf 13 u) + 4 < o + countOf 5 u = rw (x, y) at p in rw (x, y) (ih o (suc c) (omega arith) (omega arith))
+      go (inr x) (inl y) p ih = let p′ : c + suc (countOf closeKind u) + 4 < o + countOf openKind u = rw (x, y) at p in rw (x, y) (ih o (suc c) (omega arith) (omega arith))
       go (inr x) (inr y) p ih = rw (x, y) (ih o c h (rw (x, y) at p))
 
 pub deep-exact : (bs : List ℕ) → (tooDeep 0 0 bs ≡ true) ↔ PassesFour bs
@@ -84,14 +84,14 @@ NewName names malformed = ⊥
 -- Neither 3 nor 4 stops the line.
 pub record Countable (bs : List ℕ) : Type 0 where
   pub nesting : ¬ PassesFour bs
-  pub contexts : countOf 20 bs ≤ 4
+  pub contexts : countOf underscoreKind bs ≤ 4
 
 -- What a later line says, with the letters of line 1 and the names defined above. 3: "the count passes 4". 4: "over 4 bytes `_` in the line".
 -- 5: "the line isn't of its form above, lacks 0x0A". 6: "in one of the line's choices, a letter not in line 1 or a name not defined above". 7: "the name
 -- after `=` is defined above".
 pub data LineSays (ls names : List ℕ) (l : Line) : LineRead → Type 0 where
   nesting-too-deep : PassesFour (l .bytes) → LineSays ls names l (stops 3)
-  too-many-contexts : ¬ PassesFour (l .bytes) → 4 < countOf 20 (l .bytes) → LineSays ls names l (stops 4)
+  too-many-contexts : ¬ PassesFour (l .bytes) → 4 < countOf underscoreKind (l .bytes) → LineSays ls names l (stops 4)
   no-line-end : Countable (l .bytes) → l .ended ≡ false → LineSays ls names l (stops 5)
   malformed-line : Countable (l .bytes) → l .ended ≡ true → ((F : Form) → LineForm (squeezed (l .bytes)) F → ⊥) → LineSays ls names l (stops 5)
   undefined-symbol : Countable (l .bytes) → l .ended ≡ true → (F : Form) → LineForm (squeezed (l .bytes)) F → ¬ KnownForm ls names F → LineSays ls names l (stops 6)
@@ -125,7 +125,7 @@ module _ (ls names : List ℕ) (l : Line) where
   -- THE LINE is read as the table says,
   pub line-says : LineSays ls names l (readLine ls names l)
   unfolding readLine lineTest
-  line-says = deep (bool-cases (tooDeep 0 0 (l .bytes))) (lt-cases 4 (countOf 20 (l .bytes))) (bool-cases (l .ended))
+  line-says = deep (bool-cases (tooDeep 0 0 (l .bytes))) (lt-cases 4 (countOf underscoreKind (l .bytes))) (bool-cases (l .ended))
     where
       test : Bool → Bool → Bool → ℕ
       test a b c = choose a (λ _. 3) λ _. choose b (λ _. 4) λ _. choose c (λ _. 0) (λ _. 5)
@@ -133,8 +133,8 @@ module _ (ls names : List ℕ) (l : Line) where
       result : Bool → Bool → Bool → LineRead
       result a b c = unless (eqb (test a b c) 0) (λ _. stops (test a b c)) λ _. checkForm ls names (formOf (l .bytes))
 
-      deep : (tooDeep 0 0 (l .bytes) ≡ true) ⊎ (tooDeep 0 0 (l .bytes) ≡ false) → LtCases 4 (countOf 20 (l .bytes)) → (l .ended ≡ true) ⊎ (l .ended ≡ false)
-          → LineSays ls names l (result (tooDeep 0 0 (l .bytes)) (ltb 4 (countOf 20 (l .bytes))) (l .ended))
+      deep : (tooDeep 0 0 (l .bytes) ≡ true) ⊎ (tooDeep 0 0 (l .bytes) ≡ false) → LtCases 4 (countOf underscoreKind (l .bytes)) → (l .ended ≡ true) ⊎ (l .ended ≡ false)
+          → LineSays ls names l (result (tooDeep 0 0 (l .bytes)) (ltb 4 (countOf underscoreKind (l .bytes))) (l .ended))
       deep (inl a) b c = rw a (nesting-too-deep (deep-exact (l .bytes) .0 a))
       deep (inr a) (inl b) c = rw (a, b .1) (too-many-contexts (λ p. contradict (deep-exact (l .bytes) .1 p) a) (b .0))
       deep (inr a) (inr b) (inr c) = rw (a, b .1) (subst (λ t. LineSays ls names l (result false false t)) (sym c) (no-line-end (record { nesting = λ p. contradict (deep-exact (l .bytes) .1 p) a; contexts = b .0 }) c))

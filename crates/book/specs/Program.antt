@@ -1,5 +1,5 @@
 -- The code of a line: a program for a stack of machines. An expression is written in postfix, each of its signs behind its operands; a rule is a
--- straight row of codes around its expressions, in the order of 01. A letter, a name and a sign stand for themselves.
+-- straight row of codes around its expressions, in the order of 01. A letter and a name are their own codes.
 use Prim.Native.Nat.{ℕ}
 use mathlib.Core.List.{List, [], _∷_, _++_}
 use Rattle.automata.specs.Stages.{Pairing, either, both, without}
@@ -7,16 +7,7 @@ use Rattle.language.specs.Restriction.{RuleKind, restricts}
 use Rattle.language.specs.Expression.{Expr, letter, name, dot, empty, pair, join, star, plus, option, complement}
 use Rattle.book.specs.Text.{Form, define, rule, malformed}
 
--- `|`, `&`, `-`
-abbrev pub pairCode : Pairing → ℕ
-pairCode either = 124
-pairCode both = 38
-pairCode without = 45
-
--- codes that no sign has: the joining of two (`;`), the given `.*` and mark, two registers read and written, erase, and `&` with the book so far
-abbrev pub joinCode : ℕ
-joinCode = 59
-
+-- codes that no sign has: the given `.*` and mark, two registers read and written, erase, and `&` with the book so far
 abbrev pub allCode : ℕ
 allCode = 1
 
@@ -41,17 +32,53 @@ eraseCode = 7
 abbrev pub meetCode : ℕ
 meetCode = 8
 
+-- the signs ! & * + - . ? @ | for themselves, and `;` for the joining of two
+abbrev pub complementCode : ℕ
+complementCode = 33
+
+abbrev pub bothCode : ℕ
+bothCode = 38
+
+abbrev pub starCode : ℕ
+starCode = 42
+
+abbrev pub plusCode : ℕ
+plusCode = 43
+
+abbrev pub withoutCode : ℕ
+withoutCode = 45
+
+abbrev pub dotCode : ℕ
+dotCode = 46
+
+abbrev pub joinCode : ℕ
+joinCode = 59
+
+abbrev pub optionCode : ℕ
+optionCode = 63
+
+abbrev pub emptyCode : ℕ
+emptyCode = 64
+
+abbrev pub eitherCode : ℕ
+eitherCode = 124
+
+abbrev pub pairCode : Pairing → ℕ
+pairCode either = eitherCode
+pairCode both = bothCode
+pairCode without = withoutCode
+
 abbrev pub postfix : Expr → List ℕ
 postfix (letter b) = b ∷ []
 postfix (name b) = b ∷ []
-postfix dot = 46 ∷ []
-postfix empty = 64 ∷ []
+postfix dot = dotCode ∷ []
+postfix empty = emptyCode ∷ []
 postfix (pair o e f) = postfix e ++ (postfix f ++ (pairCode o ∷ []))
 postfix (join e f) = postfix e ++ (postfix f ++ (joinCode ∷ []))
-postfix (star e) = postfix e ++ (42 ∷ [])
-postfix (plus e) = postfix e ++ (43 ∷ [])
-postfix (option e) = postfix e ++ (63 ∷ [])
-postfix (complement e) = postfix e ++ (33 ∷ [])
+postfix (star e) = postfix e ++ (starCode ∷ [])
+postfix (plus e) = postfix e ++ (plusCode ∷ [])
+postfix (option e) = postfix e ++ (optionCode ∷ [])
+postfix (complement e) = postfix e ++ (complementCode ∷ [])
 
 -- "X = `.*` M p M `.*`, joined left to right", with p on the stack
 abbrev pub patternProgram : List ℕ
@@ -61,11 +88,11 @@ patternProgram =
 -- "then l M p M r joined left to right, then X becomes X minus it", with X, l, r on the stack
 abbrev pub contextProgram : List ℕ
 contextProgram =
-    storeRightCode ∷ markCode ∷ joinCode ∷ patternCode ∷ joinCode ∷ markCode ∷ joinCode ∷ rightCode ∷ joinCode ∷ 45 ∷ []
+    storeRightCode ∷ markCode ∷ joinCode ∷ patternCode ∷ joinCode ∷ markCode ∷ joinCode ∷ rightCode ∷ joinCode ∷ withoutCode ∷ []
 
 -- "then E = erase X; then `.*-E`", which is `!E`; "met by `&` with each rule"
 abbrev pub finishProgram : List ℕ
-finishProgram = eraseCode ∷ 33 ∷ meetCode ∷ []
+finishProgram = eraseCode ∷ complementCode ∷ meetCode ∷ []
 
 abbrev pub contextsProgram : List (Expr × Expr) → List ℕ
 contextsProgram [] = finishProgram

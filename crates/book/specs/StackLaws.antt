@@ -13,12 +13,12 @@ use Rattle.automata.specs.Basics.{LtCases, lt-cases, SameCases, same-cases, nat
 use Rattle.automata.specs.Stages.{Pairing, either, both, without}
 use Rattle.language.specs.Restriction.{restricts}
 use Rattle.language.specs.Expression.{Expr, star, plus, pair, empty, join, option, complement, letter, name, dot}
-use Rattle.book.specs.Kind.{kindOf, isLetter, isName}
+use Rattle.book.specs.Kind.{kindOf, isLetter, isName, letterKind, atKind, openKind, bangKind, plusKind, questionKind, ampersandKind, barKind, closeKind, spaceKind, underscoreKind, nameKind, dotKind}
 use Rattle.book.specs.Reader.{got, readChoice}
 use Rattle.book.specs.Grammar.{Choice, one-blend, or, Blend, one-chain, and, minus, Chain, one-item, follow, Item, negated, followed, Followed, one-atom, by-star, by-plus, by-option, Atom, a-letter, a-name, a-dot, an-at, bracket, reader-sound}
 use Rattle.book.specs.Text.{Line, tooDeep, countOf, lineTest, tokens, Form, define, rule, malformed, formOf}
 use Rattle.book.specs.LineGrammar.{Contexts, none, more, LineForm, definition, ruling, squeezed, define-exact, rule-exact}
-use Rattle.book.specs.Program.{pairCode, postfix, program, contextsProgram, patternProgram, contextProgram}
+use Rattle.book.specs.Program.{allCode, rightCode, storePatternCode, storeRightCode, meetCode, dotCode, joinCode, emptyCode, pairCode, postfix, program, contextsProgram, patternProgram, contextProgram}
 
 -- ---- definitions
 
@@ -40,8 +40,8 @@ deepest extra (complement e) = max (deepest extra e) (suc extra)
 abbrev pub nesting : ℕ → ℕ → List ℕ → ℕ
 nesting opens closes [] = 0
 nesting opens closes (b ∷ bs) =
-    choose (eqb (kindOf b) 5) (λ _. max (suc opens - closes) (nesting (suc opens) closes bs)) λ _.
-    choose (eqb (kindOf b) 13) (λ _. nesting opens (suc closes) bs) λ _.
+    choose (eqb (kindOf b) openKind) (λ _. max (suc opens - closes) (nesting (suc opens) closes bs)) λ _.
+    choose (eqb (kindOf b) closeKind) (λ _. nesting opens (suc closes) bs) λ _.
     nesting opens closes bs
 
 -- The letters and names of an expression are letter bytes and name bytes.
@@ -60,17 +60,17 @@ Leaves (complement e) = Leaves e
 -- What a code does to the height of the stack: a leaf, a given machine and a register push; `|`, `&`, `-`, joining and storing pop one; the others,
 -- meeting the book among them, work in place.
 abbrev pub pushes : ℕ → Bool
-pushes c = (leb 1 (kindOf c) && leb (kindOf c) 4) || (leb 1 c && leb c 4)
+pushes c = (leb letterKind (kindOf c) && leb (kindOf c) atKind) || (leb allCode c && leb c rightCode)
 
 abbrev pub pops : ℕ → Bool
-pops c = (leb 10 (kindOf c) && leb (kindOf c) 12) || (eqb c 59 || (eqb c 5 || eqb c 6))
+pops c = (leb ampersandKind (kindOf c) && leb (kindOf c) barKind) || (eqb c joinCode || (eqb c storePatternCode || eqb c storeRightCode))
 
 abbrev pub heightAfter : ℕ → ℕ → ℕ
 heightAfter c h = choose (pushes c) (λ _. suc h) λ _. choose (pops c) (λ _. h - 1) (λ _. h)
 
 -- `A+` makes `A*` beside A; `?`, `!` and meeting the book have their other operand beside A
 abbrev pub besides : ℕ → Bool
-besides c = (leb 8 (kindOf c) && leb (kindOf c) 9) || (eqb (kindOf c) 6 || eqb c 8)
+besides c = (leb plusKind (kindOf c) && leb (kindOf c) questionKind) || (eqb (kindOf c) bangKind || eqb c meetCode)
 
 abbrev pub heightWhile : ℕ → ℕ → ℕ
 heightWhile c h = choose (besides c) (λ _. suc h) (λ _. h)
@@ -97,11 +97,11 @@ FormHeld n malformed = Unit {0}
 -- ---- the bound, from the grammar
 
 -- a byte that is no bracket
-nesting-other : (b : ℕ) (bs : List ℕ) (o c : ℕ) → eqb (kindOf b) 5 ≡ false → eqb (kindOf b) 13 ≡ false → nesting o c (b ∷ bs) ≡ nesting o c bs
+nesting-other : (b : ℕ) (bs : List ℕ) (o c : ℕ) → eqb (kindOf b) openKind ≡ false → eqb (kindOf b) closeKind ≡ false → nesting o c (b ∷ bs) ≡ nesting o c bs
 nesting-other b bs o c e f = rw (e, f)
 
 -- a byte of another kind
-nesting-kind : (b k : ℕ) (bs : List ℕ) (o c : ℕ) → eqb k 5 ≡ false → eqb k 13 ≡ false → eqb (kindOf b) k ≡ true → nesting o c (b ∷ bs) ≡ nesting o c bs
+nesting-kind : (b k : ℕ) (bs : List ℕ) (o c : ℕ) → eqb k openKind ≡ false → eqb k closeKind ≡ false → eqb (kindOf b) k ≡ true → nesting o c (b ∷ bs) ≡ nesting o c bs
 nesting-kind b k bs o c e f q = let z : kindOf b ≡ k = nat-test .sound (kindOf b) k q in nesting-other b bs o c (rw z e) (rw z f)
 
 module _ (extra d : ℕ) where
@@ -189,7 +189,7 @@ read-height extra d ts us e q h =
 -- test 3 passed
 nesting-passed : (bs : List ℕ) (o c : ℕ) → tooDeep o c bs ≡ false → nesting o c bs ≤ 4
 nesting-passed [] o c e = omega arith
-nesting-passed (b ∷ bs) o c e = go (eqb (kindOf b) 5) (eqb (kindOf b) 13) (lt-cases (c + 4) (suc o)) e (nesting-passed bs (suc o) c) (nesting-passed bs o (suc c)) (nesting-passed bs o c)
+nesting-passed (b ∷ bs) o c e = go (eqb (kindOf b) openKind) (eqb (kindOf b) closeKind) (lt-cases (c + 4) (suc o)) e (nesting-passed bs (suc o) c) (nesting-passed bs o (suc c)) (nesting-passed bs o c)
   where
     go : (s t : Bool) → LtCases (c + 4) (suc o)
         → choose s (λ _. choose (ltb (c + 4) (suc o)) (λ _. true) (λ _. tooDeep (suc o) c bs)) (λ _. choose t (λ _. tooDeep o (suc c) bs) (λ _. tooDeep o c bs)) ≡ false
@@ -203,15 +203,15 @@ nesting-passed (b ∷ bs) o c e = go (eqb (kindOf b) 5) (eqb (kindOf b) 13) (lt-
 -- spaces are no brackets
 nesting-tokens : (bs : List ℕ) (o c : ℕ) → nesting o c (tokens bs) ≡ nesting o c bs
 nesting-tokens [] o c = refl
-nesting-tokens (b ∷ bs) o c = go (same-cases nat-test (kindOf b) 14) (λ o c. nesting-tokens bs o c)
+nesting-tokens (b ∷ bs) o c = go (same-cases nat-test (kindOf b) spaceKind) (λ o c. nesting-tokens bs o c)
   where
-    go : SameCases nat-test (kindOf b) 14 → ((o c : ℕ) → nesting o c (tokens bs) ≡ nesting o c bs) → nesting o c (tokens (b ∷ bs)) ≡ nesting o c (b ∷ bs)
-    go (inl p) f = rw (p .1) (f o c ∙ sym (nesting-kind b 14 bs o c refl refl (p .1)))
-    go (inr p) f = rw (p .1) (λ i. choose (eqb (kindOf b) 5) (λ _. max (suc o - c) (f (suc o) c i)) (λ _. choose (eqb (kindOf b) 13) (λ _. f o (suc c) i) (λ _. f o c i)))
+    go : SameCases nat-test (kindOf b) spaceKind → ((o c : ℕ) → nesting o c (tokens bs) ≡ nesting o c bs) → nesting o c (tokens (b ∷ bs)) ≡ nesting o c (b ∷ bs)
+    go (inl p) f = rw (p .1) (f o c ∙ sym (nesting-kind b spaceKind bs o c refl refl (p .1)))
+    go (inr p) f = rw (p .1) (λ i. choose (eqb (kindOf b) openKind) (λ _. max (suc o - c) (f (suc o) c i)) (λ _. choose (eqb (kindOf b) closeKind) (λ _. f o (suc c) i) (λ _. f o c i)))
 
 nesting-squeezed : (bs : List ℕ) (o c : ℕ) → nesting o c (squeezed bs) ≡ nesting o c bs
 nesting-squeezed [] o c = refl
-nesting-squeezed (b ∷ bs) o c = λ i. choose (eqb (kindOf b) 5) (λ _. max (suc o - c) (nesting-tokens bs (suc o) c i)) (λ _. choose (eqb (kindOf b) 13) (λ _. nesting-tokens bs o (suc c) i) (λ _. nesting-tokens bs o c i))
+nesting-squeezed (b ∷ bs) o c = λ i. choose (eqb (kindOf b) openKind) (λ _. max (suc o - c) (nesting-tokens bs (suc o) c i)) (λ _. choose (eqb (kindOf b) closeKind) (λ _. nesting-tokens bs o (suc c) i) (λ _. nesting-tokens bs o c i))
 
 held : (e : Expr) (rest : List ℕ) → Bound 1 4 4 0 e rest → Held 17 e
 held e rest B = record { height = omega (arith, B .height); leaves = B .leaves }
@@ -225,7 +225,7 @@ contexts-held ts cs (more {us = us} {vs = vs} {l = l} {r = r} {cs = ds} a b k z)
 
 form-held : (all : List ℕ) (F : Form) → LineForm all F → nesting 0 0 all ≤ 4 → FormHeld 17 F
 form-held all F (definition {ts = ts} {x = x} {e = e} n c z) h =
-    let g : nesting 0 0 ts ≤ 4 = rw (nesting-kind x 2 ts 0 0 refl refl n) at (rw z at h) in
+    let g : nesting 0 0 ts ≤ 4 = rw (nesting-kind x nameKind ts 0 0 refl refl n) at (rw z at h) in
     held e [] (choice-bound 1 4 c [] 0 0 0 refl (subst (λ l. nesting 0 0 l ≤ 4) (sym (append-nil ts)) g))
 form-held all F (ruling {ts = ts} {us = us} {p = p} {cs = cs} c k z) h =
     let A = choice-bound 1 4 c us 0 0 0 refl (rw z at h) in
@@ -247,7 +247,7 @@ pub line-held : (l : Line) → lineTest l ≡ 0 → FormHeld 17 (formOf (l .byte
 unfolding lineTest
 line-held l e = deep-held (l .bytes) (go (tooDeep 0 0 (l .bytes)) e)
   where
-    go : (t : Bool) → _≡_ {A = ℕ} (choose t (λ _. 3) (λ _. choose (ltb 4 (countOf 20 (l .bytes))) (λ _. 4) (λ _. choose (l .ended) (λ _. 0) (λ _. 5)))) 0 → t ≡ false
+    go : (t : Bool) → _≡_ {A = ℕ} (choose t (λ _. 3) (λ _. choose (ltb 4 (countOf underscoreKind (l .bytes))) (λ _. 4) (λ _. choose (l .ended) (λ _. 0) (λ _. 5)))) 0 → t ≡ false
     go true q = absurd (omega arith)
     go false q = refl
 
@@ -274,14 +274,14 @@ some (option e) = omega arith
 some (complement e) = omega arith
 
 -- a byte that pushes is not the code that meets the book
-not-meet : (b k : ℕ) → leb 1 k && leb k 4 ≡ true → kindOf b ≡ k → eqb b 8 ≡ false
-not-meet b k p z = go (same-cases nat-test b 8)
+not-meet : (b k : ℕ) → leb letterKind k && leb k atKind ≡ true → kindOf b ≡ k → eqb b meetCode ≡ false
+not-meet b k p z = go (same-cases nat-test b meetCode)
   where
-    go : SameCases nat-test b 8 → eqb b 8 ≡ false
-    go (inl q) = absurd (false≢true (subst (λ k. leb 1 k && leb k 4 ≡ true) (sym z ∙ ap kindOf (q .0)) p))
+    go : SameCases nat-test b meetCode → eqb b meetCode ≡ false
+    go (inl q) = absurd (false≢true (subst (λ k. leb letterKind k && leb k atKind ≡ true) (sym z ∙ ap kindOf (q .0)) p))
     go (inr q) = q .1
 
-highest-leaf : (b k h : ℕ) (cs : List ℕ) → leb 1 k && leb k 4 ≡ true → (leb 8 k && leb k 9) || (eqb k 6 || false) ≡ false → eqb (kindOf b) k ≡ true
+highest-leaf : (b k h : ℕ) (cs : List ℕ) → leb letterKind k && leb k atKind ≡ true → (leb plusKind k && leb k questionKind) || (eqb k bangKind || false) ≡ false → eqb (kindOf b) k ≡ true
     → highest h (b ∷ cs) ≡ max (h + 1) (highest (suc h) cs)
 highest-leaf b k h cs p n q =
     let z : kindOf b ≡ k = nat-test .sound (kindOf b) k q in
@@ -295,15 +295,15 @@ highest-pair either h cs = popped h cs
 highest-pair both h cs = popped h cs
 highest-pair without h cs = popped h cs
 
-highest-join : (h : ℕ) (cs : List ℕ) → highest (suc (suc h)) ((59 ∷ []) ++ cs) ≡ max (suc (suc h)) (highest (suc h) cs)
+highest-join : (h : ℕ) (cs : List ℕ) → highest (suc (suc h)) ((joinCode ∷ []) ++ cs) ≡ max (suc (suc h)) (highest (suc h) cs)
 highest-join h cs = popped h cs
 
 -- The code of an expression, then cs: the machines of the expression on top of h, then one machine more than h.
 pub postfix-highest : (e : Expr) → Leaves e → (h : ℕ) (cs : List ℕ) → highest h (postfix e ++ cs) ≡ max (h + deepest 1 e) (highest (suc h) cs)
-postfix-highest (letter b) s h cs = highest-leaf b 1 h cs refl refl s
-postfix-highest (name b) s h cs = highest-leaf b 2 h cs refl refl s
-postfix-highest dot s h cs = highest-leaf 46 3 h cs refl refl refl
-postfix-highest empty s h cs = highest-leaf 64 4 h cs refl refl refl
+postfix-highest (letter b) s h cs = highest-leaf b letterKind h cs refl refl s
+postfix-highest (name b) s h cs = highest-leaf b nameKind h cs refl refl s
+postfix-highest dot s h cs = highest-leaf dotCode dotKind h cs refl refl refl
+postfix-highest empty s h cs = highest-leaf emptyCode atKind h cs refl refl refl
 postfix-highest (pair o e f) s h cs =
     rw (append-assoc, append-assoc, postfix-highest e (s .0), postfix-highest f (s .1), highest-pair o) (omega (arith, some f))
 postfix-highest (join e f) s h cs =

@@ -8,7 +8,7 @@ use Rattle.automata.specs.Format.{Format}
 use Rattle.automata.specs.Booleans.{choose}
 use Rattle.language.specs.Restriction.{RuleKind, restricts}
 use Rattle.language.specs.Expression.{Expr}
-use Rattle.book.specs.Kind.{kindOf, isLetter, isName}
+use Rattle.book.specs.Kind.{kindOf, isLetter, isName, openKind, closeKind, spaceKind, lineEndKind, colonKind, equalsKind, greaterKind, slashKind, underscoreKind}
 use Rattle.book.specs.Reader.{Read, got, bad, readChoice}
 
 -- the first branch where the test fails
@@ -27,14 +27,14 @@ putByte b (l ∷ ls) = record { bytes = b ∷ l .bytes; ended = l .ended } ∷ l
 abbrev pub linesOf : List ℕ → List Line
 linesOf [] = []
 linesOf (b ∷ bs) =
-    choose (eqb (kindOf b) 15) (λ _. record { bytes = []; ended = true } ∷ linesOf bs) (λ _. putByte b (linesOf bs))
+    choose (eqb (kindOf b) lineEndKind) (λ _. record { bytes = []; ended = true } ∷ linesOf bs) (λ _. putByte b (linesOf bs))
 
 -- 3: "counting `(` as +1 and `)` as -1 along the line, the count passes 4", the count below zero too
 abbrev pub tooDeep : ℕ → ℕ → List ℕ → Bool
 tooDeep opens closes [] = false
 tooDeep opens closes (b ∷ bs) =
-    choose (eqb (kindOf b) 5) (λ _. choose (ltb (closes + 4) (suc opens)) (λ _. true) λ _. tooDeep (suc opens) closes bs) λ _.
-    choose (eqb (kindOf b) 13) (λ _. tooDeep opens (suc closes) bs) λ _.
+    choose (eqb (kindOf b) openKind) (λ _. choose (ltb (closes + 4) (suc opens)) (λ _. true) λ _. tooDeep (suc opens) closes bs) λ _.
+    choose (eqb (kindOf b) closeKind) (λ _. tooDeep opens (suc closes) bs) λ _.
     tooDeep opens closes bs
 
 -- how many bytes of a kind
@@ -46,7 +46,7 @@ countOf kind (b ∷ bs) = choose (eqb (kindOf b) kind) (λ _. suc (countOf kind 
 unfoldable pub lineTest : Line → ℕ
 lineTest l =
     choose (tooDeep 0 0 (l .bytes)) (λ _. 3) λ _.
-    choose (ltb 4 (countOf 20 (l .bytes))) (λ _. 4) λ _.
+    choose (ltb 4 (countOf underscoreKind (l .bytes))) (λ _. 4) λ _.
     choose (l .ended) (λ _. 0) (λ _. 5)
 
 -- "Line 1 is `:` and then 1 to 26 letters, strictly rising."
@@ -56,7 +56,7 @@ rising low (b ∷ bs) = choose (isLetter b && ltb low b) (λ _. rising b bs) (λ
 
 abbrev pub isHead : Format → List ℕ → Bool
 isHead fmt [] = false
-isHead fmt (b ∷ ls) = eqb (kindOf b) 16 && (leb (fmt .leastLetters) (length ls) && (leb (length ls) (fmt .mostLetters) && rising 0 ls))
+isHead fmt (b ∷ ls) = eqb (kindOf b) colonKind && (leb (fmt .leastLetters) (length ls) && (leb (length ls) (fmt .mostLetters) && rising 0 ls))
 
 -- the letters of line 1
 abbrev pub lettersOf : Line → List ℕ
@@ -76,7 +76,7 @@ pub data Form : Type 0 where
 -- line end". A name is one token.
 abbrev pub tokens : List ℕ → List ℕ
 tokens [] = []
-tokens (b ∷ bs) = choose (eqb (kindOf b) 14) (λ _. tokens bs) (λ _. b ∷ tokens bs)
+tokens (b ∷ bs) = choose (eqb (kindOf b) spaceKind) (λ _. tokens bs) (λ _. b ∷ tokens bs)
 
 abbrev pub tailAt : ℕ → List ℕ → (List ℕ → Form) → Form
 tailAt x [] f = malformed
@@ -91,9 +91,9 @@ contextsOf zero p cs [] = rule restricts p cs
 contextsOf zero p cs (b ∷ ts) = malformed
 contextsOf (suc n) p cs [] = rule restricts p cs
 contextsOf (suc n) p cs (b ∷ ts) =
-    unless (eqb (kindOf b) 19) (λ _. malformed) λ _.
+    unless (eqb (kindOf b) slashKind) (λ _. malformed) λ _.
     onRead (readChoice ts) λ l us.
-    tailAt 20 us λ vs.
+    tailAt underscoreKind us λ vs.
     onRead (readChoice vs) λ r ws.
     contextsOf n p (cs ++ ((l, r) ∷ [])) ws
 
@@ -111,6 +111,6 @@ ruleOf ts = onRead (readChoice ts) (λ p us. contextsOf (length us) p [] us)
 unfoldable pub formOf : List ℕ → Form
 formOf [] = malformed
 formOf (b ∷ bs) =
-    choose (eqb (kindOf b) 17) (λ _. defineOf (tokens bs)) λ _.
-    choose (eqb (kindOf b) 18) (λ _. ruleOf (tokens bs)) λ _.
+    choose (eqb (kindOf b) equalsKind) (λ _. defineOf (tokens bs)) λ _.
+    choose (eqb (kindOf b) greaterKind) (λ _. ruleOf (tokens bs)) λ _.
     malformed

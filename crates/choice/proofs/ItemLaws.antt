@@ -4,6 +4,7 @@ use mathlib.Core.List.{List, _++_}
 use Prim.Native.Nat.{ℕ, _<_, _≤_}
 use native.Mathlib.Omega.{arith}
 use lib.ListN.{length, take, drop}
+use Rattle.book.specs.Kind.{letterKind, openKind, closeKind}
 use Rattle.book.specs.Reader.{got, bad, closed, repeated}
 use Rattle.book.specs.Text.{tokens}
 use Rattle.choice.specs.Token.{At, kindAhead}
@@ -12,6 +13,7 @@ use Rattle.choice.specs.Reading.{a-choice, an-item, an-atom, left, Reads
 use Rattle.choice.specs.ReadingLaws.{read-to, read-not}
 use Rattle.choice.specs.Steps.{Put, Suffixed, complements, Nots, Negated}
 use Rattle.choice.specs.declared.Spot.{Spot}
+use Rattle.choice.specs.declared.lexer.Cursor.{Cursor}
 use Rattle.choice.specs.declared.Made.{Made}
 use Rattle.choice.specs.declared.Made.the-variants.{Done, Refused}
 use Rattle.choice.proofs.TokenLaws.{at-fewer}
@@ -21,7 +23,7 @@ use Rattle.choice.proofs.StepLaws.{same-left, negated-got, negated-bad}
 
 -- ---- an item: k `!`, an atom, the signs behind it, k codes of `!`
 
-module _ {s o o₁ : List ℕ} {c : Spot} {n k : ℕ} {a : Made} (x : Nots s (c .at) n k) (d : Reads an-atom s o (record { at = n; pos = c .pos }) o₁ a) where
+module _ {s o o₁ : List ℕ} {c : Spot} {n : Cursor} {k : ℕ} {a : Made} (x : Nots s (c .cursor .at) (n .at) k) (d : Reads an-atom s o (record { cursor = n; pos = c .pos }) o₁ a) where
   pub item-refused : a ≡ Refused → Reads an-item s o c o₁ Refused
   item-refused q =
       let y = read-not d q in
@@ -51,10 +53,10 @@ module _ {s o o₁ : List ℕ} {c : Spot} {n k : ℕ} {a : Made} (x : Nots s (c 
 
 -- ---- an atom
 
-pub atom-put : {s o o′ : List ℕ} {c r : Spot} {k b n : ℕ} → At s (c .at) k b n → 1 ≤ k → k < 5 → Put o (record { at = n; pos = c .pos }) b o′ r → Reads an-atom s o c o′ (Done r)
+pub atom-put : {s o o′ : List ℕ} {c r : Spot} {k b : ℕ} {n : Cursor} → At s (c .cursor .at) k b (n .at) → letterKind ≤ k → k < openKind → Put o (record { cursor = n; pos = c .pos }) b o′ r → Reads an-atom s o c o′ (Done r)
 atom-put {s} {o} {o′} {c} {r} {k} {b} {n} x h h′ w =
     let y = atom-leaf x h h′ in
-    let there : left s r ≡ tokens (drop n s) = same-left s (record { at = n; pos = c .pos }) r (w .at-is) in
+    let there : left s r ≡ tokens (drop (n .at) s) = same-left s (record { cursor = n; pos = c .pos }) r (w .at-is) in
     record {
       says = record {
         expr = y .expr;
@@ -67,17 +69,17 @@ atom-put {s} {o} {o′} {c} {r} {k} {b} {n} x h h′ w =
       };
     }
 
-pub atom-refused : {s o : List ℕ} {c : Spot} (k : ℕ) → k ≡ kindAhead (left s c) → (1 ≤ k → 5 < k) → Reads an-atom s o c o Refused
+pub atom-refused : {s o : List ℕ} {c : Spot} (k : ℕ) → k ≡ kindAhead (left s c) → (letterKind ≤ k → openKind < k) → Reads an-atom s o c o Refused
 atom-refused {s} {c = c} k q h = record { says = record { reads = stop (atom-none (left s c) k q h); before = refl } }
 
 -- a choice in brackets
-module _ {s o o′ : List ℕ} {c : Spot} {k b n : ℕ} {a : Made} (x : At s (c .at) k b n) (e : k ≡ 5) (d : Reads a-choice s o (record { at = n; pos = c .pos }) o′ a) where
+module _ {s o o′ : List ℕ} {c : Spot} {k b : ℕ} {n : Cursor} {a : Made} (x : At s (c .cursor .at) k b (n .at)) (e : k ≡ openKind) (d : Reads a-choice s o (record { cursor = n; pos = c .pos }) o′ a) where
   pub bracket-refused : a ≡ Refused → Reads an-atom s o c o′ Refused
   bracket-refused q =
       let y = read-not d q in
       record { says = record { reads = seq (λ f. closed) (y .reads) (atom-bracket x e) (omega (arith, at-fewer x)) (λ f h. refl); before = y .before } }
 
-  pub bracket-open : {y : Spot} (j : ℕ) → a ≡ Done y → j ≡ kindAhead (left s y) → (j ≡ 13 → ⊥) → Reads an-atom s o c o′ Refused
+  pub bracket-open : {y : Spot} (j : ℕ) → a ≡ Done y → j ≡ kindAhead (left s y) → (j ≡ closeKind → ⊥) → Reads an-atom s o c o′ Refused
   bracket-open {y} j q p h =
       let t = read-to d q in
       record {
@@ -87,7 +89,7 @@ module _ {s o o′ : List ℕ} {c : Spot} {k b n : ℕ} {a : Made} (x : At s (c 
         };
       }
 
-  pub bracket-done : {y : Spot} {j b′ n′ : ℕ} → a ≡ Done y → At s (y .at) j b′ n′ → j ≡ 13 → Reads an-atom s o c o′ (Done (record { at = n′; pos = y .pos }))
+  pub bracket-done : {y : Spot} {j b′ : ℕ} {n′ : Cursor} → a ≡ Done y → At s (y .cursor .at) j b′ (n′ .at) → j ≡ closeKind → Reads an-atom s o c o′ (Done (record { cursor = n′; pos = y .pos }))
   bracket-done q z h =
       let t = read-to d q in
       record {

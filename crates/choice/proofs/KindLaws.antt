@@ -11,7 +11,7 @@ use lib.ListN.{drop}
 use Rattle.automata.specs.Basics.{SameCases, nat-test, same-cases}
 use Rattle.automata.specs.Stages.{either, both, without}
 use Rattle.language.specs.Expression.{Expr, letter, name, dot, empty, pair, join, star, plus, option}
-use Rattle.book.specs.Kind.{kindOf, itemKind, sign-byte}
+use Rattle.book.specs.Kind.{kindOf, itemKind, sign-byte, letterKind, nameKind, dotKind, atKind, openKind, bangKind, starKind, plusKind, questionKind, ampersandKind, minusKind, barKind, closeKind}
 use Rattle.book.specs.Reader.{got, bad, andThen, closed, repeats, repeated}
 use Rattle.book.specs.Text.{tokens}
 use Rattle.book.specs.Program.{postfix}
@@ -22,34 +22,34 @@ use Rattle.choice.proofs.ReadLaws.{Stops, Turn}
 
 -- ---- where a row of parts ends
 
-pub choices-stop : (ts : List ℕ) (k : ℕ) → k ≡ kindAhead ts → (k ≡ 12 → ⊥) → Stops more-choices ts
+pub choices-stop : (ts : List ℕ) (k : ℕ) → k ≡ kindAhead ts → (k ≡ barKind → ⊥) → Stops more-choices ts
 choices-stop [] k q h f e = refl
-choices-stop (b ∷ ts) k q h f e = rw (ne-eqb (kindOf b) 12 (λ z. h (q ∙ z)))
+choices-stop (b ∷ ts) k q h f e = rw (ne-eqb (kindOf b) barKind (λ z. h (q ∙ z)))
 
-pub blends-stop : (ts : List ℕ) (k : ℕ) → k ≡ kindAhead ts → (k ≡ 10 → ⊥) → (k ≡ 11 → ⊥) → Stops more-blends ts
+pub blends-stop : (ts : List ℕ) (k : ℕ) → k ≡ kindAhead ts → (k ≡ ampersandKind → ⊥) → (k ≡ minusKind → ⊥) → Stops more-blends ts
 blends-stop [] k q h h′ f e = refl
-blends-stop (b ∷ ts) k q h h′ f e = rw (ne-eqb (kindOf b) 10 (λ z. h (q ∙ z)), ne-eqb (kindOf b) 11 (λ z. h′ (q ∙ z)))
+blends-stop (b ∷ ts) k q h h′ f e = rw (ne-eqb (kindOf b) ampersandKind (λ z. h (q ∙ z)), ne-eqb (kindOf b) minusKind (λ z. h′ (q ∙ z)))
 
 pub chains-stop : (ts : List ℕ) (k : ℕ) → k ≡ kindAhead ts → itemKind k ≡ false → Stops more-chains ts
 chains-stop [] k q h f e = refl
 chains-stop (b ∷ ts) k q h f e = let z : itemKind (kindOf b) ≡ false = ap itemKind (sym q) ∙ h in rw z
 
-pub below-items : (k : ℕ) → k < 1 → itemKind k ≡ false
-below-items k h = rw (lt-leb 1 k h)
+pub below-items : (k : ℕ) → k < letterKind → itemKind k ≡ false
+below-items k h = rw (lt-leb letterKind k h)
 
-pub above-items : (k : ℕ) → 6 < k → itemKind k ≡ false
-above-items k h = go (leb 1 k) (lt-leb k 6 h)
+pub above-items : (k : ℕ) → bangKind < k → itemKind k ≡ false
+above-items k h = go (leb letterKind k) (lt-leb k bangKind h)
   where
-    go : (t : Bool) → leb k 6 ≡ false → t && leb k 6 ≡ false
+    go : (t : Bool) → leb k bangKind ≡ false → t && leb k bangKind ≡ false
     go true q = q
     go false q = refl
 
-item-inside : (k : ℕ) → 1 ≤ k → k ≤ 6 → itemKind k ≡ true
-item-inside k h h′ = rw (le-leb 1 k h, le-leb k 6 h′)
+item-inside : (k : ℕ) → letterKind ≤ k → k ≤ bangKind → itemKind k ≡ true
+item-inside k h h′ = rw (le-leb letterKind k h, le-leb k bangKind h′)
 
-pub repeats-stop : (ts : List ℕ) (k : ℕ) (e : Expr) → k ≡ kindAhead ts → (k ≡ 7 → ⊥) → (k ≡ 8 → ⊥) → (k ≡ 9 → ⊥) → repeats ts e ≡ got e ts
+pub repeats-stop : (ts : List ℕ) (k : ℕ) (e : Expr) → k ≡ kindAhead ts → (k ≡ starKind → ⊥) → (k ≡ plusKind → ⊥) → (k ≡ questionKind → ⊥) → repeats ts e ≡ got e ts
 repeats-stop [] k e q h h′ h″ = refl
-repeats-stop (b ∷ ts) k e q h h′ h″ = rw (ne-eqb (kindOf b) 7 (λ z. h (q ∙ z)), ne-eqb (kindOf b) 8 (λ z. h′ (q ∙ z)), ne-eqb (kindOf b) 9 (λ z. h″ (q ∙ z)))
+repeats-stop (b ∷ ts) k e q h h′ h″ = rw (ne-eqb (kindOf b) starKind (λ z. h (q ∙ z)), ne-eqb (kindOf b) plusKind (λ z. h′ (q ∙ z)), ne-eqb (kindOf b) questionKind (λ z. h″ (q ∙ z)))
 
 -- ---- one part more
 
@@ -60,10 +60,10 @@ module _ {s : List ℕ} {at k b n : ℕ} (x : At s at k b n) where
   is-not : (i : ℕ) → (k ≡ i → ⊥) → eqb (kindOf b) i ≡ false
   is-not i h = ne-eqb (kindOf b) i (λ z. h (x .kind-is ∙ z))
 
-  pub choices-turn : k ≡ 12 → Turn more-choices a-blend (pair either) (tokens (drop at s)) (tokens (drop n s))
-  choices-turn e f g = rw (x .rest-is, is 12 e)
+  pub choices-turn : k ≡ barKind → Turn more-choices a-blend (pair either) (tokens (drop at s)) (tokens (drop n s))
+  choices-turn e f g = rw (x .rest-is, is barKind e)
 
-  pub chains-turn : 1 ≤ k → k ≤ 6 → Turn more-chains an-item join (tokens (drop at s)) (tokens (drop at s))
+  pub chains-turn : letterKind ≤ k → k ≤ bangKind → Turn more-chains an-item join (tokens (drop at s)) (tokens (drop at s))
   chains-turn h h′ f g =
       let z : itemKind (kindOf b) ≡ true = ap itemKind (sym (x .kind-is)) ∙ item-inside k h h′ in
       rw (x .rest-is, z)
@@ -74,21 +74,21 @@ pub record Blending (b : ℕ) (ts us : List ℕ) : Type 0 where
   pub turn : Turn more-blends a-chain op ts us
   pub code : (e g : Expr) → postfix (op e g) ≡ postfix e ++ (postfix g ++ (b ∷ []))
 
-pub blends-turn : {s : List ℕ} {at k b n : ℕ} → At s at k b n → 10 ≤ k → k ≤ 11 → Blending b (tokens (drop at s)) (tokens (drop n s))
-blends-turn {s} {at} {k} {b} {n} x h h′ = go (same-cases nat-test k 10)
+pub blends-turn : {s : List ℕ} {at k b n : ℕ} → At s at k b n → ampersandKind ≤ k → k ≤ minusKind → Blending b (tokens (drop at s)) (tokens (drop n s))
+blends-turn {s} {at} {k} {b} {n} x h h′ = go (same-cases nat-test k ampersandKind)
   where
-    go : SameCases nat-test k 10 → Blending b (tokens (drop at s)) (tokens (drop n s))
+    go : SameCases nat-test k ampersandKind → Blending b (tokens (drop at s)) (tokens (drop n s))
     go (inl p) = record {
       op = pair both;
-      turn = λ f e. rw (x .rest-is, is x 10 (p .0));
-      code = λ e g. rw (sign-byte b 7 (is x 10 (p .0)));
+      turn = λ f e. rw (x .rest-is, is x ampersandKind (p .0));
+      code = λ e g. rw (sign-byte b 7 (is x ampersandKind (p .0)));
     }
     go (inr p) =
-        let z : k ≡ 11 = omega (arith, p .0) in
+        let z : k ≡ minusKind = omega (arith, p .0) in
         record {
           op = pair without;
-          turn = λ f e. rw (x .rest-is, is-not x 10 (p .0), is x 11 z);
-          code = λ e g. rw (sign-byte b 8 (is x 11 z));
+          turn = λ f e. rw (x .rest-is, is-not x ampersandKind (p .0), is x minusKind z);
+          code = λ e g. rw (sign-byte b 8 (is x minusKind z));
         }
 
 -- `*`, `+` or `?`: the operator, whose code is its own byte
@@ -97,37 +97,37 @@ pub record Repeating (b : ℕ) (ts us : List ℕ) : Type 0 where
   pub turn : (e : Expr) → repeats ts e ≡ repeats us (op e)
   pub code : (e : Expr) → postfix (op e) ≡ postfix e ++ (b ∷ [])
 
-pub repeats-turn : {s : List ℕ} {at k b n : ℕ} → At s at k b n → 7 ≤ k → k ≤ 9 → Repeating b (tokens (drop at s)) (tokens (drop n s))
-repeats-turn {s} {at} {k} {b} {n} x h h′ = go (same-cases nat-test k 7) (same-cases nat-test k 8)
+pub repeats-turn : {s : List ℕ} {at k b n : ℕ} → At s at k b n → starKind ≤ k → k ≤ questionKind → Repeating b (tokens (drop at s)) (tokens (drop n s))
+repeats-turn {s} {at} {k} {b} {n} x h h′ = go (same-cases nat-test k starKind) (same-cases nat-test k plusKind)
   where
-    go : SameCases nat-test k 7 → SameCases nat-test k 8 → Repeating b (tokens (drop at s)) (tokens (drop n s))
+    go : SameCases nat-test k starKind → SameCases nat-test k plusKind → Repeating b (tokens (drop at s)) (tokens (drop n s))
     go (inl p) q = record {
       op = star;
-      turn = λ e. rw (x .rest-is, is x 7 (p .0));
-      code = λ e. rw (sign-byte b 4 (is x 7 (p .0)));
+      turn = λ e. rw (x .rest-is, is x starKind (p .0));
+      code = λ e. rw (sign-byte b 4 (is x starKind (p .0)));
     }
     go (inr p) (inl q) = record {
       op = plus;
-      turn = λ e. rw (x .rest-is, is-not x 7 (p .0), is x 8 (q .0));
-      code = λ e. rw (sign-byte b 5 (is x 8 (q .0)));
+      turn = λ e. rw (x .rest-is, is-not x starKind (p .0), is x plusKind (q .0));
+      code = λ e. rw (sign-byte b 5 (is x plusKind (q .0)));
     }
     go (inr p) (inr q) =
-        let z : k ≡ 9 = omega (arith, p .0, q .0) in
+        let z : k ≡ questionKind = omega (arith, p .0, q .0) in
         record {
           op = option;
-          turn = λ e. rw (x .rest-is, is-not x 7 (p .0), is-not x 8 (q .0), is x 9 z);
-          code = λ e. rw (sign-byte b 6 (is x 9 z));
+          turn = λ e. rw (x .rest-is, is-not x starKind (p .0), is-not x plusKind (q .0), is x questionKind z);
+          code = λ e. rw (sign-byte b 6 (is x questionKind z));
         }
 
 -- ---- items and atoms
 
-pub item-not : {s : List ℕ} {at k b n : ℕ} → At s at k b n → k ≡ 6 → (f : ℕ) → read (suc f) an-item (tokens (drop at s)) ≡ andThen (read f an-item (tokens (drop n s))) complemented
-item-not x e f = rw (x .rest-is, is x 6 e)
+pub item-not : {s : List ℕ} {at k b n : ℕ} → At s at k b n → k ≡ bangKind → (f : ℕ) → read (suc f) an-item (tokens (drop at s)) ≡ andThen (read f an-item (tokens (drop n s))) complemented
+item-not x e f = rw (x .rest-is, is x bangKind e)
 
-pub item-atom : (ts : List ℕ) → (kindAhead ts ≡ 6 → ⊥) → (f : ℕ) → read (suc f) an-item ts ≡ andThen (read f an-atom ts) repeated
+pub item-atom : (ts : List ℕ) → (kindAhead ts ≡ bangKind → ⊥) → (f : ℕ) → read (suc f) an-item ts ≡ andThen (read f an-atom ts) repeated
 item-atom [] h zero = refl
 item-atom [] h (suc f) = refl
-item-atom (b ∷ ts) h f = rw (ne-eqb (kindOf b) 6 h)
+item-atom (b ∷ ts) h f = rw (ne-eqb (kindOf b) bangKind h)
 
 -- a letter, a name, `.` or `@`, whose code is its own byte
 pub record Leaf (b : ℕ) (ts us : List ℕ) : Type 0 where
@@ -135,40 +135,40 @@ pub record Leaf (b : ℕ) (ts us : List ℕ) : Type 0 where
   pub reads : (f : ℕ) → read (suc f) an-atom ts ≡ got expr us
   pub code : postfix expr ≡ b ∷ []
 
-pub atom-leaf : {s : List ℕ} {at k b n : ℕ} → At s at k b n → 1 ≤ k → k < 5 → Leaf b (tokens (drop at s)) (tokens (drop n s))
-atom-leaf {s} {at} {k} {b} {n} x h h′ = go (same-cases nat-test k 1) (same-cases nat-test k 2) (same-cases nat-test k 3)
+pub atom-leaf : {s : List ℕ} {at k b n : ℕ} → At s at k b n → letterKind ≤ k → k < openKind → Leaf b (tokens (drop at s)) (tokens (drop n s))
+atom-leaf {s} {at} {k} {b} {n} x h h′ = go (same-cases nat-test k letterKind) (same-cases nat-test k nameKind) (same-cases nat-test k dotKind)
   where
-    go : SameCases nat-test k 1 → SameCases nat-test k 2 → SameCases nat-test k 3 → Leaf b (tokens (drop at s)) (tokens (drop n s))
-    go (inl p) q r = record { expr = letter b; reads = λ f. rw (x .rest-is, is x 1 (p .0)); code = refl }
-    go (inr p) (inl q) r = record { expr = name b; reads = λ f. rw (x .rest-is, is-not x 1 (p .0), is x 2 (q .0)); code = refl }
+    go : SameCases nat-test k letterKind → SameCases nat-test k nameKind → SameCases nat-test k dotKind → Leaf b (tokens (drop at s)) (tokens (drop n s))
+    go (inl p) q r = record { expr = letter b; reads = λ f. rw (x .rest-is, is x letterKind (p .0)); code = refl }
+    go (inr p) (inl q) r = record { expr = name b; reads = λ f. rw (x .rest-is, is-not x letterKind (p .0), is x nameKind (q .0)); code = refl }
     go (inr p) (inr q) (inl r) = record {
       expr = dot;
-      reads = λ f. rw (x .rest-is, is-not x 1 (p .0), is-not x 2 (q .0), is x 3 (r .0));
-      code = rw (sign-byte b 0 (is x 3 (r .0)));
+      reads = λ f. rw (x .rest-is, is-not x letterKind (p .0), is-not x nameKind (q .0), is x dotKind (r .0));
+      code = rw (sign-byte b 0 (is x dotKind (r .0)));
     }
     go (inr p) (inr q) (inr r) =
-        let z : k ≡ 4 = omega (arith, p .0, q .0, r .0) in
+        let z : k ≡ atKind = omega (arith, p .0, q .0, r .0) in
         record {
           expr = empty;
-          reads = λ f. rw (x .rest-is, is-not x 1 (p .0), is-not x 2 (q .0), is-not x 3 (r .0), is x 4 z);
-          code = rw (sign-byte b 1 (is x 4 z));
+          reads = λ f. rw (x .rest-is, is-not x letterKind (p .0), is-not x nameKind (q .0), is-not x dotKind (r .0), is x atKind z);
+          code = rw (sign-byte b 1 (is x atKind z));
         }
 
-pub atom-bracket : {s : List ℕ} {at k b n : ℕ} → At s at k b n → k ≡ 5 → (f : ℕ) → read (suc f) an-atom (tokens (drop at s)) ≡ andThen (read f a-choice (tokens (drop n s))) closed
+pub atom-bracket : {s : List ℕ} {at k b n : ℕ} → At s at k b n → k ≡ openKind → (f : ℕ) → read (suc f) an-atom (tokens (drop at s)) ≡ andThen (read f a-choice (tokens (drop n s))) closed
 atom-bracket x e f =
-    rw (x .rest-is, is-not x 1 (λ z. omega arith), is-not x 2 (λ z. omega arith), is-not x 3 (λ z. omega arith), is-not x 4 (λ z. omega arith), is x 5 e)
+    rw (x .rest-is, is-not x letterKind (λ z. omega arith), is-not x nameKind (λ z. omega arith), is-not x dotKind (λ z. omega arith), is-not x atKind (λ z. omega arith), is x openKind e)
 
 -- nothing else is an atom
-pub atom-none : (ts : List ℕ) (k : ℕ) → k ≡ kindAhead ts → (1 ≤ k → 5 < k) → (f : ℕ) → read (suc f) an-atom ts ≡ bad
+pub atom-none : (ts : List ℕ) (k : ℕ) → k ≡ kindAhead ts → (letterKind ≤ k → openKind < k) → (f : ℕ) → read (suc f) an-atom ts ≡ bad
 atom-none [] k q h f = refl
-atom-none (b ∷ ts) k q h f = rw (no 1 (omega arith) (omega arith), no 2 (omega arith) (omega arith), no 3 (omega arith) (omega arith), no 4 (omega arith) (omega arith), no 5 (omega arith) (omega arith))
+atom-none (b ∷ ts) k q h f = rw (no letterKind (omega arith) (omega arith), no nameKind (omega arith) (omega arith), no dotKind (omega arith) (omega arith), no atKind (omega arith) (omega arith), no openKind (omega arith) (omega arith))
   where
-    no : (i : ℕ) → 1 ≤ i → i ≤ 5 → eqb (kindOf b) i ≡ false
+    no : (i : ℕ) → letterKind ≤ i → i ≤ openKind → eqb (kindOf b) i ≡ false
     no i g g′ = ne-eqb (kindOf b) i (λ z. omega (arith, h (omega arith)))
 
-pub closed-not : (e : Expr) (ts : List ℕ) (k : ℕ) → k ≡ kindAhead ts → (k ≡ 13 → ⊥) → closed e ts ≡ bad
+pub closed-not : (e : Expr) (ts : List ℕ) (k : ℕ) → k ≡ kindAhead ts → (k ≡ closeKind → ⊥) → closed e ts ≡ bad
 closed-not e [] k q h = refl
-closed-not e (b ∷ ts) k q h = rw (ne-eqb (kindOf b) 13 (λ z. h (q ∙ z)))
+closed-not e (b ∷ ts) k q h = rw (ne-eqb (kindOf b) closeKind (λ z. h (q ∙ z)))
 
-pub closed-to : {s : List ℕ} {at k b n : ℕ} (e : Expr) → At s at k b n → k ≡ 13 → closed e (tokens (drop at s)) ≡ got e (tokens (drop n s))
-closed-to e x q = rw (x .rest-is, is x 13 q)
+pub closed-to : {s : List ℕ} {at k b n : ℕ} (e : Expr) → At s at k b n → k ≡ closeKind → closed e (tokens (drop at s)) ≡ got e (tokens (drop n s))
+closed-to e x q = rw (x .rest-is, is x closeKind q)

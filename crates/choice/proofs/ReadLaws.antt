@@ -77,8 +77,8 @@ pub record Goes (m : Expr → Part) (s o : List ℕ) (c : Spot) (o′ : List ℕ
   pub goes : (before : List ℕ) (e : Expr) → take (c .pos) o ≡ before ++ postfix e → Further m before e (left s c) (take (n .pos) o′) (left s n)
   pub grown : Grown o (c .pos) o′ (n .pos)
   pub fewer : length (left s n) ≤ length (left s c)
-  pub falls : length s - n .at ≤ length s - c .at
-  pub room : n .pos + 2 * (length s - n .at) ≤ c .pos + 2 * (length s - c .at)
+  pub falls : length s - n .cursor .at ≤ length s - c .cursor .at
+  pub room : n .pos + 2 * (length s - n .cursor .at) ≤ c .pos + 2 * (length s - c .cursor .at)
   pub same-length : length o′ ≡ length o
 
 goes-start : (m : Expr → Part) (s o : List ℕ) (c : Spot) → Goes m s o c o c
@@ -94,10 +94,10 @@ goes-start m s o c = record {
 -- one part more was read and its operator b was written
 goes-turn : {l p : Part} {m : Expr → Part} {r : ℕ} {s o o₁ o′ o″ : List ℕ} {c n x n′ : Spot} {v : Spot} {b : ℕ} (w : Row l p m r) (op : Expr → Expr → Expr)
     → Goes m s o c o₁ n → To p s o₁ v o′ x → Put o′ x b o″ n′ → Turn m p op (left s n) (left s v)
-    → v .pos ≡ n .pos → 6 * length (left s v) + rank p < 6 * length (left s n) + r → length (left s v) ≤ length (left s n) → length s - v .at ≤ length s - n .at
+    → v .pos ≡ n .pos → 6 * length (left s v) + rank p < 6 * length (left s n) + r → length (left s v) ≤ length (left s n) → length s - v .cursor .at ≤ length s - n .cursor .at
     → ((e g : Expr) → postfix (op e g) ≡ postfix e ++ (postfix g ++ (b ∷ []))) → length o″ ≡ length o₁ → Goes m s o c o″ n′
 goes-turn {l} {p} {m} {r} {s} {o} {o₁} {o′} {o″} {c} {n} {x} {n′} {v} {b} w op g y u tu hv h fw fl pf ln =
-    let there : left s n′ ≡ left s x = ap (λ (i : ℕ). left s (record { at = i; pos = 0 })) (u .at-is) in
+    let there : left s n′ ≡ left s x = ap (λ (i : ℕ). left s (record { cursor = record { at = i }; pos = 0 })) (u .at-is) in
     record {
       goes = λ before e q₀. step y there before e (g .goes before e q₀);
       grown = grown-more (g .grown) (grown-more (subst (λ (i : ℕ). Grown o₁ i o′ (x .pos)) hv (y .grown)) (u .grown));
@@ -133,8 +133,8 @@ pub record Behind (p : Part) (m : Expr → Part) (s o : List ℕ) (c : Spot) (o�
 pub record Ahead (l p : Part) (m : Expr → Part) (more : Bool) (b : ℕ) (s o : List ℕ) (c : Spot) (o′ : List ℕ) (v : Spot) : Type 0 where
   pub refused : (o″ : List ℕ) → Not p s o′ v o″ → Reads l s o c o″ Refused
   pub reads : (o₁ o₂ : List ℕ) (x n : Spot) → To p s o′ v o₁ x → PutIf more o₁ x b o₂ n → length o₁ ≡ length o′ → length o₂ ≡ length o₁ → Behind p m s o c o₂ n
-  pub falls : length s - v .at ≤ length s - c .at
-  pub room : v .pos + 2 * (length s - v .at) ≤ c .pos + 2 * (length s - c .at)
+  pub falls : length s - v .cursor .at ≤ length s - c .cursor .at
+  pub room : v .pos + 2 * (length s - v .cursor .at) ≤ c .pos + 2 * (length s - c .cursor .at)
   pub same-length : length o′ ≡ length o
 
 module _ {l p : Part} {m : Expr → Part} {r : ℕ} (w : Row l p m r) where
@@ -184,7 +184,7 @@ module _ {l p : Part} {m : Expr → Part} {r : ℕ} (w : Row l p m r) where
 
   -- one part more starts at v, joined by op, whose code is b
   pub ahead-more : {b : ℕ} {s o o′ : List ℕ} {c n v : Spot} (op : Expr → Expr → Expr) → Behind p m s o c o′ n → Turn m p op (left s n) (left s v)
-      → v .pos ≡ n .pos → 6 * length (left s v) + rank p < 6 * length (left s n) + r → length (left s v) ≤ length (left s n) → length s - v .at ≤ length s - n .at
+      → v .pos ≡ n .pos → 6 * length (left s v) + rank p < 6 * length (left s n) + r → length (left s v) ≤ length (left s n) → length s - v .cursor .at ≤ length s - n .cursor .at
       → ((e g : Expr) → postfix (op e g) ≡ postfix e ++ (postfix g ++ (b ∷ []))) → Ahead l p m true b s o c o′ v
   ahead-more {b} {s} {o} {o′} {c} {n} {v} op d tu hv h fw fl pf = record {
     refused = λ o″ y. row-not op d y tu hv h;

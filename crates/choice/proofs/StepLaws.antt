@@ -6,21 +6,23 @@ use native.Mathlib.Numerals.{add-one}
 use native.Mathlib.Omega.{arith}
 use lib.ListN.{length, take, drop}
 use Rattle.language.specs.Expression.{Expr, complement}
+use Rattle.book.specs.Kind.{bangKind, starKind, questionKind}
 use Rattle.book.specs.Reader.{got, bad, andThen, repeats}
 use Rattle.book.specs.Text.{tokens}
-use Rattle.book.specs.Program.{postfix}
+use Rattle.book.specs.Program.{complementCode, postfix}
 use Rattle.choice.specs.Token.{At, Past}
 use Rattle.choice.specs.Buffer.{Grown}
 use Rattle.choice.specs.BufferLaws.{grown-none, grown-more}
 use Rattle.choice.specs.Reading.{Is, an-item, left}
 use Rattle.choice.specs.Steps.{Put, Suffixed, complements, complemented, negated, Passed, Negated}
 use Rattle.choice.specs.declared.Spot.{Spot}
+use Rattle.choice.specs.declared.lexer.Cursor.{Cursor}
 use Rattle.choice.proofs.TokenLaws.{at-fewer}
 use Rattle.choice.proofs.ReadLaws.{seq}
 use Rattle.choice.proofs.KindLaws.{repeats-turn, item-not}
 
 -- the tokens left depend on how far the line is read alone
-pub same-left : (s : List ℕ) (c n : Spot) → n .at ≡ c .at → left s n ≡ left s c
+pub same-left : (s : List ℕ) (c n : Spot) → n .cursor .at ≡ c .cursor .at → left s n ≡ left s c
 same-left s c n q = ap (λ (i : ℕ). tokens (drop i s)) q
 
 -- one byte more behind the code of e
@@ -40,8 +42,8 @@ pub record Suffixing (s o : List ℕ) (c : Spot) (o′ : List ℕ) (n : Spot) : 
   pub goes : (before : List ℕ) (e : Expr) → take (c .pos) o ≡ before ++ postfix e → Repeats before e (left s c) (take (n .pos) o′) (left s n)
   pub grown : Grown o (c .pos) o′ (n .pos)
   pub fewer : length (left s n) ≤ length (left s c)
-  pub falls : length s - n .at ≤ length s - c .at
-  pub room : n .pos + 2 * (length s - n .at) ≤ c .pos + 2 * (length s - c .at)
+  pub falls : length s - n .cursor .at ≤ length s - c .cursor .at
+  pub room : n .pos + 2 * (length s - n .cursor .at) ≤ c .pos + 2 * (length s - c .cursor .at)
   pub same-length : length o′ ≡ length o
 
 pub suffixing-start : (s o : List ℕ) (c : Spot) → Suffixing s o c o c
@@ -54,7 +56,7 @@ suffixing-start s o c = record {
   same-length = refl;
 }
 
-pub suffixing-spaces : {s o o′ : List ℕ} {c n : Spot} {i : ℕ} → Suffixing s o c o′ n → Past s (n .at) i → Suffixing s o c o′ (record { at = i; pos = n .pos })
+pub suffixing-spaces : {s o o′ : List ℕ} {c n : Spot} {i : Cursor} → Suffixing s o c o′ n → Past s (n .cursor .at) (i .at) → Suffixing s o c o′ (record { cursor = i; pos = n .pos })
 suffixing-spaces g p = record {
   goes = λ before e q. let z = g .goes before e q in record { expr = z .expr; goes = z .goes ∙ ap (λ (us : List ℕ). repeats us (z .expr)) (sym (p .same)); code-is = z .code-is };
   grown = g .grown;
@@ -64,7 +66,7 @@ suffixing-spaces g p = record {
   same-length = g .same-length;
 }
 
-pub suffixing-turn : {s o o₁ o′ : List ℕ} {c n v n′ : Spot} {k b : ℕ} → Suffixing s o c o₁ n → At s (n .at) k b (v .at) → 7 ≤ k → k ≤ 9 → Put o₁ v b o′ n′ → v .pos ≡ n .pos → length o′ ≡ length o₁ → Suffixing s o c o′ n′
+pub suffixing-turn : {s o o₁ o′ : List ℕ} {c n v n′ : Spot} {k b : ℕ} → Suffixing s o c o₁ n → At s (n .cursor .at) k b (v .cursor .at) → starKind ≤ k → k ≤ questionKind → Put o₁ v b o′ n′ → v .pos ≡ n .pos → length o′ ≡ length o₁ → Suffixing s o c o′ n′
 suffixing-turn {s} {o} {o₁} {o′} {c} {n} {v} {n′} {k} {b} g x h h′ w hv ln =
     record {
       goes = λ before e q. step before e (g .goes before e q);
@@ -105,7 +107,7 @@ passed-spaces g p = record {
   falls = omega (arith, g .falls, p .up);
 }
 
-pub passed-turn : {s : List ℕ} {at n j k b n′ : ℕ} → Passed s at n j → At s n k b n′ → k ≡ 6 → Passed s at n′ (j + 1)
+pub passed-turn : {s : List ℕ} {at n j k b n′ : ℕ} → Passed s at n j → At s n k b n′ → k ≡ bangKind → Passed s at n′ (j + 1)
 passed-turn {s} {at} {n} {j} {k} {b} {n′} g x q =
     rw add-one (record {
       goes = λ X i. g .goes (andThen X complemented) (seq (λ f. complemented) i (item-not x q) (omega (arith, at-fewer x)) (λ f h. refl));
@@ -123,7 +125,7 @@ negated-bad (suc k) = negated-bad k
 
 -- what the loop that writes their codes keeps: so many are due still
 pub record Negating (o : List ℕ) (c : Spot) (k : ℕ) (o′ : List ℕ) (n : Spot) (due : ℕ) : Type 0 where
-  pub at-is : n .at ≡ c .at
+  pub at-is : n .cursor .at ≡ c .cursor .at
   pub pos-is : n .pos + due ≡ c .pos + k
   pub goes : (before : List ℕ) (e : Expr) → take (c .pos) o ≡ before ++ postfix e → (g : Expr) × (take (n .pos) o′ ≡ before ++ postfix g) × (complements due g ≡ complements k e)
   pub grown : Grown o (c .pos) o′ (n .pos)
@@ -132,7 +134,7 @@ pub record Negating (o : List ℕ) (c : Spot) (k : ℕ) (o′ : List ℕ) (n : S
 pub negating-start : (o : List ℕ) (c : Spot) (k : ℕ) → Negating o c k o c k
 negating-start o c k = record { at-is = refl; pos-is = refl; goes = λ before e q. (e, q, refl); grown = grown-none o (c .pos); same-length = refl }
 
-pub negating-turn : {o o₁ o′ : List ℕ} {c n n′ : Spot} {k due : ℕ} → Negating o c k o₁ n due → 0 < due → Put o₁ n 33 o′ n′ → length o′ ≡ length o₁ → Negating o c k o′ n′ (due - 1)
+pub negating-turn : {o o₁ o′ : List ℕ} {c n n′ : Spot} {k due : ℕ} → Negating o c k o₁ n due → 0 < due → Put o₁ n complementCode o′ n′ → length o′ ≡ length o₁ → Negating o c k o′ n′ (due - 1)
 negating-turn {o} {o₁} {o′} {c} {n} {n′} {k} {due} g h w ln = record {
   at-is = w .at-is ∙ g .at-is;
   pos-is = omega (arith, w .pos-is, g .pos-is);

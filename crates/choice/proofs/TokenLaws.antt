@@ -6,41 +6,44 @@ use native.Mathlib.Numerals.{add-one}
 use borrow.Author.Tests.{eq-eqb, ne-eqb}
 use lib.ListN.{length, drop, drop-of-length-le, getD}
 use lib.Seq.{drop-cons}
-use Rattle.book.specs.Kind.{kindOf}
+use Rattle.book.specs.Kind.{kindOf, spaceKind, lineEndKind}
 use Rattle.book.specs.Text.{tokens}
-use Rattle.choice.specs.Token.{At, Seen, Lexed, kindAhead}
+use Rattle.choice.specs.Token.{At, Past, Lexed, kindAhead}
 use Rattle.choice.specs.declared.lexer.Cursor.{Cursor}
-use Rattle.choice.specs.declared.lexer.Next.{Next}
-use Rattle.choice.specs.declared.lexer.Next.the-variants.{Token, End}
+use Rattle.choice.specs.declared.lexer.Lexeme.{Lexeme}
 
 -- the bytes from i on are the byte at i and those past it
 front : (s : List ℕ) (i : ℕ) → i < length s → drop i s ≡ getD s i 0 ∷ drop (i + 1) s
 front s i h = rw (add-one, drop-cons s i 0)
 
 -- a space is passed
-pub tokens-space : (s : List ℕ) (i k : ℕ) → i < length s → k ≡ kindOf (getD s i 0) → k ≡ 14 → tokens (drop (i + 1) s) ≡ tokens (drop i s)
-tokens-space s i k h q e = rw (front s i h, eq-eqb (kindOf (getD s i 0)) 14 (sym q ∙ e))
+pub tokens-space : (s : List ℕ) (i k : ℕ) → i < length s → k ≡ kindOf (getD s i 0) → k ≡ spaceKind → tokens (drop (i + 1) s) ≡ tokens (drop i s)
+tokens-space s i k h q e = rw (front s i h, eq-eqb (kindOf (getD s i 0)) spaceKind (sym q ∙ e))
 
 -- anything else is a token
-pub tokens-other : (s : List ℕ) (i k : ℕ) → i < length s → k ≡ kindOf (getD s i 0) → (k ≡ 14 → ⊥) → tokens (drop i s) ≡ getD s i 0 ∷ tokens (drop (i + 1) s)
-tokens-other s i k h q e = rw (front s i h, ne-eqb (kindOf (getD s i 0)) 14 (λ w. e (q ∙ w)))
+pub tokens-other : (s : List ℕ) (i k : ℕ) → i < length s → k ≡ kindOf (getD s i 0) → (k ≡ spaceKind → ⊥) → tokens (drop i s) ≡ getD s i 0 ∷ tokens (drop (i + 1) s)
+tokens-other s i k h q e = rw (front s i h, ne-eqb (kindOf (getD s i 0)) spaceKind (λ w. e (q ∙ w)))
 
 -- past the end there is none
 pub tokens-end : (s : List ℕ) (i : ℕ) → length s ≤ i → tokens (drop i s) ≡ []
 tokens-end s i h = rw (drop-of-length-le s {i = i} h)
 
-pub lexed-token : {s : List ℕ} {at k b : ℕ} {n : Cursor} → At s at k b (n .at) → Lexed s at (record { kind = k; byte = b; next = n })
-lexed-token x = record { kind-is = x .kind-is ∙ sym (ap kindAhead (x .rest-is)); token = λ _. x }
+-- where the spaces end, a token stands, or the line's end
+pub past-token : {s : List ℕ} {at n : ℕ} → Past s at n → n < length s → tokens (drop at s) ≡ getD s n 0 ∷ tokens (drop (n + 1) s)
+past-token {s} {at} {n} p h = sym (p .same) ∙ tokens-other s n (kindOf (getD s n 0)) h refl (p .token h)
 
-pub lexed-end : {s : List ℕ} {n : Cursor} → tokens (drop (n .at) s) ≡ [] → Lexed s (n .at) (record { kind = 15; byte = 10; next = n })
-lexed-end e = record { kind-is = sym (ap kindAhead e); token = λ h. absurd (h refl) }
+pub past-end : {s : List ℕ} {at n : ℕ} → Past s at n → length s ≤ n → tokens (drop at s) ≡ []
+past-end {s} {at} {n} p h = sym (p .same) ∙ tokens-end s n h
 
--- what `next` says of its answer, case by case
-pub seen-token : {s : List ℕ} {at k b : ℕ} {n : Cursor} {r : Next} → Seen s at r → r ≡ Token k b n → At s at k b (n .at)
-seen-token d e = rw e at (d .sees)
+pub lexed-token : {s : List ℕ} {at k b : ℕ} {m n : Cursor} → Past s at (m .at) → At s at k b (n .at) → Lexed s at (record { kind = k; byte = b; start = m; next = n })
+lexed-token p x = record { start = p; kind-is = x .kind-is ∙ sym (ap kindAhead (x .rest-is)); token = λ _. x }
 
-pub seen-end : {s : List ℕ} {at : ℕ} {r : Next} → Seen s at r → r ≡ End → tokens (drop at s) ≡ []
-seen-end d e = rw e at (d .sees)
+pub lexed-end : {s : List ℕ} {at : ℕ} {m n : Cursor} → Past s at (m .at) → tokens (drop at s) ≡ [] → Lexed s at (record { kind = lineEndKind; byte = 10; start = m; next = n })
+lexed-end p e = record { start = p; kind-is = sym (ap kindAhead e); token = λ h. absurd (h refl) }
+
+-- its kind is that of what stands where the spaces end
+pub start-kind : {s : List ℕ} {at : ℕ} {t : Lexeme} → Lexed s at t → t .kind ≡ kindAhead (tokens (drop (t .start .at) s))
+start-kind d = d .kind-is ∙ ap kindAhead (sym (d .start .same))
 
 -- a token is one of the tokens left
 pub at-fewer : {s : List ℕ} {at k b n : ℕ} → At s at k b n → length (tokens (drop at s)) ≡ suc (length (tokens (drop n s)))

@@ -1,4 +1,5 @@
 -- What the functions of this crate promise.
+pub mod Kinds
 pub mod Token
 pub mod Buffer
 pub mod BufferLaws

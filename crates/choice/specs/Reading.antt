@@ -44,11 +44,11 @@ pub record Is (p : Part) (ts : List ℕ) (X : Read) : Type 0 where
 
 -- the tokens from a spot on
 abbrev pub left : List ℕ → Spot → List ℕ
-left s c = tokens (drop (c .at) s)
+left s c = tokens (drop (c .cursor .at) s)
 
 -- two bytes of the buffer for each byte left
 abbrev pub Room : List ℕ → List ℕ → Spot → Type 0
-Room s o c = c .pos + 2 * (length s - c .at) ≤ length o
+Room s o c = c .pos + 2 * (length s - c .cursor .at) ≤ length o
 
 -- The part p was read from c up to n; the code, of which the buffer o held what lies before c, goes on with that of the expression; what lies past
 -- it is as it was. Of the line's bytes at least one is used, and of the two bytes of code that each of them may have at least one is not.
@@ -58,8 +58,8 @@ pub record To (p : Part) (s o : List ℕ) (c : Spot) (o′ : List ℕ) (n : Spot
   pub code : take (n .pos) o′ ≡ take (c .pos) o ++ postfix expr
   pub grown : Grown o (c .pos) o′ (n .pos)
   pub fewer : length (left s n) < length (left s c)
-  pub falls : length s - n .at < length s - c .at
-  pub room : n .pos + 2 * (length s - n .at) < c .pos + 2 * (length s - c .at)
+  pub falls : length s - n .cursor .at < length s - c .cursor .at
+  pub room : n .pos + 2 * (length s - n .cursor .at) < c .pos + 2 * (length s - c .cursor .at)
 
 -- There is no p at c; the code so far is as it was.
 pub record Not (p : Part) (s o : List ℕ) (c : Spot) (o′ : List ℕ) : Type 0 where

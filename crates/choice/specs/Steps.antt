@@ -5,6 +5,7 @@ use mathlib.Core.List.{List, [], _∷_, _++_}
 use Prim.Native.Nat.{ℕ, zero, suc, _+_, _*_, _-_, _≤_}
 use lib.ListN.{length, take, drop}
 use Rattle.language.specs.Expression.{Expr, complement}
+use Rattle.book.specs.Kind.{bangKind}
 use Rattle.book.specs.Reader.{Read, got, andThen, repeats}
 use Rattle.book.specs.Text.{tokens}
 use Rattle.book.specs.Program.{postfix}
@@ -15,14 +16,14 @@ use Rattle.choice.specs.declared.Spot.{Spot}
 
 -- the code with one byte more
 pub record Put (o : List ℕ) (c : Spot) (b : ℕ) (o′ : List ℕ) (n : Spot) : Type 0 where
-  pub at-is : n .at ≡ c .at
+  pub at-is : n .cursor .at ≡ c .cursor .at
   pub pos-is : n .pos ≡ c .pos + 1
   pub code-is : take (n .pos) o′ ≡ take (c .pos) o ++ (b ∷ [])
   pub grown : Grown o (c .pos) o′ (n .pos)
 
 -- the same if there is more, else all as it was
 pub record PutIf (more : Bool) (o : List ℕ) (c : Spot) (b : ℕ) (o′ : List ℕ) (n : Spot) : Type 0 where
-  pub at-is : n .at ≡ c .at
+  pub at-is : n .cursor .at ≡ c .cursor .at
   pub put : more ≡ true → Put o c b o′ n
   pub same : more ≡ false → (o′ ≡ o) × (n ≡ c)
 
@@ -36,8 +37,8 @@ pub record Suffixed (s o : List ℕ) (c : Spot) (o′ : List ℕ) (n : Spot) : T
   pub goes : (before : List ℕ) (e : Expr) → take (c .pos) o ≡ before ++ postfix e → Repeated before e (left s c) (take (n .pos) o′) (left s n)
   pub grown : Grown o (c .pos) o′ (n .pos)
   pub fewer : length (left s n) ≤ length (left s c)
-  pub falls : length s - n .at ≤ length s - c .at
-  pub room : n .pos + 2 * (length s - n .at) ≤ c .pos + 2 * (length s - c .at)
+  pub falls : length s - n .cursor .at ≤ length s - c .cursor .at
+  pub room : n .pos + 2 * (length s - n .cursor .at) ≤ c .pos + 2 * (length s - c .cursor .at)
 
 -- the complement taken k times, of an expression and of what was read
 abbrev pub complements : ℕ → Expr → Expr
@@ -60,10 +61,10 @@ pub record Passed (s : List ℕ) (at n k : ℕ) : Type 0 where
 -- and n is where the last of them ends
 pub record Nots (s : List ℕ) (at n k : ℕ) : Type 0 where
   pub passed : Passed s at n k
-  pub none : (kindAhead (tokens (drop n s)) ≡ 6) → ⊥
+  pub none : (kindAhead (tokens (drop n s)) ≡ bangKind) → ⊥
 
 pub record Negated (o : List ℕ) (c : Spot) (k : ℕ) (o′ : List ℕ) (n : Spot) : Type 0 where
-  pub at-is : n .at ≡ c .at
+  pub at-is : n .cursor .at ≡ c .cursor .at
   pub pos-is : n .pos ≡ c .pos + k
   pub goes : (before : List ℕ) (e : Expr) → take (c .pos) o ≡ before ++ postfix e → take (n .pos) o′ ≡ before ++ postfix (complements k e)
   pub grown : Grown o (c .pos) o′ (n .pos)

@@ -3,11 +3,9 @@ use mathlib.Core.Path.{_≡_}
 use mathlib.Core.List.{List, [], _∷_}
 use Prim.Native.Nat.{ℕ, _-_, _<_, _≤_}
 use lib.ListN.{length, drop, getD}
-use Rattle.book.specs.Kind.{kindOf}
+use Rattle.book.specs.Kind.{kindOf, spaceKind, lineEndKind}
 use Rattle.book.specs.Text.{tokens}
 use Rattle.choice.specs.declared.lexer.Lexeme.{Lexeme}
-use Rattle.choice.specs.declared.lexer.Next.{Next}
-use Rattle.choice.specs.declared.lexer.Next.the-variants.{Token, End}
 
 -- the token k, b stands next from `at` on, and the bytes from `n` on are left
 pub record At (s : List ℕ) (at k b n : ℕ) : Type 0 where
@@ -19,20 +17,14 @@ pub record At (s : List ℕ) (at k b n : ℕ) : Type 0 where
 pub record Past (s : List ℕ) (at n : ℕ) : Type 0 where
   pub same : tokens (drop n s) ≡ tokens (drop at s)
   pub up : at ≤ n
-  pub token : n < length s → kindOf (getD s n 0) ≡ 14 → ⊥
+  pub token : n < length s → kindOf (getD s n 0) ≡ spaceKind → ⊥
 
-abbrev pub Sees : List ℕ → ℕ → Next → Type 0
-Sees s at (Token k b n) = At s at k b (n .at)
-Sees s at End = tokens (drop at s) ≡ []
-
-pub record Seen (s : List ℕ) (at : ℕ) (r : Next) : Type 0 where
-  pub sees : Sees s at r
-
--- the kind of the next token; the end counts as a line end
+-- the kind of the next token; behind the last stands the line's end
 abbrev pub kindAhead : List ℕ → ℕ
-kindAhead [] = 15
+kindAhead [] = lineEndKind
 kindAhead (b ∷ ts) = kindOf b
 
 pub record Lexed (s : List ℕ) (at : ℕ) (t : Lexeme) : Type 0 where
+  pub start : Past s at (t .start .at)
   pub kind-is : t .kind ≡ kindAhead (tokens (drop at s))
-  pub token : ((t .kind ≡ 15) → ⊥) → At s at (t .kind) (t .byte) (t .next .at)
+  pub token : ((t .kind ≡ lineEndKind) → ⊥) → At s at (t .kind) (t .byte) (t .next .at)

@@ -1,50 +1,317 @@
 // The kind of each byte of a book. The lexer knows bytes by their kinds only.
+use book::kinds::AMPERSAND_KIND;
+use book::kinds::AT_KIND;
+use book::kinds::BANG_KIND;
+use book::kinds::BAR_KIND;
+use book::kinds::CLOSE_KIND;
+use book::kinds::COLON_KIND;
+use book::kinds::DOT_KIND;
+use book::kinds::EQUALS_KIND;
+use book::kinds::GREATER_KIND;
+use book::kinds::LETTER_KIND;
+use book::kinds::LINE_END_KIND;
+use book::kinds::MINUS_KIND;
+use book::kinds::NAME_KIND;
+use book::kinds::OPEN_KIND;
+use book::kinds::PLUS_KIND;
+use book::kinds::QUESTION_KIND;
+use book::kinds::SLASH_KIND;
+use book::kinds::SPACE_KIND;
+use book::kinds::STAR_KIND;
+use book::kinds::STRAY_KIND;
+use book::kinds::UNDERSCORE_KIND;
 ghost use mathlib.Core.Path.{_≡_};
 ghost use Rattle.book.specs.Kind.{kindOf};
+ghost use Rattle.choice.specs.Kinds.{Kinds};
 
-// The table of the 256 bytes, row by row: stray 0, letter 1, name 2, then the signs in the order of `signs`. It is a `match` and no array: an array
-// would be written to the stack anew at each look, these rows become constants in the caller's own tests.
-pub fn kind(b: u8) -> u8
+pub type KindTable = [u8; 256];
+
+// "The kind of every byte .. is one constant table of 256 entries", a mark at each sixteenth.
+pub const KINDS: KindTable = [
+    // 0x00
+    STRAY_KIND,
+    STRAY_KIND,
+    STRAY_KIND,
+    STRAY_KIND,
+    STRAY_KIND,
+    STRAY_KIND,
+    STRAY_KIND,
+    STRAY_KIND,
+    STRAY_KIND,
+    STRAY_KIND,
+    LINE_END_KIND,
+    STRAY_KIND,
+    STRAY_KIND,
+    STRAY_KIND,
+    STRAY_KIND,
+    STRAY_KIND,
+    // 0x10
+    STRAY_KIND,
+    STRAY_KIND,
+    STRAY_KIND,
+    STRAY_KIND,
+    STRAY_KIND,
+    STRAY_KIND,
+    STRAY_KIND,
+    STRAY_KIND,
+    STRAY_KIND,
+    STRAY_KIND,
+    STRAY_KIND,
+    STRAY_KIND,
+    STRAY_KIND,
+    STRAY_KIND,
+    STRAY_KIND,
+    STRAY_KIND,
+    // 0x20
+    SPACE_KIND,
+    BANG_KIND,
+    STRAY_KIND,
+    STRAY_KIND,
+    STRAY_KIND,
+    STRAY_KIND,
+    AMPERSAND_KIND,
+    STRAY_KIND,
+    OPEN_KIND,
+    CLOSE_KIND,
+    STAR_KIND,
+    PLUS_KIND,
+    STRAY_KIND,
+    MINUS_KIND,
+    DOT_KIND,
+    SLASH_KIND,
+    // 0x30
+    STRAY_KIND,
+    STRAY_KIND,
+    STRAY_KIND,
+    STRAY_KIND,
+    STRAY_KIND,
+    STRAY_KIND,
+    STRAY_KIND,
+    STRAY_KIND,
+    STRAY_KIND,
+    STRAY_KIND,
+    COLON_KIND,
+    STRAY_KIND,
+    STRAY_KIND,
+    EQUALS_KIND,
+    GREATER_KIND,
+    QUESTION_KIND,
+    // 0x40
+    AT_KIND,
+    NAME_KIND,
+    NAME_KIND,
+    NAME_KIND,
+    NAME_KIND,
+    NAME_KIND,
+    NAME_KIND,
+    NAME_KIND,
+    NAME_KIND,
+    NAME_KIND,
+    NAME_KIND,
+    NAME_KIND,
+    NAME_KIND,
+    NAME_KIND,
+    NAME_KIND,
+    NAME_KIND,
+    // 0x50
+    NAME_KIND,
+    NAME_KIND,
+    NAME_KIND,
+    NAME_KIND,
+    NAME_KIND,
+    NAME_KIND,
+    NAME_KIND,
+    NAME_KIND,
+    NAME_KIND,
+    NAME_KIND,
+    NAME_KIND,
+    STRAY_KIND,
+    STRAY_KIND,
+    STRAY_KIND,
+    STRAY_KIND,
+    UNDERSCORE_KIND,
+    // 0x60
+    STRAY_KIND,
+    LETTER_KIND,
+    LETTER_KIND,
+    LETTER_KIND,
+    LETTER_KIND,
+    LETTER_KIND,
+    LETTER_KIND,
+    LETTER_KIND,
+    LETTER_KIND,
+    LETTER_KIND,
+    LETTER_KIND,
+    LETTER_KIND,
+    LETTER_KIND,
+    LETTER_KIND,
+    LETTER_KIND,
+    LETTER_KIND,
+    // 0x70
+    LETTER_KIND,
+    LETTER_KIND,
+    LETTER_KIND,
+    LETTER_KIND,
+    LETTER_KIND,
+    LETTER_KIND,
+    LETTER_KIND,
+    LETTER_KIND,
+    LETTER_KIND,
+    LETTER_KIND,
+    LETTER_KIND,
+    STRAY_KIND,
+    BAR_KIND,
+    STRAY_KIND,
+    STRAY_KIND,
+    STRAY_KIND,
+    // 0x80
+    STRAY_KIND,
+    STRAY_KIND,
+    STRAY_KIND,
+    STRAY_KIND,
+    STRAY_KIND,
+    STRAY_KIND,
+    STRAY_KIND,
+    STRAY_KIND,
+    STRAY_KIND,
+    STRAY_KIND,
+    STRAY_KIND,
+    STRAY_KIND,
+    STRAY_KIND,
+    STRAY_KIND,
+    STRAY_KIND,
+    STRAY_KIND,
+    // 0x90
+    STRAY_KIND,
+    STRAY_KIND,
+    STRAY_KIND,
+    STRAY_KIND,
+    STRAY_KIND,
+    STRAY_KIND,
+    STRAY_KIND,
+    STRAY_KIND,
+    STRAY_KIND,
+    STRAY_KIND,
+    STRAY_KIND,
+    STRAY_KIND,
+    STRAY_KIND,
+    STRAY_KIND,
+    STRAY_KIND,
+    STRAY_KIND,
+    // 0xA0
+    STRAY_KIND,
+    STRAY_KIND,
+    STRAY_KIND,
+    STRAY_KIND,
+    STRAY_KIND,
+    STRAY_KIND,
+    STRAY_KIND,
+    STRAY_KIND,
+    STRAY_KIND,
+    STRAY_KIND,
+    STRAY_KIND,
+    STRAY_KIND,
+    STRAY_KIND,
+    STRAY_KIND,
+    STRAY_KIND,
+    STRAY_KIND,
+    // 0xB0
+    STRAY_KIND,
+    STRAY_KIND,
+    STRAY_KIND,
+    STRAY_KIND,
+    STRAY_KIND,
+    STRAY_KIND,
+    STRAY_KIND,
+    STRAY_KIND,
+    STRAY_KIND,
+    STRAY_KIND,
+    STRAY_KIND,
+    STRAY_KIND,
+    STRAY_KIND,
+    STRAY_KIND,
+    STRAY_KIND,
+    STRAY_KIND,
+    // 0xC0
+    STRAY_KIND,
+    STRAY_KIND,
+    STRAY_KIND,
+    STRAY_KIND,
+    STRAY_KIND,
+    STRAY_KIND,
+    STRAY_KIND,
+    STRAY_KIND,
+    STRAY_KIND,
+    STRAY_KIND,
+    STRAY_KIND,
+    STRAY_KIND,
+    STRAY_KIND,
+    STRAY_KIND,
+    STRAY_KIND,
+    STRAY_KIND,
+    // 0xD0
+    STRAY_KIND,
+    STRAY_KIND,
+    STRAY_KIND,
+    STRAY_KIND,
+    STRAY_KIND,
+    STRAY_KIND,
+    STRAY_KIND,
+    STRAY_KIND,
+    STRAY_KIND,
+    STRAY_KIND,
+    STRAY_KIND,
+    STRAY_KIND,
+    STRAY_KIND,
+    STRAY_KIND,
+    STRAY_KIND,
+    STRAY_KIND,
+    // 0xE0
+    STRAY_KIND,
+    STRAY_KIND,
+    STRAY_KIND,
+    STRAY_KIND,
+    STRAY_KIND,
+    STRAY_KIND,
+    STRAY_KIND,
+    STRAY_KIND,
+    STRAY_KIND,
+    STRAY_KIND,
+    STRAY_KIND,
+    STRAY_KIND,
+    STRAY_KIND,
+    STRAY_KIND,
+    STRAY_KIND,
+    STRAY_KIND,
+    // 0xF0
+    STRAY_KIND,
+    STRAY_KIND,
+    STRAY_KIND,
+    STRAY_KIND,
+    STRAY_KIND,
+    STRAY_KIND,
+    STRAY_KIND,
+    STRAY_KIND,
+    STRAY_KIND,
+    STRAY_KIND,
+    STRAY_KIND,
+    STRAY_KIND,
+    STRAY_KIND,
+    STRAY_KIND,
+    STRAY_KIND,
+    STRAY_KIND,
+];
+
+// The table, laid out once: an entry lends it to whatever looks at bytes.
+pub fn table() -> KindTable
+    ensures { λ r. ⌜ Kinds r ⌝ }
+{
+    KINDS
+}
+
+pub fn kind(kinds: &KindTable, b: u8) -> u8
+    requires { ⌜ Kinds (now kinds) ⌝ }
     ensures { λ r. ⌜ r ≡ kindOf b ⌝ }
 {
-    match b {
-        0..=31 => match b {
-            b'\n' => 15,
-            _ => 0,
-        },
-        32..=39 => match b {
-            b' ' => 14,
-            b'!' => 6,
-            b'&' => 10,
-            _ => 0,
-        },
-        40..=47 => match b {
-            b'(' => 5,
-            b')' => 13,
-            b'*' => 7,
-            b'+' => 8,
-            b'-' => 11,
-            b'.' => 3,
-            b'/' => 19,
-            _ => 0,
-        },
-        48..=63 => match b {
-            b':' => 16,
-            b'=' => 17,
-            b'>' => 18,
-            b'?' => 9,
-            _ => 0,
-        },
-        64..=96 => match b {
-            b'@' => 4,
-            b'_' => 20,
-            b'A'..=b'Z' => 2,
-            _ => 0,
-        },
-        _ => match b {
-            b'|' => 12,
-            b'a'..=b'z' => 1,
-            _ => 0,
-        },
-    }
+    kinds[b as usize]
 }

@@ -1,67 +1,60 @@
 // A cursor by value over a line's bytes: it skips spaces, gives one token and hands itself back past it.
+use crate::kinds::KindTable;
 use crate::kinds::kind;
-ghost use Rattle.choice.specs.Token.{Past, Seen, Lexed};
+use book::kinds::LINE_END_KIND;
+use book::kinds::SPACE_KIND;
+ghost use Rattle.choice.specs.Kinds.{Kinds};
+ghost use Rattle.choice.specs.Token.{Past, Lexed};
 
 pub struct Cursor {
     pub at: usize,
 }
 
-// The next token, as its kind and its byte, with the cursor past it; or the end of the bytes.
-pub enum Next {
-    Token(u8, u8, Cursor),
-    End,
-}
-
-// The same as numbers. The end has the kind of a line end, with which no part of a choice begins or goes on.
+// A token, as its kind and its byte, with the cursor before it, where the spaces end, and past it. At the line's end it is the line's end, with which
+// no part of a choice begins or goes on, and the cursor stays.
 pub struct Lexeme {
     pub kind: u8,
     pub byte: u8,
+    pub start: Cursor,
     pub next: Cursor,
 }
 
-// Past the spaces from `at` on: where the next token stands, or the end of the bytes.
-pub fn past_spaces(s: &[u8], at: usize) -> usize
-    ensures { λ r. ⌜ Past (now (s .entry)) at r ⌝ }
-{
-    let mut i = at;
-    while i < s.len() {
-        if kind(s[i]) != 14 {
-            return i;
-        }
-        i += 1;
-    }
-    i
-}
-
 impl Cursor {
-    pub fn next(self, s: &[u8]) -> Next
-        ensures { λ r. ⌜ Seen (now (s .entry)) (self .at) r ⌝ }
+    // Past the spaces, to where the next token stands, or the line's end.
+    pub fn skip(self, kinds: &KindTable, s: &[u8]) -> Cursor
+        requires { ⌜ Kinds (now kinds) ⌝ }
+        ensures { λ r. ⌜ Past (now (s .entry)) (self .at) (r .at) ⌝ }
     {
-        let at = past_spaces(s, self.at);
-        if at < s.len() {
-            let b = s[at];
-            return Next::Token(kind(b), b, Cursor { at: at + 1 });
+        let mut at = self.at;
+        while at < s.len() {
+            if kind(kinds, s[at]) != SPACE_KIND {
+                return Cursor { at };
+            }
+            at += 1;
         }
-        Next::End
+        Cursor { at }
     }
 
-    // Not by `next`, whose enum would be answered through memory: this one becomes tests of the byte in its callers.
-    pub fn token(self, s: &[u8]) -> Lexeme
+    pub fn token(self, kinds: &KindTable, s: &[u8]) -> Lexeme
+        requires { ⌜ Kinds (now kinds) ⌝ }
         ensures { λ r. ⌜ Lexed (now (s .entry)) (self .at) r ⌝ }
     {
-        let at = past_spaces(s, self.at);
+        let start = self.skip(kinds, s);
+        let at = start.at;
         if at < s.len() {
             let b = s[at];
             return Lexeme {
-                kind: kind(b),
+                kind: kind(kinds, b),
                 byte: b,
+                start,
                 next: Cursor { at: at + 1 },
             };
         }
         Lexeme {
-            kind: 15,
-            byte: 10,
-            next: self,
+            kind: LINE_END_KIND,
+            byte: b'\n',
+            start,
+            next: start,
         }
     }
 }

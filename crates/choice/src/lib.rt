@@ -1,20 +1,34 @@
 // Reads a choice of a line and writes its postfix code into a lent buffer: choice, blend, chain, item and atom call each other. Each call is at a
 // later byte of the line, or of a smaller part: only brackets make calls deeper. What goes before or behind an item is passed by loops. Each of the
 // five is called from one place alone, so that they become one function in the machine code, and only a bracket is a call.
-// `choice` is a part below the entries: its caller has counted the brackets and lends two bytes of code for each byte that is left of the line.
+// `choice` is a part below the entries: its caller lends the table of kinds, has counted the brackets and lends two bytes of code for each byte that
+// is left of the line.
 pub mod kinds;
 pub mod lexer;
 
+use book::codes::COMPLEMENT_CODE;
+use book::codes::EITHER_CODE;
+use book::codes::JOIN_CODE;
+use book::kinds::AMPERSAND_KIND;
+use book::kinds::BANG_KIND;
+use book::kinds::BAR_KIND;
+use book::kinds::CLOSE_KIND;
+use book::kinds::LETTER_KIND;
+use book::kinds::MINUS_KIND;
+use book::kinds::OPEN_KIND;
+use book::kinds::QUESTION_KIND;
+use book::kinds::STAR_KIND;
+use kinds::KindTable;
 use lexer::Cursor;
-use lexer::past_spaces;
 ghost use Prim.Native.Nat.{_+_, _<_, _≤_};
 ghost use lib.ListN.{length};
+ghost use Rattle.choice.specs.Kinds.{Kinds};
 ghost use Rattle.choice.specs.Reading.{Room, Reads, a-choice, a-blend, a-chain, an-item, an-atom};
 ghost use Rattle.choice.specs.Steps.{Put, PutIf, Suffixed, Nots, Negated};
 
 // How far the line is read, and how far the code is written.
 pub struct Spot {
-    pub at: usize,
+    pub cursor: Cursor,
     pub pos: usize,
 }
 
@@ -25,7 +39,7 @@ pub enum Made {
 
 // How many '!' stand in a row, and where they end.
 struct Negations {
-    at: usize,
+    cursor: Cursor,
     count: usize,
 }
 
@@ -34,10 +48,11 @@ fn put(out: &mut [u8], c: Spot, b: u8) -> Spot
     requires { ⌜ c .pos < length (now out) ⌝ }
     ensures { λ r. ⌜ Put (now (out .entry)) c b (now (out .exit)) r ⌝ }
 {
+    let cursor = c.cursor;
     let pos = c.pos;
     out[pos] = b;
     Spot {
-        at: c.at,
+        cursor,
         pos: pos + 1,
     }
 }
@@ -54,83 +69,83 @@ fn put_if(out: &mut [u8], c: Spot, more: bool, b: u8) -> Spot
 }
 
 // Blends separated by '|'.
-pub fn choice(s: &[u8], out: &mut [u8], c: Spot) -> Made
-    requires { ⌜ Room (now s) (now out) c ⌝ }
+pub fn choice(kinds: &KindTable, s: &[u8], out: &mut [u8], c: Spot) -> Made
+    requires { ⌜ Kinds (now kinds) × Room (now s) (now out) c ⌝ }
     ensures { λ r. ⌜ Reads a-choice (now (s .entry)) (now (out .entry)) c (now (out .exit)) r ⌝ }
 {
     let mut here = c;
     let mut more = false;
     loop {
-        let Made::Done(n) = blend(s, out, here) else {
+        let Made::Done(n) = blend(kinds, s, out, here) else {
             return Made::Refused;
         };
-        let end = put_if(out, n, more, 124);
-        let at = end.at;
-        let t = Cursor { at }.token(s);
+        let end = put_if(out, n, more, EITHER_CODE);
+        let cursor = end.cursor;
+        let t = cursor.token(kinds, s);
         let k = t.kind;
-        if k != 12 {
+        if k != BAR_KIND {
             return Made::Done(end);
         }
         more = true;
         let next = t.next;
         here = Spot {
-            at: next.at,
+            cursor: next,
             pos: end.pos,
         };
     }
 }
 
 // Chains separated by '&' or '-', each of which is its own code.
-fn blend(s: &[u8], out: &mut [u8], c: Spot) -> Made
-    requires { ⌜ Room (now s) (now out) c ⌝ }
+fn blend(kinds: &KindTable, s: &[u8], out: &mut [u8], c: Spot) -> Made
+    requires { ⌜ Kinds (now kinds) × Room (now s) (now out) c ⌝ }
     ensures { λ r. ⌜ Reads a-blend (now (s .entry)) (now (out .entry)) c (now (out .exit)) r ⌝ }
 {
     let mut here = c;
     let mut more = false;
     let mut operator: u8 = 0;
     loop {
-        let Made::Done(n) = chain(s, out, here) else {
+        let Made::Done(n) = chain(kinds, s, out, here) else {
             return Made::Refused;
         };
         let end = put_if(out, n, more, operator);
-        let at = end.at;
-        let t = Cursor { at }.token(s);
+        let cursor = end.cursor;
+        let t = cursor.token(kinds, s);
         let k = t.kind;
-        if k < 10 {
+        if k < AMPERSAND_KIND {
             return Made::Done(end);
         }
-        if 11 < k {
+        if MINUS_KIND < k {
             return Made::Done(end);
         }
         operator = t.byte;
         more = true;
         let next = t.next;
         here = Spot {
-            at: next.at,
+            cursor: next,
             pos: end.pos,
         };
     }
 }
 
 // One item or more in a row.
-fn chain(s: &[u8], out: &mut [u8], c: Spot) -> Made
-    requires { ⌜ Room (now s) (now out) c ⌝ }
+fn chain(kinds: &KindTable, s: &[u8], out: &mut [u8], c: Spot) -> Made
+    requires { ⌜ Kinds (now kinds) × Room (now s) (now out) c ⌝ }
     ensures { λ r. ⌜ Reads a-chain (now (s .entry)) (now (out .entry)) c (now (out .exit)) r ⌝ }
 {
     let mut here = c;
     let mut more = false;
     loop {
-        let Made::Done(n) = item(s, out, here) else {
+        let Made::Done(n) = item(kinds, s, out, here) else {
             return Made::Refused;
         };
-        let end = put_if(out, n, more, 59);
-        let at = end.at;
-        let t = Cursor { at }.token(s);
+        let end = put_if(out, n, more, JOIN_CODE);
+        let cursor = end.cursor;
+        let t = cursor.token(kinds, s);
         let k = t.kind;
-        if k < 1 {
+        if k < LETTER_KIND {
             return Made::Done(end);
         }
-        if 6 < k {
+        if BANG_KIND < k {
             return Made::Done(end);
         }
         more = true;
@@ -139,70 +154,68 @@ fn chain(s: &[u8], out: &mut [u8], c: Spot) -> Made
 }
 
 // '!' before an item, or an atom with its suffixes. The '!' before it are counted, and their codes written behind it.
-fn item(s: &[u8], out: &mut [u8], c: Spot) -> Made
-    requires { ⌜ Room (now s) (now out) c ⌝ }
+fn item(kinds: &KindTable, s: &[u8], out: &mut [u8], c: Spot) -> Made
+    requires { ⌜ Kinds (now kinds) × Room (now s) (now out) c ⌝ }
     ensures { λ r. ⌜ Reads an-item (now (s .entry)) (now (out .entry)) c (now (out .exit)) r ⌝ }
 {
-    let first = nots(s, c.at);
-    let Made::Done(n) = atom(
-        s,
-        out,
-        Spot {
-            at: first.at,
-            pos: c.pos,
-        },
-    ) else {
+    let from = c.cursor;
+    let first = nots(kinds, s, from);
+    let cursor = first.cursor;
+    let Made::Done(n) = atom(kinds, s, out, Spot { cursor, pos: c.pos }) else {
         return Made::Refused;
     };
-    let m = suffixed(s, out, n);
+    let m = suffixed(kinds, s, out, n);
     Made::Done(negate(out, m, first.count))
 }
 
 // Past any number of '!', counting them, and past the spaces behind them.
-fn nots(s: &[u8], at: usize) -> Negations
-    ensures { λ r. ⌜ Nots (now (s .entry)) at (r .at) (r .count) ⌝ }
+fn nots(kinds: &KindTable, s: &[u8], from: Cursor) -> Negations
+    requires { ⌜ Kinds (now kinds) ⌝ }
+    ensures { λ r. ⌜ Nots (now (s .entry)) (from .at) (r .cursor .at) (r .count) ⌝ }
 {
-    let mut here = Negations { at, count: 0 };
+    let mut here = from;
+    let mut count: usize = 0;
     loop {
-        let at = past_spaces(s, here.at);
-        let t = Cursor { at }.token(s);
+        let t = here.token(kinds, s);
         let k = t.kind;
-        if k != 6 {
-            return Negations {
-                at,
-                count: here.count,
-            };
+        if k != BANG_KIND {
+            let cursor = t.start;
+            return Negations { cursor, count };
         }
-        let next = t.next;
-        here = Negations {
-            at: next.at,
-            count: here.count + 1,
-        };
+        count += 1;
+        here = t.next;
     }
 }
 
 // Past any number of '*', '+' and '?', each of which is its own code, and past the spaces behind them: the calls above look at the next token at once.
-fn suffixed(s: &[u8], out: &mut [u8], c: Spot) -> Spot
-    requires { ⌜ Room (now s) (now out) c ⌝ }
+fn suffixed(kinds: &KindTable, s: &[u8], out: &mut [u8], c: Spot) -> Spot
+    requires { ⌜ Kinds (now kinds) × Room (now s) (now out) c ⌝ }
     ensures { λ r. ⌜ Suffixed (now (s .entry)) (now (out .entry)) c (now (out .exit)) r ⌝ }
 {
     let mut here = c;
     loop {
-        let at = past_spaces(s, here.at);
-        let t = Cursor { at }.token(s);
+        let behind = here.cursor;
+        let t = behind.token(kinds, s);
         let k = t.kind;
-        if k < 7 {
-            return Spot { at, pos: here.pos };
+        let cursor = t.start;
+        if k < STAR_KIND {
+            return Spot {
+                cursor,
+                pos: here.pos,
+            };
         }
-        if 9 < k {
-            return Spot { at, pos: here.pos };
+        if QUESTION_KIND < k {
+            return Spot {
+                cursor,
+                pos: here.pos,
+            };
         }
         let sign = t.byte;
         let next = t.next;
         here = put(
             out,
             Spot {
-                at: next.at,
+                cursor: next,
                 pos: here.pos,
             },
             sign,
@@ -218,47 +231,47 @@ fn negate(out: &mut [u8], c: Spot, count: usize) -> Spot
     let mut here = c;
     let mut due = count;
     while 0 < due {
-        here = put(out, here, 33);
+        here = put(out, here, COMPLEMENT_CODE);
         due -= 1;
     }
     here
 }
 
 // A letter, a name, '.' or '@', each of which is its own code; or a choice in brackets.
-fn atom(s: &[u8], out: &mut [u8], c: Spot) -> Made
-    requires { ⌜ Room (now s) (now out) c ⌝ }
+fn atom(kinds: &KindTable, s: &[u8], out: &mut [u8], c: Spot) -> Made
+    requires { ⌜ Kinds (now kinds) × Room (now s) (now out) c ⌝ }
     ensures { λ r. ⌜ Reads an-atom (now (s .entry)) (now (out .entry)) c (now (out .exit)) r ⌝ }
 {
-    let at = c.at;
-    let t = Cursor { at }.token(s);
+    let cursor = c.cursor;
+    let t = cursor.token(kinds, s);
     let k = t.kind;
     let leaf = t.byte;
     let next = t.next;
     let past = Spot {
-        at: next.at,
+        cursor: next,
         pos: c.pos,
     };
-    if k < 1 {
+    if k < LETTER_KIND {
         return Made::Refused;
     }
-    if k < 5 {
+    if k < OPEN_KIND {
         return Made::Done(put(out, past, leaf));
     }
-    if k != 5 {
+    if k != OPEN_KIND {
         return Made::Refused;
     }
-    let Made::Done(n) = choice(s, out, past) else {
+    let Made::Done(n) = choice(kinds, s, out, past) else {
         return Made::Refused;
     };
-    let end = n.at;
-    let e = Cursor { at: end }.token(s);
+    let inside = n.cursor;
+    let e = inside.token(kinds, s);
     let ek = e.kind;
-    if ek != 13 {
+    if ek != CLOSE_KIND {
         return Made::Refused;
     }
     let behind = e.next;
     Made::Done(Spot {
-        at: behind.at,
+        cursor: behind,
         pos: n.pos,
     })
 }

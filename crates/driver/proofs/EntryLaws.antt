@@ -1,6 +1,6 @@
 -- The entry: line 1, the card, and the refusals 1, 2 and 11.
 use mathlib.Core.Path.{_≡_, refl, sym, ap, _∙_, subst}
-use mathlib.Core.Bool.{Bool, true, false, _&&_, false≢true}
+use mathlib.Core.Bool.{Bool, true, false, _&&_}
 use mathlib.Core.Logic.{inl, inr}
 use mathlib.Core.List.{List, [], _∷_, _++_}
 use Prim.Native.Nat.{ℕ, zero, suc, _+_, _-_, _≤_, _<_}
@@ -22,10 +22,10 @@ use Rattle.book.specs.Line as L
 use Rattle.book.specs.Line.{HeadRead, letters, readHead}
 use Rattle.book.specs.HeadLaws.{Letters, head-elim, head-letters}
 use Rattle.compiler.specs.Allows.{allows}
-use Rattle.compiler.specs.Book.{BookResult, done, stopped, compileLines, startDraft, afterHead, compileHead, compileText, compileBook}
+use Rattle.compiler.specs.Book.{done, stopped, compileLines, startDraft, afterHead, compileHead, compileText, compileBook}
 use Rattle.compiler.specs.BookLaws.{accepted-right}
 use Rattle.compiler.specs.Outcome.{card, stop, answer, most, written, outcome, enough}
-use Rattle.stages.specs.Slot.{slotMachine, Holds}
+use Rattle.stages.specs.Slot.{slotMachine}
 use Rattle.writer.specs.Written.{Kept, keptCard}
 use Rattle.writer.specs.Written as W
 use Rattle.writer.specs.declared.Wrote.{Wrote}
@@ -35,14 +35,15 @@ use Rattle.reader.specs.Lines.{lineOf, lineAt, Ends}
 use Rattle.reader.specs.Head.{headOf}
 use Rattle.reader.specs.declared.head.Head.{Head}
 use Rattle.reader.specs.declared.head.Head as head
-use Rattle.driver.specs.Stored.{InSlot, Begins}
-use Rattle.driver.specs.Lines.{Drafted, LinesSay, CompilesLines, Going, Placed}
-use Rattle.driver.specs.Entry.{documented, lentLengths, Answers, Writable, cardOrStop, PutsCard, Headed, Lent}
+use Rattle.kept.specs.Stored.{InSlot}
+use Rattle.lines.specs.Lines.{linesFrom, Lent, LinesSay, CompilesLines}
+use Rattle.lines.specs.declared.Ended.{Ended}
+use Rattle.lines.specs.declared.Ended.the-variants as ended
+use Rattle.driver.specs.Entry.{documented, lentLengths, Answers, Writable, cardOrStop, PutsCard, Headed, FirstLine, Heads, OpensSay, Opens}
 use Rattle.driver.specs.declared.Compiled.{Compiled}
 use Rattle.driver.specs.declared.Compiled.the-variants.{Card, Refused}
-use Rattle.driver.specs.declared.progress.Book.{Book}
-use Rattle.driver.specs.declared.lines.Ended.{Ended}
-use Rattle.driver.specs.declared.lines.Ended.the-variants as ended
+use Rattle.driver.specs.declared.Opened.{Opened}
+use Rattle.driver.specs.declared.Opened.the-variants as opened
 
 -- a refusal leaves the card buffer as it was
 pub stops : (n at : ℕ) (old : List ℕ) → Answers (stop n at) old old (Refused n at)
@@ -110,77 +111,40 @@ module _ (ls slot : List ℕ) (n : ℕ) (e : n ≡ numberAt slot 0) where
 
 -- ---- the lines
 
--- The book starts as `.*`, without a name.
-pub drafted-start : (ls : List ℕ) (b : Book) (low high registers : List ℕ) → Begins (length ls) registers → N.Holds (b .names) [] → b .ruled ≡ false → b .peak ≡ 0
-    → Drafted ls (startDraft (length ls)) b low high registers
-drafted-start ls b low high registers H n r p = record {
-  stored = record { names = λ x i m. absurd (false≢true m); registers = H .registers };
-  names = n;
-  ruled = r;
-  peak = p;
-}
-
-pub going-start : (text ls : List ℕ) (next : ℕ) (b : Book) (low high registers registers′ stack stack′ rows table work code : List ℕ) → Headed text ls next → Lent low high registers stack rows table work code
-    → length registers′ ≡ length registers → length stack′ ≡ length stack → Drafted ls (startDraft (length ls)) b low high registers′ → b .line ≡ 2 → b .at ≡ next
-    → Going text ls b low high registers′ stack′ rows table work code × Placed text b
-going-start text ls next b low high registers registers′ stack stack′ rows table work code T L e f D ln at = (
-  record {
-    draft = startDraft (length ls);
-    drafted = D;
-    letters = T .letters;
-    line = omega (arith, ln);
-    room = record {
-      low = L .room .low;
-      high = L .room .high;
-      registers = omega (arith, L .room .registers, e);
-      stack = omega (arith, L .room .stack, f);
-      rows = L .room .rows;
-      table = L .room .table;
-      work = L .room .work;
-    };
-    long = omega (arith, L .long, T .short);
-  },
-  record { short = T .short; at = omega (arith, at, T .at); line = omega (arith, ln) },
-)
-
-module _ (text ls : List ℕ) (next : ℕ) (T : Headed text ls next) (b : Book) (low high registers registers′ : List ℕ) (r : Ended) (C : CompilesLines text ls b low high registers registers′ r)
-    (D : Drafted ls (startDraft (length ls)) b low high registers) (at : b .at ≡ next) (ln : b .line ≡ 2) where
-  said : (q : Ended) → r ≡ q → LinesSay text ls (startDraft (length ls)) b registers′ q
-  said q e = subst (LinesSay text ls (startDraft (length ls)) b registers′) e (C .says (startDraft (length ls)) D)
-
-  book : (x : BookResult) → compileLines narrow ls (linesOf (drop (b .at) text)) (b .line) (startDraft (length ls)) ≡ x → compileBook narrow text ≡ x
-  book x e = T .is ∙ (rw (at, ln) at e)
+module _ (text ls : List ℕ) (next : ℕ) (T : Headed text ls next) (registers : List ℕ) (r : Ended) (C : CompilesLines text ls next registers r) where
+  said : (q : Ended) → r ≡ q → LinesSay text ls next registers q
+  said q e = subst (LinesSay text ls next registers) e (C .says)
 
   -- the machine of a book that was compiled
-  pub writable : (p : ℕ) → r ≡ ended.Done p → Writable ls registers′
+  pub writable : (p : ℕ) → r ≡ ended.Done p → Writable ls registers
   writable p q =
       let (d, e, _, H) = said (ended.Done p) q in
-      let R : Right (length ls) (d .kept) (allows text) = accepted-right narrow text ls d (book (done ls d) e) in
+      let R : Right (length ls) (d .kept) (allows text) = accepted-right narrow text ls d (T .is ∙ e) in
       record {
         machine = d .kept;
         held = H;
-        few = T .letters .1;
+        few = T .placed .letters .1;
         canonical = R .recognizes .canonical;
         unmarked = λ w o t. R .letters w (sym (R .recognizes .exact w o) ∙ t);
       }
 
-  pub lines-put : (p : ℕ) (old new : List ℕ) (x : Compiled) → r ≡ ended.Done p → PutsCard ls registers′ p old new x → Answers (written narrow (length old) (compileBook narrow text)) old new x
+  pub lines-put : (p : ℕ) (old new : List ℕ) (x : Compiled) → r ≡ ended.Done p → PutsCard ls registers p old new x → Answers (written narrow (length old) (compileBook narrow text)) old new x
   lines-put p old new x q P =
       let (d, e, m, H) = said (ended.Done p) q in
-      let z : compileBook narrow text ≡ done ls d = book (done ls d) e in
+      let z : compileBook narrow text ≡ done ls d = T .is ∙ e in
       rw z (subst (λ p. Answers (cardOrStop ls (d .kept) p (length old)) old new x) m (P .says (d .kept) H))
 
   pub lines-stop : (n l : ℕ) (old : List ℕ) → r ≡ ended.Refused n l → Answers (written narrow (length old) (compileBook narrow text)) old old (Refused n l)
   lines-stop n l old q =
-      let z : compileBook narrow text ≡ stopped n l = book (stopped n l) (said (ended.Refused n l) q) in
+      let z : compileBook narrow text ≡ stopped n l = T .is ∙ said (ended.Refused n l) q in
       rw z (stops n l old)
 
 -- ---- line 1
 
-pub no-bytes : (text old : List ℕ) → length text ≡ 0 → Answers (written narrow (length old) (compileBook narrow text)) old old (Refused 5 1)
+pub no-bytes : (text : List ℕ) → length text ≡ 0 → Heads text (opened.Refused 5 1)
 unfolding compileBook compileText
-no-bytes [] old e = stops 5 1 old
-no-bytes (b ∷ text) old e = absurd (omega arith)
+no-bytes [] e = record { says = refl }
+no-bytes (b ∷ text) e = absurd (omega arith)
 
 behind-is : (l : Line) → lettersOf l ≡ drop 1 (l .bytes)
 behind-is l = go (l .bytes) (l .ended)
@@ -222,7 +186,7 @@ module _ (text : List ℕ) (end : ℕ) (E : Ends text 0 end) (h : 0 < length tex
   book-head = ap (compileText narrow) (E .lines h)
 
   pub headed : (m : ℕ) (x : Head) → readHead narrow (lineAt text 0 end) ≡ headOf (lineAt text 0 end .bytes) x → x ≡ head.the-variants.Letters m → length text ≤ 16384
-      → Headed text (take (end - 1) (drop 1 text)) (end + 1) × (1 ≤ end)
+      → Heads text (opened.Lines end)
   headed m x e q s =
       let f : readHead narrow (lineAt text 0 end) ≡ letters (take m (drop 1 (lineAt text 0 end .bytes))) = rw q at e in
       let (z, K) = head-read (lineAt text 0 end) (take m (drop 1 (lineAt text 0 end .bytes))) f in
@@ -231,39 +195,58 @@ module _ (text : List ℕ) (end : ℕ) (E : Ends text 0 end) (h : 0 < length tex
       let one : 1 ≤ end = some end (K′ .least) in
       let y : drop 1 (lineAt text 0 end .bytes) ≡ take (end - 1) (drop 1 text) = behind-colon text end one in
       let H : Headed text (drop 1 (lineAt text 0 end .bytes)) (suc end) = record {
-        is = book-head ∙ ap (λ r. afterHead r (λ ls. compileLines narrow ls (linesOf (drop (suc end) text)) 2 (startDraft (length ls)))) g;
-        letters = (K′ .least, K′ .most);
-        at = omega (arith, E .within);
-        short = s;
+        is = book-head ∙ ap (λ r. afterHead r (λ ls. linesFrom text ls (suc end))) g;
+        placed = record { letters = (K′ .least, K′ .most); short = s; at = omega (arith, E .within) };
       } in
-      (subst (λ n. Headed text (take (end - 1) (drop 1 text)) n) (sym (add-one end)) (subst (λ l. Headed text l (suc end)) y H), one)
+      record {
+        says = record {
+          headed = subst (λ n. Headed text (take (end - 1) (drop 1 text)) n) (sym (add-one end)) (subst (λ l. Headed text l (suc end)) y H);
+          some = one;
+          within = E .within;
+        };
+      }
     where
       some : (end : ℕ) → 1 ≤ length (drop 1 (take (end - 0) (drop 0 text))) → 1 ≤ end
       some zero h = absurd (omega arith)
       some (suc e) h = omega arith
 
-  pub head-stops : (n : ℕ) (x : Head) (old : List ℕ) → readHead narrow (lineAt text 0 end) ≡ headOf (lineAt text 0 end .bytes) x → x ≡ head.the-variants.Refused n
-      → Answers (written narrow (length old) (compileBook narrow text)) old old (Refused n 1)
-  head-stops n x old e q =
+  pub head-stops : (n : ℕ) (x : Head) → readHead narrow (lineAt text 0 end) ≡ headOf (lineAt text 0 end .bytes) x → x ≡ head.the-variants.Refused n → Heads text (opened.Refused n 1)
+  head-stops n x e q =
       let f : readHead narrow (lineAt text 0 end) ≡ L.HeadRead.stops n = rw q at e in
-      let z : compileBook narrow text ≡ stopped n 1 = book-head ∙ ap (λ r. afterHead r (λ ls. compileLines narrow ls (linesOf (drop (suc end) text)) 2 (startDraft (length ls)))) f in
-      rw z (stops n 1 old)
+      record { says = book-head ∙ ap (λ r. afterHead r (λ ls. linesFrom text ls (suc end))) f }
 
 -- ---- 1 and 2
 
-module _ (text lent old : List ℕ) where
-  pub too-long : 16384 < length text → Answers (outcome narrow documented text lent (length old)) old old (Refused 1 0)
+module _ (text lent : List ℕ) where
+  pub too-long : 16384 < length text → Opens text lent (opened.Refused 1 0)
   unfolding outcome
-  too-long h = rw (lt-ltb 16384 (length text) h) (stops 1 0 old)
+  too-long h = record { says = λ room. rw (lt-ltb 16384 (length text) h) }
 
-  pub too-short : length text ≤ 16384 → enough documented lent ≡ false → Answers (outcome narrow documented text lent (length old)) old old (Refused 2 0)
+  pub too-short : length text ≤ 16384 → enough documented lent ≡ false → Opens text lent (opened.Refused 2 0)
   unfolding outcome
-  too-short h e = rw (ltb-false 16384 (length text) h, e) (stops 2 0 old)
+  too-short h e = record { says = λ room. rw (ltb-false 16384 (length text) h, e) }
 
-  pub compiled : (new : List ℕ) (r : Compiled) → length text ≤ 16384 → enough documented lent ≡ true → Answers (written narrow (length old) (compileBook narrow text)) old new r
-      → Answers (outcome narrow documented text lent (length old)) old new r
+  -- what line 1 says
+  pub opens : (r : Opened) → length text ≤ 16384 → enough documented lent ≡ true → Heads text r → Opens text lent r
   unfolding outcome
-  compiled new r h e A = rw (ltb-false 16384 (length text) h, e) A
+  opens (opened.Lines end) h e H = record { says = (h, e, H .says) }
+  opens (opened.Refused n l) h e H = let z : compileBook narrow text ≡ stopped n l = H .says in record { says = λ room. rw (ltb-false 16384 (length text) h, e, z) }
+
+  module _ (r : Opened) (O : Opens text lent r) where
+    pub opened-lines : (end : ℕ) → r ≡ opened.Lines end → (length text ≤ 16384) × (enough documented lent ≡ true) × FirstLine text end
+    opened-lines end q = subst (OpensSay text lent) q (O .says)
+
+    pub opened-stops : (n l : ℕ) (old : List ℕ) → r ≡ opened.Refused n l → Answers (outcome narrow documented text lent (length old)) old old (Refused n l)
+    opened-stops n l old q =
+        let f : (room : ℕ) → outcome narrow documented text lent room ≡ stop n l = subst (OpensSay text lent) q (O .says) in
+        rw (f (length old)) (stops n l old)
+
+    pub opened-compiled : (end : ℕ) → r ≡ opened.Lines end → (old new : List ℕ) (x : Compiled) → Answers (written narrow (length old) (compileBook narrow text)) old new x
+        → Answers (outcome narrow documented text lent (length old)) old new x
+    unfolding outcome
+    opened-compiled end q old new x A =
+        let (h, e, _) = opened-lines end q in
+        rw (ltb-false 16384 (length text) h, e) A
 
 -- ---- the lengths of the lent buffers
 

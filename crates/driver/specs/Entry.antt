@@ -1,22 +1,25 @@
 -- What the entry promises: its answer and the card buffer are those of `outcome`.
 use mathlib.Core.Path.{_≡_}
+use mathlib.Core.Bool.{true}
 use mathlib.Core.List.{List, [], _∷_}
-use Prim.Native.Nat.{ℕ, suc, _≤_}
+use Prim.Native.Nat.{ℕ, suc, _+_, _-_, _*_, _≤_}
+use native.Mathlib.Omega.{arith}
 use lib.Dec.{ltb}
-use lib.ListN.{length, drop}
+use lib.ListN.{length, drop, take}
 use Rattle.automata.specs.Booleans.{choose}
 use Rattle.automata.specs.Format.{narrow}
 use Rattle.automata.specs.Machine.{Machine, Canonical}
 use Rattle.automata.specs.Restrict.{Unmarked}
 use Rattle.card.specs.Same.{cardOf}
-use Rattle.book.specs.Text.{linesOf}
-use Rattle.compiler.specs.Book.{compileBook, compileLines, startDraft}
-use Rattle.compiler.specs.Outcome.{Outcome, card, stop, Answer, answer, bufferAfter}
+use Rattle.compiler.specs.Book.{compileBook, stopped}
+use Rattle.compiler.specs.Outcome.{Outcome, card, stop, Answer, answer, bufferAfter, enough, outcome}
 pub use Rattle.compiler.specs.Lent.{documented}
-use Rattle.driver.specs.Stored.{InSlot}
-use Rattle.driver.specs.Lines.{Room}
+use Rattle.kept.specs.Stored.{InSlot}
+use Rattle.lines.specs.Lines.{linesFrom, Placed}
 use Rattle.driver.specs.declared.Compiled.{Compiled}
 use Rattle.driver.specs.declared.Compiled.the-variants.{Card, Refused}
+use Rattle.driver.specs.declared.Opened.{Opened}
+use Rattle.driver.specs.declared.Opened.the-variants as opened
 
 -- the lengths of the lent buffers, in this order
 abbrev pub lentLengths : List ℕ → List ℕ → List ℕ → List ℕ → List ℕ → List ℕ → List ℕ → List ℕ → List ℕ
@@ -54,12 +57,26 @@ pub record PutsCard (ls slot : List ℕ) (peak : ℕ) (old new : List ℕ) (r : 
 
 -- Line 1 was read, and the other lines start at a place.
 pub record Headed (text ls : List ℕ) (next : ℕ) : Type 0 where
-  pub is : compileBook narrow text ≡ compileLines narrow ls (linesOf (drop next text)) 2 (startDraft (length ls))
-  pub letters : (1 ≤ length ls) × (length ls ≤ 26)
-  pub at : next ≤ suc (length text)
-  pub short : length text ≤ 16384
+  pub is : compileBook narrow text ≡ linesFrom text ls next
+  pub placed : Placed text ls next
 
--- The lent buffers have their documented lengths.
-pub record Lent (low high registers stack rows table work code : List ℕ) : Type 0 where
-  pub room : Room low high registers stack rows table work
-  pub long : 32832 ≤ length code
+-- Line 1 ends at a place, and its letters stand behind its first byte.
+pub record FirstLine (text : List ℕ) (end : ℕ) : Type 0 where
+  pub headed : Headed text (take (end - 1) (drop 1 text)) (end + 1)
+  pub some : 1 ≤ end
+  pub within : end ≤ length text
+
+abbrev pub HeadsSay : List ℕ → Opened → Type 0
+HeadsSay text (opened.Lines end) = FirstLine text end
+HeadsSay text (opened.Refused n l) = compileBook narrow text ≡ stopped n l
+
+pub record Heads (text : List ℕ) (r : Opened) : Type 0 where
+  pub says : HeadsSay text r
+
+-- The text is not too long, the lent buffers are long enough, and line 1 was read; or the outcome is a refusal, whatever the card buffer's length.
+abbrev pub OpensSay : List ℕ → List ℕ → Opened → Type 0
+OpensSay text lent (opened.Lines end) = (length text ≤ 16384) × (enough documented lent ≡ true) × FirstLine text end
+OpensSay text lent (opened.Refused n l) = (room : ℕ) → outcome narrow documented text lent room ≡ stop n l
+
+pub record Opens (text lent : List ℕ) (r : Opened) : Type 0 where
+  pub says : OpensSay text lent r

@@ -1,4 +1,2 @@
--- What the functions of this crate promise.
-pub mod Stored
-pub mod Lines
+-- What the entry promises.
 pub mod Entry

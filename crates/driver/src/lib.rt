@@ -1,15 +1,9 @@
 // The compiler's entry: the lines of a book in order, their stages, and the card. It has no requires; all below it are its parts.
-mod line;
-mod lines;
-mod progress;
-mod slots;
-
+use choice::kinds::KindTable;
 use lines::Ended;
-use progress::Book;
 use reader::ends;
 use reader::head;
 use reader::head::Head;
-use reader::names::Names;
 use stages::slot;
 use writer::Wrote;
 ghost use mathlib.Core.Path.{_≡_};
@@ -19,7 +13,9 @@ ghost use lib.ListN.{length};
 ghost use Rattle.automata.specs.Format.{narrow};
 ghost use Rattle.compiler.specs.Book.{compileBook};
 ghost use Rattle.compiler.specs.Outcome.{enough, written, outcome};
-ghost use Rattle.driver.specs.Entry.{documented, lentLengths, Answers, Writable, PutsCard, Headed, Lent};
+ghost use Rattle.choice.specs.Kinds.{Kinds};
+ghost use Rattle.lines.specs.Lines.{Lent};
+ghost use Rattle.driver.specs.Entry.{documented, lentLengths, Answers, Writable, PutsCard, Headed, Heads, Opens};
 
 // The lengths that the lent buffers need: bytes, and for `table` and `work` 16-bit numbers.
 pub const NAMES: usize = 43706;
@@ -97,8 +93,57 @@ fn put_card(letters: &[u8], peak: usize, slot: &[u8], card: &mut [u8]) -> Compil
     }
 }
 
+// Where line 1 ends, or the number of a refusal with its line.
+enum Opened {
+    Lines(usize),
+    Refused(u8, usize),
+}
+
+// Line 1.
+fn first_line(kinds: &KindTable, text: &[u8]) -> Opened
+    requires { ⌜ Kinds (now kinds) ⌝ }
+    requires { ⌜ length (now text) ≤ 16384 ⌝ }
+    ensures { λ r. ⌜ Heads (now (text .entry)) r ⌝ }
+{
+    if text.len() == 0 {
+        return Opened::Refused(5, 1);
+    }
+    let end = ends::line_end(kinds, text, 0);
+    let ended = end < text.len();
+    match head::read_head(kinds, &text[0..end], ended) {
+        Head::Letters(_m) => Opened::Lines(end),
+        Head::Refused(n) => Opened::Refused(n, 1),
+    }
+}
+
+// The lengths of the text and the lent buffers, then line 1.
+fn opening(
+    kinds: &KindTable,
+    text: &[u8],
+    low: usize,
+    high: usize,
+    registers: usize,
+    stack: usize,
+    rows: usize,
+    table: usize,
+    work: usize,
+    code: usize,
+) -> Opened
+    requires { ⌜ Kinds (now kinds) ⌝ }
+    ensures { λ r. ⌜ Opens (now (text .entry)) (low ∷ high ∷ registers ∷ stack ∷ rows ∷ table ∷ work ∷ code ∷ []) r ⌝ }
+{
+    if TEXT < text.len() {
+        return Opened::Refused(1, 0);
+    }
+    if !long_enough(low, high, registers, stack, rows, table, work, code) {
+        return Opened::Refused(2, 0);
+    }
+    first_line(kinds, text)
+}
+
 // The lines behind line 1, and the card.
 fn compile_lines(
+    kinds: &KindTable,
     text: &[u8],
     letters: &[u8],
     next: usize,
@@ -112,22 +157,16 @@ fn compile_lines(
     work: &mut [u16],
     code: &mut [u8],
 ) -> Compiled
+    requires { ⌜ Kinds (now kinds) ⌝ }
     requires { ⌜ Headed (now text) (now letters) next ⌝ }
     requires { ⌜ Lent (now low) (now high) (now registers) (now stack) (now rows) (now table) (now work) (now code) ⌝ }
     ensures { λ r. ⌜ Answers (written narrow (length (now (card .entry))) (compileBook narrow (now (text .entry)))) (now (card .entry)) (now (card .exit)) r ⌝ }
 {
-    slots::begin(letters.len(), registers, stack);
-    let start = Book {
-        at: next,
-        line: 2,
-        names: Names::none(),
-        ruled: false,
-        peak: 0,
-    };
     match lines::lines(
+        kinds,
         text,
         letters,
-        start,
+        next,
         low,
         high,
         registers,
@@ -139,47 +178,6 @@ fn compile_lines(
     ) {
         Ended::Done(peak) => put_card(letters, peak, &registers[..], card),
         Ended::Refused(n, line) => Compiled::Refused(n, line),
-    }
-}
-
-// A text that is not too long, with buffers that are long enough.
-fn compile_text(
-    text: &[u8],
-    card: &mut [u8],
-    low: &mut [u8],
-    high: &mut [u8],
-    registers: &mut [u8],
-    stack: &mut [u8],
-    rows: &mut [u8],
-    table: &mut [u16],
-    work: &mut [u16],
-    code: &mut [u8],
-) -> Compiled
-    requires { ⌜ length (now text) ≤ 16384 ⌝ }
-    requires { ⌜ Lent (now low) (now high) (now registers) (now stack) (now rows) (now table) (now work) (now code) ⌝ }
-    ensures { λ r. ⌜ Answers (written narrow (length (now (card .entry))) (compileBook narrow (now (text .entry)))) (now (card .entry)) (now (card .exit)) r ⌝ }
-{
-    if text.len() == 0 {
-        return Compiled::Refused(5, 1);
-    }
-    let end = ends::line_end(text, 0);
-    let ended = end < text.len();
-    match head::read_head(&text[0..end], ended) {
-        Head::Letters(_m) => compile_lines(
-            text,
-            &text[1..end],
-            end + 1,
-            card,
-            low,
-            high,
-            registers,
-            stack,
-            rows,
-            table,
-            work,
-            code,
-        ),
-        Head::Refused(n) => Compiled::Refused(n, 1),
     }
 }
 
@@ -198,10 +196,10 @@ pub fn compile(
 ) -> Compiled
     ensures { λ r. ⌜ Answers (outcome narrow documented (now (text .entry)) (lentLengths (now (low .entry)) (now (high .entry)) (now (registers .entry)) (now (stack .entry)) (now (rows .entry)) (now (table .entry)) (now (work .entry)) (now (code .entry))) (length (now (card .entry)))) (now (card .entry)) (now (card .exit)) r ⌝ }
 {
-    if TEXT < text.len() {
-        return Compiled::Refused(1, 0);
-    }
-    if !long_enough(
+    let kinds = choice::kinds::table();
+    match opening(
+        &kinds,
+        text,
         low.len(),
         high.len(),
         registers.len(),
@@ -211,18 +209,21 @@ pub fn compile(
         work.len(),
         code.len(),
     ) {
-        return Compiled::Refused(2, 0);
+        Opened::Lines(end) => compile_lines(
+            &kinds,
+            text,
+            &text[1..end],
+            end + 1,
+            card,
+            low,
+            high,
+            registers,
+            stack,
+            rows,
+            table,
+            work,
+            code,
+        ),
+        Opened::Refused(n, line) => Compiled::Refused(n, line),
     }
-    compile_text(
-        text,
-        card,
-        low,
-        high,
-        registers,
-        stack,
-        rows,
-        table,
-        work,
-        code,
-    )
 }

@@ -19,7 +19,7 @@ use Rattle.book.specs.Kind.{kindOf, isLetter, isName}
 use Rattle.book.specs.Text.{define, rule}
 use Rattle.book.specs.StackLaws.{Leaves}
 use Rattle.book.specs.Program.{pairCode, joinCode, postfix, patternProgram, finishProgram, contextsProgram, program}
-use Rattle.evaluate.specs.Execute.{Store, Ran, ran, failed, stuck, afterRan, thenRan, pushMade, step, execute}
+use Rattle.codes.specs.Execute.{Store, Ran, ran, failed, stuck, afterRan, thenRan, pushMade, step, execute}
 
 abbrev pub AllLeaves : List (Expr × Expr) → Type 0
 AllLeaves [] = Unit {0}

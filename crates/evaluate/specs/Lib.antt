@@ -1,10 +1,5 @@
--- A line's program on a stack of machines, and what it makes; the stack in slots of bytes.
-pub mod Execute
+-- A line's program over the lent buffers, and what it makes.
 pub mod ExecuteLaws
-pub mod Stack
-pub mod Codes
-pub mod Operand
-pub mod Apply
 pub mod Steps
 pub mod Run
 pub mod Evaluated

@@ -21,18 +21,18 @@ use Rattle.explore.specs.Rows.{operationOf}
 use Rattle.stages.specs.Slot.{Slot, slotMachine, Holds, Written}
 use Rattle.stages.specs.Keep.{Aside}
 use Rattle.stages.specs.Operate.{operate}
-use Rattle.evaluate.specs.Execute.{Store, Ran, ran, failed, stuck, pushMade, withOne, withTwo, step}
-use Rattle.evaluate.specs.Stack.{needs, slotAt, Slots, machines, fills, fills-most, slot-same, slots-below, slots-less, slots-more, machines-below}
-use Rattle.evaluate.specs.Codes.{operandOf, stored, stepAs, SourceIn, Sorted}
-use Rattle.evaluate.specs.Operand.{nameSlot, operandIn, OperandReady, Shelves, Bringing, Brought, copied, written-within}
-use Rattle.evaluate.specs.Apply.{formatOf, greatest, tallest, Lent, slot-room, Applying, Makes, Doubling, Besides, aside-below}
-use Rattle.evaluate.specs.declared.Layout.{Layout}
-use Rattle.evaluate.specs.declared.code.Source.{Source}
-use Rattle.evaluate.specs.declared.code.Source.the-variants.{Letter, Name, Given, Register}
-use Rattle.evaluate.specs.declared.code.Sort.{Sort}
-use Rattle.evaluate.specs.declared.code.Sort.the-variants.{Push, Top, Beside, Plus, Store as Storing, Unknown}
-use Rattle.evaluate.specs.declared.apply.Stepped.{Stepped}
-use Rattle.evaluate.specs.declared.apply.Stepped.the-variants.{Next, Refused, Stuck}
+use Rattle.codes.specs.Execute.{Store, Ran, ran, failed, stuck, pushMade, withOne, withTwo, step}
+use Rattle.operations.specs.Stack.{needs, slotAt, Slots, machines, fills, fills-most, slot-same, slots-below, slots-less, slots-more, machines-below}
+use Rattle.codes.specs.Codes.{operandOf, stored, stepAs, SourceIn, Sorted}
+use Rattle.operations.specs.Operand.{nameSlot, operandIn, OperandReady, Shelves, Bringing, Brought, copied, written-within}
+use Rattle.operations.specs.Apply.{formatOf, greatest, tallest, Lent, slot-room, Applying, Makes, Doubling, Besides, aside-below}
+use Rattle.operations.specs.declared.Layout.{Layout}
+use Rattle.codes.specs.declared.Source.{Source}
+use Rattle.codes.specs.declared.Source.the-variants.{Letter, Name, Given, Register}
+use Rattle.codes.specs.declared.Sort.{Sort}
+use Rattle.codes.specs.declared.Sort.the-variants.{Push, Top, Beside, Plus, Store as Storing, Unknown}
+use Rattle.operations.specs.declared.apply.Stepped.{Stepped}
+use Rattle.operations.specs.declared.apply.Stepped.the-variants.{Next, Refused, Stuck}
 
 -- the stack of sp machines and the registers, as the bytes hold them
 abbrev pub storeOf : Layout → ℕ → ℕ → List ℕ → List ℕ → Store

@@ -1,14 +1,3 @@
 // A line's program, run on a stack of machines in slots of bytes. These are parts: callers give slots that hold machines and buffers that are long
 // enough.
-pub mod apply;
-mod code;
-mod operand;
 pub mod run;
-mod slots;
-
-// The most sets that a stage may make, the most states that a kept machine may have, and the bytes of a slot.
-pub struct Layout {
-    pub sets: usize,
-    pub states: usize,
-    pub size: usize,
-}

@@ -1,13 +1,12 @@
-// A program's codes, one after another; and the machine that a line's program leaves.
-use crate::Layout;
-use crate::apply;
-use crate::apply::Stepped;
-use crate::code;
-use crate::code::Sort;
-use crate::operand;
-use crate::slots;
+// A program's codes, one after another, and the machine that they leave.
+use codes::Sort;
+use operations::Layout;
+use operations::apply;
+use operations::apply::Stepped;
+use operations::operand;
+use operations::slots;
 ghost use Rattle.evaluate.specs.Steps.{Stepping, Steps};
-ghost use Rattle.evaluate.specs.Run.{Running, Runs, heightOf};
+ghost use Rattle.evaluate.specs.Run.{Running, heightOf};
 ghost use Rattle.evaluate.specs.Evaluated.{Evaluates};
 ghost use mathlib.Core.Path.{_≡_};
 ghost use lib.ListN.{take};
@@ -30,7 +29,7 @@ fn step(
     ensures { λ r. ⌜ Steps l (now (letters .entry)) (now (first .entry)) (now (second .entry)) c sp (now (registers .entry)) (now (stack .entry)) (now (registers .exit)) (now (stack .exit)) r ⌝ }
 {
     let size = l.size;
-    match code::sort_of(c) {
+    match codes::sort_of(c) {
         Sort::Push(source) => {
             operand::bring(source, l, letters, first, second, &registers[..], stack, sp);
             Stepped::Next(sp + 1, 0)
@@ -94,8 +93,14 @@ fn step(
     }
 }
 
-// The first `len` codes, on an empty stack.
-fn codes(
+// The most sets that a stage of the program made, or the number of a refusal.
+pub enum Evaluated {
+    Made(usize),
+    Refused(u8),
+}
+
+// A line's program: its machine is left in front of the stack.
+pub fn run(
     code: &[u8],
     len: usize,
     l: Layout,
@@ -107,9 +112,10 @@ fn codes(
     rows: &mut [u8],
     table: &mut [u16],
     work: &mut [u16],
-) -> Stepped
+) -> Evaluated
     requires { ⌜ Running l (now letters) (now first) (now second) (now registers) (now code) len (now stack) (now rows) (now table) (now work) ⌝ }
-    ensures { λ r. ⌜ Runs l (now (letters .entry)) (now (first .entry)) (now (second .entry)) (now (code .entry)) len (now (registers .entry)) (now (stack .entry)) (now (registers .exit)) (now (stack .exit)) r ⌝ }
+    requires { ⌜ heightOf 0 (take len (now code)) ≡ 1 ⌝ }
+    ensures { λ r. ⌜ Evaluates l (now (letters .entry)) (now (first .entry)) (now (second .entry)) (now (code .entry)) len (now (registers .entry)) (now (registers .exit)) (now (stack .exit)) r ⌝ }
 {
     let mut sp = 0;
     let mut peak = 0;
@@ -135,55 +141,12 @@ fn codes(
                 peak = apply::greater(peak, n);
             }
             Stepped::Refused(n) => {
-                return Stepped::Refused(n);
+                return Evaluated::Refused(n);
             }
             Stepped::Stuck => {
-                return Stepped::Stuck;
+                return Evaluated::Refused(0);
             }
         }
     }
-    Stepped::Next(sp, peak)
-}
-
-// The most sets that a stage of the program made, or the number of a refusal.
-pub enum Evaluated {
-    Made(usize),
-    Refused(u8),
-}
-
-// A line's program: its machine is left in front of the stack.
-pub fn run(
-    code: &[u8],
-    len: usize,
-    l: Layout,
-    letters: &[u8],
-    first: &[u8],
-    second: &[u8],
-    registers: &mut [u8],
-    stack: &mut [u8],
-    rows: &mut [u8],
-    table: &mut [u16],
-    work: &mut [u16],
-) -> Evaluated
-    requires { ⌜ Running l (now letters) (now first) (now second) (now registers) (now code) len (now stack) (now rows) (now table) (now work) ⌝ }
-    requires { ⌜ heightOf 0 (take len (now code)) ≡ 1 ⌝ }
-    ensures { λ r. ⌜ Evaluates l (now (letters .entry)) (now (first .entry)) (now (second .entry)) (now (code .entry)) len (now (registers .entry)) (now (registers .exit)) (now (stack .exit)) r ⌝ }
-{
-    match codes(
-        code,
-        len,
-        l,
-        letters,
-        first,
-        second,
-        registers,
-        stack,
-        rows,
-        table,
-        work,
-    ) {
-        Stepped::Next(_h, peak) => Evaluated::Made(peak),
-        Stepped::Refused(n) => Evaluated::Refused(n),
-        Stepped::Stuck => Evaluated::Refused(0),
-    }
+    Evaluated::Made(peak)
 }

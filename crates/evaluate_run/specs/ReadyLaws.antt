@@ -21,11 +21,11 @@ use Rattle.reader.specs.declared.names.Names.{Names}
 use Rattle.reader.specs.declared.line.LineAnswer.{LineAnswer}
 use Rattle.reader.specs.declared.line.LineAnswer.the-variants.{Define, Rule}
 use Rattle.stages.specs.Slot.{Holds, Written}
-use Rattle.evaluate.specs.Stack.{Slots, Below, slots-below, slots-more}
-use Rattle.evaluate.specs.Operand.{lent}
+use Rattle.operations.specs.Stack.{Slots, Below, slots-below, slots-more}
+use Rattle.operations.specs.Operand.{lent}
 use Rattle.evaluate.specs.Run.{heightOf, Running}
 use Rattle.evaluate.specs.Evaluated.{program-height}
-use Rattle.evaluate.specs.declared.Layout.{Layout}
+use Rattle.operations.specs.declared.Layout.{Layout}
 use Rattle.evaluate_run.specs.declared.Read.{Read}
 use Rattle.evaluate_run.specs.declared.Read.the-variants.{Program}
 use Rattle.evaluate_run.specs.Ready.{Nameless, Coded, Coding, Ready}

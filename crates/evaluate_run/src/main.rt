@@ -1,12 +1,14 @@
 // Runs each line of a text by itself: line 1 has the letters, each later line is read, and its program is run on lent buffers of the documented lengths.
 // Writes for each line the most sets that a stage made with the states of its machine, or the number of its refusal. A rule is met with `.*`, as in a
 // book of this one rule; no line may use a name.
+use book::kinds::NAME_KIND;
+use choice::kinds::KindTable;
 use choice::kinds::kind;
-use evaluate::Layout;
 use evaluate::run;
 use evaluate::run::Evaluated;
 use libc::STDIN_FILENO;
 use libc::STDOUT_FILENO;
+use operations::Layout;
 use reader::ends::line_end;
 use reader::head::Head;
 use reader::head::read_head;
@@ -17,7 +19,8 @@ use stages::given;
 use stages::slot;
 ghost use Prim.Native.Nat.{_+_, _*_, _<_, _≤_, suc};
 ghost use lib.ListN.{length};
-ghost use Rattle.evaluate.specs.Stack.{Slots};
+ghost use Rattle.choice.specs.Kinds.{Kinds};
+ghost use Rattle.operations.specs.Stack.{Slots};
 ghost use Rattle.evaluate_run.specs.Ready.{Nameless, Coded, Coding, Ready};
 
 // The length of a line's program and where the next line starts, or the number of a refusal.
@@ -27,12 +30,13 @@ enum Read {
 }
 
 // The line that starts at `at`, with no names above it.
-fn next_line(text: &[u8], at: usize, letters: &[u8], code: &mut [u8]) -> Read
+fn next_line(kinds: &KindTable, text: &[u8], at: usize, letters: &[u8], code: &mut [u8]) -> Read
+    requires { ⌜ Kinds (now kinds) ⌝ }
     requires { ⌜ at < length (now text) ⌝ }
     requires { ⌜ 2 * length (now text) + 64 ≤ length (now code) ⌝ }
     ensures { λ r. ⌜ Coding at (now (code .exit)) r ⌝ }
 {
-    match read_line(text, at, letters, Names::none(), code) {
+    match read_line(kinds, text, at, letters, Names::none(), code) {
         LineAnswer::Define(_name, len, next) => Read::Program(len, next),
         LineAnswer::Rule(len, next) => Read::Program(len, next),
         LineAnswer::Refused(n) => Read::Refused(n),
@@ -40,13 +44,14 @@ fn next_line(text: &[u8], at: usize, letters: &[u8], code: &mut [u8]) -> Read
 }
 
 // Whether no code is a name.
-fn nameless(code: &[u8], len: usize) -> bool
+fn nameless(kinds: &KindTable, code: &[u8], len: usize) -> bool
+    requires { ⌜ Kinds (now kinds) ⌝ }
     requires { ⌜ len ≤ length (now code) ⌝ }
     ensures { λ r. ⌜ Nameless (now (code .entry)) len r ⌝ }
 {
     let mut i = 0;
     while i < len {
-        if kind(code[i]) == 2 {
+        if kind(kinds, code[i]) == NAME_KIND {
             return false;
         }
         i += 1;
@@ -70,6 +75,7 @@ fn begin(m: usize, registers: &mut [u8])
 
 // A line's program, run. A name stands for nothing here: 6.
 fn make(
+    kinds: &KindTable,
     code: &[u8],
     len: usize,
     letters: &[u8],
@@ -80,11 +86,12 @@ fn make(
     table: &mut [u16],
     work: &mut [u16],
 ) -> Evaluated
+    requires { ⌜ Kinds (now kinds) ⌝ }
     requires { ⌜ Ready (now letters) (now names) (now registers) (now stack) (now rows) (now table) (now work) ⌝ }
     requires { ⌜ Coded (now code) len ⌝ }
     ensures { λ _. ⌜ Slots 120 (suc (length (now (letters .entry)))) 3362 3 (now (registers .exit)) ⌝ }
 {
-    if !nameless(code, len) {
+    if !nameless(kinds, code, len) {
         return Evaluated::Refused(6);
     }
     let l = Layout {
@@ -132,6 +139,7 @@ fn say(r: Evaluated, stack: &[u8])
 
 // The lines from `start` on, each by itself.
 fn lines(
+    kinds: &KindTable,
     text: &[u8],
     start: usize,
     letters: &[u8],
@@ -143,14 +151,16 @@ fn lines(
     work: &mut [u16],
     code: &mut [u8],
 )
+    requires { ⌜ Kinds (now kinds) ⌝ }
     requires { ⌜ Ready (now letters) (now names) (now registers) (now stack) (now rows) (now table) (now work) ⌝ }
     requires { ⌜ 2 * length (now text) + 64 ≤ length (now code) ⌝ }
 {
     let mut at = start;
     while at < text.len() {
-        match next_line(text, at, letters, code) {
+        match next_line(kinds, text, at, letters, code) {
             Read::Program(len, next) => {
                 let r = make(
+                    kinds,
                     &code[..],
                     len,
                     letters,
@@ -174,6 +184,7 @@ fn lines(
 
 // The text with its letters, and buffers that are long enough.
 fn begin_lines(
+    kinds: &KindTable,
     text: &[u8],
     start: usize,
     letters: &[u8],
@@ -184,7 +195,9 @@ fn begin_lines(
     table: &mut [u16],
     work: &mut [u16],
     code: &mut [u8],
-) {
+)
+    requires { ⌜ Kinds (now kinds) ⌝ }
+{
     if letters.len() < 1 {
         return;
     }
@@ -217,6 +230,7 @@ fn begin_lines(
     }
     begin(letters.len(), registers);
     lines(
+        kinds,
         text,
         start,
         letters,
@@ -232,9 +246,10 @@ fn begin_lines(
 
 // Line 1, and the buffers of this program.
 fn run_text(text: &[u8]) {
-    let end = line_end(text, 0);
+    let kinds = choice::kinds::table();
+    let end = line_end(&kinds, text, 0);
     let ended = end < text.len();
-    let Head::Letters(_m) = read_head(&text[0..end], ended) else {
+    let Head::Letters(_m) = read_head(&kinds, &text[0..end], ended) else {
         return;
     };
     if end < 1 {
@@ -251,6 +266,7 @@ fn run_text(text: &[u8]) {
     let mut work = [0u16; 6720];
     let mut code = [0u8; 32832];
     begin_lines(
+        &kinds,
         text,
         end + 1,
         &text[1..end],

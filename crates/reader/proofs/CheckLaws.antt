@@ -15,7 +15,7 @@ use Rattle.automata.specs.Stages.{Pairing, either, both, without}
 use Rattle.language.specs.Restriction.{restricts}
 use Rattle.language.specs.Expression.{Expr, star, plus, pair, empty, join, option, complement, letter, name, dot, member}
 use Rattle.language.specs.Environment.{known, allKnown}
-use Rattle.book.specs.Kind.{kindOf}
+use Rattle.book.specs.Kind.{kindOf, nameKind, underscoreKind}
 use Rattle.book.specs.Text.{define, rule, malformed, formOf, tooDeep, countOf, lineTest, unless}
 use Rattle.book.specs.Line.{reads, stops, readLine, checkForm}
 use Rattle.book.specs.Program.{pairCode, postfix, program, contextsProgram}
@@ -47,7 +47,7 @@ module _ (ls ns : List ℕ) where
   -- The letters and names of an expression's code are those of the expression.
   known-code : (e : Expr) → Leaves e → (cs : List ℕ) → codeKnown ls ns (postfix e ++ cs) ≡ known ls ns e && codeKnown ls ns cs
   known-code (letter b) s cs = rw s
-  known-code (name b) s cs = let z : kindOf b ≡ 2 = nat-test .sound (kindOf b) 2 s in rw z
+  known-code (name b) s cs = let z : kindOf b ≡ nameKind = nat-test .sound (kindOf b) nameKind s in rw z
   known-code dot s cs = refl
   known-code empty s cs = refl
   known-code (pair o e f) s cs = rw (append-assoc, append-assoc, known-code e (s .0), known-code f (s .1), pair-known o cs) (sym (and-assoc (known ls ns e) (known ls ns f) (codeKnown ls ns cs)))
@@ -79,17 +79,17 @@ first-part o len = let z : len - 0 ≡ len = omega arith in rw z
 -- ---- what passing the tests along the line says
 
 module _ (s : List ℕ) (ended : Bool) (n : ℕ) (q : n ≡ lineTest (lineOf s ended)) where
-  tests-are : (d : Bool) (c : LtCases 4 (countOf 20 s)) (f : Bool) → _≡_ {A = ℕ} (choose d (λ _. 3) (λ _. choose (ltb 4 (countOf 20 s)) (λ _. 4) (λ _. choose f (λ _. 0) (λ _. 5)))) 0 → (countOf 20 s ≤ 4) × (f ≡ true)
+  tests-are : (d : Bool) (c : LtCases 4 (countOf underscoreKind s)) (f : Bool) → _≡_ {A = ℕ} (choose d (λ _. 3) (λ _. choose (ltb 4 (countOf underscoreKind s)) (λ _. 4) (λ _. choose f (λ _. 0) (λ _. 5)))) 0 → (countOf underscoreKind s ≤ 4) × (f ≡ true)
   tests-are true c f e = absurd (omega arith)
   tests-are false (inl p) f e = absurd (omega (arith, rw (p .1) at e))
   tests-are false (inr p) true e = (p .0, refl)
   tests-are false (inr p) false e = absurd (omega (arith, rw (p .1) at e))
 
-  passed : n ≡ 0 → (countOf 20 s ≤ 4) × (ended ≡ true)
+  passed : n ≡ 0 → (countOf underscoreKind s ≤ 4) × (ended ≡ true)
   unfolding lineTest
-  passed e = tests-are (tooDeep 0 0 s) (lt-cases 4 (countOf 20 s)) ended (sym q ∙ e)
+  passed e = tests-are (tooDeep 0 0 s) (lt-cases 4 (countOf underscoreKind s)) ended (sym q ∙ e)
 
-  pub passed-few : n ≡ 0 → countOf 20 s ≤ 4
+  pub passed-few : n ≡ 0 → countOf underscoreKind s ≤ 4
   passed-few e = passed e .0
 
   module _ (ls : List ℕ) (f : Names) (o o′ : List ℕ) where

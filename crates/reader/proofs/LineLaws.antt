@@ -13,7 +13,7 @@ use lib.Seq.{drop-cons, take-all}
 use Rattle.automata.specs.Booleans.{choose}
 use Rattle.automata.specs.Basics.{LtCases, lt-cases}
 use Rattle.automata.specs.Format.{narrow}
-use Rattle.book.specs.Kind.{kindOf}
+use Rattle.book.specs.Kind.{kindOf, letterKind, openKind, closeKind, lineEndKind, colonKind, underscoreKind}
 use Rattle.book.specs.Text.{linesOf, tooDeep, countOf, lineTest, rising, isHead, lettersOf}
 use Rattle.book.specs.Line.{letters, stops, readHead}
 use Rattle.reader.specs.Lines.{lineOf, lineAt, Ends}
@@ -26,40 +26,40 @@ front s i h = rw (add-one, drop-cons s i 0)
 
 -- no line end from `at` up to i
 pub record Plain (s : List ℕ) (at i : ℕ) : Type 0 where
-  pub none : (j : ℕ) → at ≤ j → j < i → kindOf (getD s j 0) ≡ 15 → ⊥
+  pub none : (j : ℕ) → at ≤ j → j < i → kindOf (getD s j 0) ≡ lineEndKind → ⊥
 
 pub plain-start : (s : List ℕ) (at : ℕ) → Plain s at at
 plain-start s at = record { none = λ j h k e. omega arith }
 
-pub plain-next : (s : List ℕ) (at i k : ℕ) → k ≡ kindOf (getD s i 0) → (k ≡ 15 → ⊥) → Plain s at i → Plain s at (i + 1)
+pub plain-next : (s : List ℕ) (at i k : ℕ) → k ≡ kindOf (getD s i 0) → (k ≡ lineEndKind → ⊥) → Plain s at i → Plain s at (i + 1)
 plain-next s at i k q n p = record { none = go }
   where
-    go : (j : ℕ) → at ≤ j → j < i + 1 → kindOf (getD s j 0) ≡ 15 → ⊥
+    go : (j : ℕ) → at ≤ j → j < i + 1 → kindOf (getD s j 0) ≡ lineEndKind → ⊥
     go j h l e = at-last (lt-cases j i)
       where
         at-last : LtCases j i → ⊥
         at-last (inl x) = p .none j h (x .0) e
         at-last (inr x) = let z : j ≡ i = omega arith in n (q ∙ ap (λ x. kindOf (getD s x 0)) (sym z) ∙ e)
 
-line-from : (s : List ℕ) (i : ℕ) → i ≤ length s → (i < length s → kindOf (getD s i 0) ≡ 15) → (n at : ℕ) → at + n ≡ i → Plain s at i → at < length s
+line-from : (s : List ℕ) (i : ℕ) → i ≤ length s → (i < length s → kindOf (getD s i 0) ≡ lineEndKind) → (n at : ℕ) → at + n ≡ i → Plain s at i → at < length s
     → linesOf (drop at s) ≡ lineAt s at i ∷ linesOf (drop (suc i) s)
 line-from s i w e zero at q p h =
     let z : at ≡ i = omega arith in
     let d : i - i ≡ 0 = omega arith in
     let k : i < length s = omega arith in
-    rw (z, d, lt-ltb i (length s) k, drop-cons s i 0 k, eq-eqb (kindOf (getD s i 0)) 15 (e k))
+    rw (z, d, lt-ltb i (length s) k, drop-cons s i 0 k, eq-eqb (kindOf (getD s i 0)) lineEndKind (e k))
 line-from s i w e (suc n) at q p h =
     more (lt-cases (suc at) (length s)) (λ h. line-from s i w e n (suc at) (omega arith) (record { none = λ j a b. p .none j (omega arith) b }) h)
   where
     more : LtCases (suc at) (length s) → (suc at < length s → linesOf (drop (suc at) s) ≡ lineAt s (suc at) i ∷ linesOf (drop (suc i) s)) → linesOf (drop at s) ≡ lineAt s at i ∷ linesOf (drop (suc i) s)
     more (inl x) f =
         let d : i - at ≡ suc (i - suc at) = omega arith in
-        rw (d, drop-cons s at 0 h, ne-eqb (kindOf (getD s at 0)) 15 (p .none at (omega arith) (omega arith)), f (x .0))
+        rw (d, drop-cons s at 0 h, ne-eqb (kindOf (getD s at 0)) lineEndKind (p .none at (omega arith) (omega arith)), f (x .0))
     more (inr x) f =
         let d : i - at ≡ 1 = omega arith in
-        rw (d, drop-cons s at 0 h, ne-eqb (kindOf (getD s at 0)) 15 (p .none at (omega arith) (omega arith)), drop-of-length-le s {i = suc at} (x .0), drop-of-length-le s {i = suc i} (omega arith), le-ltb i (length s) (omega arith))
+        rw (d, drop-cons s at 0 h, ne-eqb (kindOf (getD s at 0)) lineEndKind (p .none at (omega arith) (omega arith)), drop-of-length-le s {i = suc at} (x .0), drop-of-length-le s {i = suc i} (omega arith), le-ltb i (length s) (omega arith))
 
-pub ends-at : (s : List ℕ) (at i : ℕ) → at ≤ i → i ≤ length s → (i < length s → kindOf (getD s i 0) ≡ 15) → Plain s at i → Ends s at i
+pub ends-at : (s : List ℕ) (at i : ℕ) → at ≤ i → i ≤ length s → (i < length s → kindOf (getD s i 0) ≡ lineEndKind) → Plain s at i → Ends s at i
 ends-at s at i h w e p = record { from = h; within = w; lines = λ l. line-from s i w e (i - at) at (omega arith) p l }
 
 -- ---- 3
@@ -71,17 +71,17 @@ module _ (s : List ℕ) (i k : ℕ) (h : i < length s) (q : k ≡ kindOf (getD s
   kind-not : (x : ℕ) → (k ≡ x → ⊥) → eqb (kindOf (getD s i 0)) x ≡ false
   kind-not x e = ne-eqb (kindOf (getD s i 0)) x (λ w. e (q ∙ w))
 
-  pub deep-over : (o c : ℕ) → k ≡ 5 → c + 4 < suc o → tooDeep o c (drop i s) ≡ true
-  deep-over o c e l = rw (front s i h, kind-is 5 e, lt-ltb (c + 4) (suc o) l)
+  pub deep-over : (o c : ℕ) → k ≡ openKind → c + 4 < suc o → tooDeep o c (drop i s) ≡ true
+  deep-over o c e l = rw (front s i h, kind-is openKind e, lt-ltb (c + 4) (suc o) l)
 
-  pub deep-open : (o c : ℕ) → k ≡ 5 → suc o ≤ c + 4 → tooDeep (o + 1) c (drop (i + 1) s) ≡ tooDeep o c (drop i s)
-  deep-open o c e l = rw (front s i h, kind-is 5 e, le-ltb (c + 4) (suc o) l, add-one o)
+  pub deep-open : (o c : ℕ) → k ≡ openKind → suc o ≤ c + 4 → tooDeep (o + 1) c (drop (i + 1) s) ≡ tooDeep o c (drop i s)
+  deep-open o c e l = rw (front s i h, kind-is openKind e, le-ltb (c + 4) (suc o) l, add-one o)
 
-  pub deep-close : (o c : ℕ) → k ≡ 13 → tooDeep o (c + 1) (drop (i + 1) s) ≡ tooDeep o c (drop i s)
-  deep-close o c e = rw (front s i h, kind-not 5 (λ w. omega arith), kind-is 13 e, add-one c)
+  pub deep-close : (o c : ℕ) → k ≡ closeKind → tooDeep o (c + 1) (drop (i + 1) s) ≡ tooDeep o c (drop i s)
+  deep-close o c e = rw (front s i h, kind-not openKind (λ w. omega arith), kind-is closeKind e, add-one c)
 
-  pub deep-other : (o c : ℕ) → (k ≡ 5 → ⊥) → (k ≡ 13 → ⊥) → tooDeep o c (drop (i + 1) s) ≡ tooDeep o c (drop i s)
-  deep-other o c m n = rw (front s i h, kind-not 5 m, kind-not 13 n)
+  pub deep-other : (o c : ℕ) → (k ≡ openKind → ⊥) → (k ≡ closeKind → ⊥) → tooDeep o c (drop (i + 1) s) ≡ tooDeep o c (drop i s)
+  deep-other o c m n = rw (front s i h, kind-not openKind m, kind-not closeKind n)
 
   -- ---- how many bytes of a kind
   pub count-one : (x : ℕ) → k ≡ x → countOf x (drop i s) ≡ suc (countOf x (drop (i + 1) s))
@@ -91,14 +91,14 @@ module _ (s : List ℕ) (i k : ℕ) (h : i < length s) (q : k ≡ kindOf (getD s
   count-other x n = rw (front s i h, kind-not x n)
 
   -- ---- rising letters
-  pub rises-not : (low : ℕ) → (k ≡ 1 → ⊥) → rising low (drop i s) ≡ false
-  rises-not low n = rw (front s i h, kind-not 1 n)
+  pub rises-not : (low : ℕ) → (k ≡ letterKind → ⊥) → rising low (drop i s) ≡ false
+  rises-not low n = rw (front s i h, kind-not letterKind n)
 
-  pub rises-low : (low : ℕ) → k ≡ 1 → getD s i 0 ≤ low → rising low (drop i s) ≡ false
-  rises-low low e l = rw (front s i h, kind-is 1 e, le-ltb low (getD s i 0) l)
+  pub rises-low : (low : ℕ) → k ≡ letterKind → getD s i 0 ≤ low → rising low (drop i s) ≡ false
+  rises-low low e l = rw (front s i h, kind-is letterKind e, le-ltb low (getD s i 0) l)
 
-  pub rises-on : (low : ℕ) → k ≡ 1 → low < getD s i 0 → rising (getD s i 0) (drop (i + 1) s) ≡ rising low (drop i s)
-  rises-on low e l = rw (front s i h, kind-is 1 e, lt-ltb low (getD s i 0) l)
+  pub rises-on : (low : ℕ) → k ≡ letterKind → low < getD s i 0 → rising (getD s i 0) (drop (i + 1) s) ≡ rising low (drop i s)
+  rises-on low e l = rw (front s i h, kind-is letterKind e, lt-ltb low (getD s i 0) l)
 
 pub deep-end : (s : List ℕ) (i o c : ℕ) → length s ≤ i → tooDeep o c (drop i s) ≡ false
 deep-end s i o c h = rw (drop-of-length-le s {i = i} h)
@@ -116,13 +116,13 @@ module _ (bs : List ℕ) (ended : Bool) where
   unfolding lineTest
   test-deep e = rw e
 
-  pub test-contexts : tooDeep 0 0 bs ≡ false → 4 < countOf 20 bs → lineTest (lineOf bs ended) ≡ 4
+  pub test-contexts : tooDeep 0 0 bs ≡ false → 4 < countOf underscoreKind bs → lineTest (lineOf bs ended) ≡ 4
   unfolding lineTest
-  test-contexts e h = rw (e, lt-ltb 4 (countOf 20 bs) h)
+  test-contexts e h = rw (e, lt-ltb 4 (countOf underscoreKind bs) h)
 
-  pub test-end : tooDeep 0 0 bs ≡ false → countOf 20 bs ≤ 4 → lineTest (lineOf bs ended) ≡ choose ended (λ _. 0) (λ _. 5)
+  pub test-end : tooDeep 0 0 bs ≡ false → countOf underscoreKind bs ≤ 4 → lineTest (lineOf bs ended) ≡ choose ended (λ _. 0) (λ _. 5)
   unfolding lineTest
-  test-end e h = rw (e, le-ltb 4 (countOf 20 bs) h)
+  test-end e h = rw (e, le-ltb 4 (countOf underscoreKind bs) h)
 
 -- ---- line 1
 
@@ -135,24 +135,24 @@ and-false true = refl
 and-false false = refl
 
 module _ (s : List ℕ) (k : ℕ) (h : 0 < length s) (q : k ≡ kindOf (getD s 0 0)) where
-  head-is : isHead narrow s ≡ eqb k 16 && (leb 1 (length s - 1) && (leb (length s - 1) 26 && rising 0 (drop 1 s)))
+  head-is : isHead narrow s ≡ eqb k colonKind && (leb 1 (length s - 1) && (leb (length s - 1) 26 && rising 0 (drop 1 s)))
   head-is = go s h q
     where
-      go : (s : List ℕ) → 0 < length s → k ≡ kindOf (getD s 0 0) → isHead narrow s ≡ eqb k 16 && (leb 1 (length s - 1) && (leb (length s - 1) 26 && rising 0 (drop 1 s)))
+      go : (s : List ℕ) → 0 < length s → k ≡ kindOf (getD s 0 0) → isHead narrow s ≡ eqb k colonKind && (leb 1 (length s - 1) && (leb (length s - 1) 26 && rising 0 (drop 1 s)))
       go [] h q = absurd (omega arith)
       go (b ∷ s) h q = let z : suc (length s) - 1 ≡ length s = omega arith in rw (q, z)
 
-  pub head-sign : (k ≡ 16 → ⊥) → isHead narrow s ≡ false
-  head-sign n = head-is ∙ rw (ne-eqb k 16 n)
+  pub head-sign : (k ≡ colonKind → ⊥) → isHead narrow s ≡ false
+  head-sign n = head-is ∙ rw (ne-eqb k colonKind n)
 
-  pub head-short : k ≡ 16 → length s < 2 → isHead narrow s ≡ false
-  head-short e l = head-is ∙ rw (eq-eqb k 16 e, lt-leb 1 (length s - 1) (omega arith))
+  pub head-short : k ≡ colonKind → length s < 2 → isHead narrow s ≡ false
+  head-short e l = head-is ∙ rw (eq-eqb k colonKind e, lt-leb 1 (length s - 1) (omega arith))
 
-  pub head-long : k ≡ 16 → 27 < length s → isHead narrow s ≡ false
-  head-long e l = head-is ∙ rw (eq-eqb k 16 e, le-leb 1 (length s - 1) (omega arith), lt-leb (length s - 1) 26 (omega arith))
+  pub head-long : k ≡ colonKind → 27 < length s → isHead narrow s ≡ false
+  head-long e l = head-is ∙ rw (eq-eqb k colonKind e, le-leb 1 (length s - 1) (omega arith), lt-leb (length s - 1) 26 (omega arith))
 
-  pub head-rises : k ≡ 16 → 2 ≤ length s → length s ≤ 27 → isHead narrow s ≡ rising 0 (drop 1 s)
-  head-rises e l m = head-is ∙ rw (eq-eqb k 16 e, le-leb 1 (length s - 1) (omega arith), le-leb (length s - 1) 26 (omega arith))
+  pub head-rises : k ≡ colonKind → 2 ≤ length s → length s ≤ 27 → isHead narrow s ≡ rising 0 (drop 1 s)
+  head-rises e l m = head-is ∙ rw (eq-eqb k colonKind e, le-leb 1 (length s - 1) (omega arith), le-leb (length s - 1) 26 (omega arith))
 
 module _ (s : List ℕ) (ended : Bool) (n : ℕ) (q : n ≡ lineTest (lineOf s ended)) where
   pub head-tested : (n ≡ 0 → ⊥) → readHead narrow (lineOf s ended) ≡ stops n

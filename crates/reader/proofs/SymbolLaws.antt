@@ -12,7 +12,7 @@ use lib.Seq.{getD-set-same, getD-set-other}
 use Rattle.automata.specs.Booleans.{choose, and-left, and-right}
 use Rattle.automata.specs.Basics.{LtCases, lt-cases, SameCases, same-cases, nat-test, find, lt-ltb, ltb-false}
 use Rattle.language.specs.Expression.{member}
-use Rattle.book.specs.Kind.{kindOf, isName, signs, signKind}
+use Rattle.book.specs.Kind.{kindOf, isName, signs, signKind, letterKind, nameKind, dotKind}
 use Rattle.reader.specs.declared.names.Names.{Names}
 use Rattle.reader.specs.Names.{Holds, More}
 use Rattle.reader.specs.Known.{codeKnown, KnowsSymbol, Knows}
@@ -41,22 +41,22 @@ member-end l i x h = rw (drop-of-length-le l {i = i} h)
 
 -- ---- names
 
-sign-above : (b : ℕ) (ss : List ℕ) (k : ℕ) → 3 ≤ k → signKind b ss k ≢ 2
+sign-above : (b : ℕ) (ss : List ℕ) (k : ℕ) → dotKind ≤ k → signKind b ss k ≢ nameKind
 sign-above b [] k h e = omega arith
 sign-above b (s ∷ ss) k h e = go (eqb b s) e (sign-above b ss (suc k) (omega arith))
   where
-    go : (t : Bool) → choose t (λ _. k) (λ _. signKind b ss (suc k)) ≡ 2 → signKind b ss (suc k) ≢ 2 → ⊥
+    go : (t : Bool) → choose t (λ _. k) (λ _. signKind b ss (suc k)) ≡ nameKind → signKind b ss (suc k) ≢ nameKind → ⊥
     go true e f = omega arith
     go false e f = f e
 
 -- a name is a byte A to Z
 pub name-byte : (b : ℕ) → isName b ≡ true → (65 ≤ b) × (b ≤ 90)
-name-byte b e = go (leb 97 b && leb b 122) (leb 65 b && leb b 90) refl (nat-test .sound (kindOf b) 2 e)
+name-byte b e = go (leb 97 b && leb b 122) (leb 65 b && leb b 90) refl (nat-test .sound (kindOf b) nameKind e)
   where
-    go : (s t : Bool) → leb 65 b && leb b 90 ≡ t → _≡_ {A = ℕ} (choose s (λ _. 1) (λ _. choose t (λ _. 2) (λ _. signKind b signs 3))) 2 → (65 ≤ b) × (b ≤ 90)
+    go : (s t : Bool) → leb 65 b && leb b 90 ≡ t → _≡_ {A = ℕ} (choose s (λ _. letterKind) (λ _. choose t (λ _. nameKind) (λ _. signKind b signs dotKind))) nameKind → (65 ≤ b) × (b ≤ 90)
     go true t q e = absurd (omega arith)
     go false true q e = (borrow.Author.Tests.leb-true 65 b (and-left (leb 65 b) (leb b 90) q), borrow.Author.Tests.leb-true b 90 (and-right (leb 65 b) (leb b 90) q))
-    go false false q e = absurd (sign-above b signs 3 (omega arith) e)
+    go false false q e = absurd (sign-above b signs dotKind (omega arith) e)
 
 name-range : (b : ℕ) → isName b ≡ true → b - 65 < 26
 name-range b e = omega (arith, name-byte b e .0, name-byte b e .1)
@@ -86,17 +86,17 @@ module _ (b k : ℕ) (letters : List ℕ) (f : Names) (q : k ≡ kindOf b) where
   not-kind : (x : ℕ) → (k ≡ x → ⊥) → eqb (kindOf b) x ≡ false
   not-kind x n = ne-eqb (kindOf b) x (λ w. n (q ∙ w))
 
-  pub is-name : k ≡ 2 → isName b ≡ true
-  is-name e = is-kind 2 e
+  pub is-name : k ≡ nameKind → isName b ≡ true
+  is-name e = is-kind nameKind e
 
-  pub symbol-letter : (r : Bool) → k ≡ 1 → r ≡ member b letters → KnowsSymbol b letters f r
-  symbol-letter r e m = record { says = λ names o. rw (is-kind 1 e) m }
+  pub symbol-letter : (r : Bool) → k ≡ letterKind → r ≡ member b letters → KnowsSymbol b letters f r
+  symbol-letter r e m = record { says = λ names o. rw (is-kind letterKind e) m }
 
-  pub symbol-name : (r : Bool) → k ≡ 2 → r ≡ getD (f .defined) (b - 65) false → KnowsSymbol b letters f r
-  symbol-name r e m = record { says = λ names o. rw (not-kind 1 (λ w. omega arith), is-kind 2 e) (m ∙ sym (o .says b (is-kind 2 e))) }
+  pub symbol-name : (r : Bool) → k ≡ nameKind → r ≡ getD (f .defined) (b - 65) false → KnowsSymbol b letters f r
+  symbol-name r e m = record { says = λ names o. rw (not-kind letterKind (λ w. omega arith), is-kind nameKind e) (m ∙ sym (o .says b (is-kind nameKind e))) }
 
-  pub symbol-other : (k ≡ 1 → ⊥) → (k ≡ 2 → ⊥) → KnowsSymbol b letters f true
-  symbol-other m n = record { says = λ names o. rw (not-kind 1 m, not-kind 2 n) }
+  pub symbol-other : (k ≡ letterKind → ⊥) → (k ≡ nameKind → ⊥) → KnowsSymbol b letters f true
+  symbol-other m n = record { says = λ names o. rw (not-kind letterKind m, not-kind nameKind n) }
 
 module _ (code letters : List ℕ) (f : Names) (i : ℕ) (r : Bool) (h : i < length code) (s : KnowsSymbol (getD code i 0) letters f r) (v : KnownFrom code letters f i) where
   step : (names : List ℕ) → Holds f names → codeKnown letters names code ≡ r && codeKnown letters names (drop (i + 1) code)

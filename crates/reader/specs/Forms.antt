@@ -6,7 +6,7 @@ use Prim.Native.Nat.{ℕ, suc, _+_, _*_, _-_, _≤_}
 use lib.ListN.{length, take}
 use Rattle.language.specs.Restriction.{restricts}
 use Rattle.language.specs.Expression.{Expr}
-use Rattle.book.specs.Kind.{isName}
+use Rattle.book.specs.Kind.{isName, underscoreKind}
 use Rattle.book.specs.Reader.{readChoice}
 use Rattle.book.specs.Text.{countOf, Form, define, rule, malformed, formOf, contextsOf, onRead, tailAt}
 use Rattle.book.specs.Program.{postfix, program, patternProgram, contextProgram}
@@ -32,7 +32,7 @@ Room s o = 2 * length s + 64 ≤ length o
 
 -- "a choice, `_`, a choice", behind the `/`
 abbrev pub contextOf : List ℕ → (Expr → Expr → List ℕ → Form) → Form
-contextOf ts f = onRead (readChoice ts) λ l us. tailAt 20 us λ vs. onRead (readChoice vs) λ r ws. f l r ws
+contextOf ts f = onRead (readChoice ts) λ l us. tailAt underscoreKind us λ vs. onRead (readChoice vs) λ r ws. f l r ws
 
 pub record Context (s o : List ℕ) (c : Spot) (o′ : List ℕ) (n : Spot) : Type 0 where
   pub before : Expr
@@ -41,9 +41,9 @@ pub record Context (s o : List ℕ) (c : Spot) (o′ : List ℕ) (n : Spot) : Ty
   pub code : take (n .pos) o′ ≡ take (c .pos) o ++ (postfix before ++ (postfix behind ++ contextProgram))
   pub grown : Grown o (c .pos) o′ (n .pos)
   pub fewer : suc (length (left s n)) ≤ length (left s c)
-  pub marks : suc (countOf 20 (left s n)) ≤ countOf 20 (left s c)
-  pub falls : suc (length s - n .at) ≤ length s - c .at
-  pub room : n .pos + 2 * (length s - n .at) ≤ c .pos + 2 * (length s - c .at) + 10
+  pub marks : suc (countOf underscoreKind (left s n)) ≤ countOf underscoreKind (left s c)
+  pub falls : suc (length s - n .cursor .at) ≤ length s - c .cursor .at
+  pub room : n .pos + 2 * (length s - n .cursor .at) ≤ c .pos + 2 * (length s - c .cursor .at) + 10
 
 abbrev pub ContextSays : List ℕ → List ℕ → Spot → List ℕ → Made → Type 0
 ContextSays s o c o′ (Done n) = Context s o c o′ n
@@ -65,8 +65,8 @@ pub record Ruled (s o : List ℕ) (c : Spot) : Type 0 where
   pub enough : length (left s c) ≤ fuel
   pub form : formOf s ≡ contextsOf fuel pattern contexts (left s c)
   pub code : take (c .pos) o ≡ postfix pattern ++ (patternProgram ++ contextsCode contexts)
-  pub few : length contexts + countOf 20 (left s c) ≤ 4
-  pub room : c .pos + 2 * (length s - c .at) + 53 ≤ length o + 10 * length contexts
+  pub few : length contexts + countOf underscoreKind (left s c) ≤ 4
+  pub room : c .pos + 2 * (length s - c .cursor .at) + 53 ≤ length o + 10 * length contexts
 
 -- ---- lines, of whose program the code up to a was written before
 

@@ -1,17 +1,20 @@
 // Where a line ends.
+use book::kinds::LINE_END_KIND;
+use choice::kinds::KindTable;
 use choice::kinds::kind;
 ghost use Prim.Native.Nat.{_≤_};
 ghost use lib.ListN.{length};
+ghost use Rattle.choice.specs.Kinds.{Kinds};
 ghost use Rattle.reader.specs.Lines.{Ends};
 
 // The end of the line that starts at `at`: the place of its 0x0A, or the text's length where it has none.
-pub fn line_end(text: &[u8], at: usize) -> usize
-    requires { ⌜ at ≤ length (now text) ⌝ }
+pub fn line_end(kinds: &KindTable, text: &[u8], at: usize) -> usize
+    requires { ⌜ Kinds (now kinds) × (at ≤ length (now text)) ⌝ }
     ensures { λ r. ⌜ Ends (now (text .entry)) at r ⌝ }
 {
     let mut i = at;
     while i < text.len() {
-        if kind(text[i]) == 15 {
+        if kind(kinds, text[i]) == LINE_END_KIND {
             return i;
         }
         i += 1;

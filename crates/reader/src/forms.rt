@@ -1,15 +1,61 @@
 // The form of a later line: a definition or a rule, written as its program.
+use book::codes::ALL_CODE;
+use book::codes::COMPLEMENT_CODE;
+use book::codes::ERASE_CODE;
+use book::codes::JOIN_CODE;
+use book::codes::MARK_CODE;
+use book::codes::MEET_CODE;
+use book::codes::PATTERN_CODE;
+use book::codes::RIGHT_CODE;
+use book::codes::STORE_PATTERN_CODE;
+use book::codes::STORE_RIGHT_CODE;
+use book::codes::WITHOUT_CODE;
+use book::kinds::EQUALS_KIND;
+use book::kinds::GREATER_KIND;
+use book::kinds::NAME_KIND;
+use book::kinds::SLASH_KIND;
+use book::kinds::UNDERSCORE_KIND;
 use choice::Made;
 use choice::Spot;
+use choice::kinds::KindTable;
 use choice::kinds::kind;
 use choice::lexer::Cursor;
-use choice::lexer::Next;
 ghost use mathlib.Core.Path.{_≡_};
 ghost use Prim.Native.Nat.{_+_, _*_, _-_, _<_, _≤_};
 ghost use lib.ListN.{length, getD};
-ghost use Rattle.book.specs.Kind.{kindOf};
+ghost use Rattle.book.specs.Kind.{kindOf, equalsKind, greaterKind, underscoreKind};
 ghost use Rattle.book.specs.Text.{countOf};
+ghost use Rattle.choice.specs.Kinds.{Kinds};
 ghost use Rattle.reader.specs.Forms.{Row, Room, ReadsContext, Ruled, ReadsForm};
+
+// The programs of specs/Program.antt.
+const PATTERN_PROGRAM: [u8; 10] = [
+    STORE_PATTERN_CODE,
+    ALL_CODE,
+    MARK_CODE,
+    JOIN_CODE,
+    PATTERN_CODE,
+    JOIN_CODE,
+    MARK_CODE,
+    JOIN_CODE,
+    ALL_CODE,
+    JOIN_CODE,
+];
+
+const CONTEXT_PROGRAM: [u8; 10] = [
+    STORE_RIGHT_CODE,
+    MARK_CODE,
+    JOIN_CODE,
+    PATTERN_CODE,
+    JOIN_CODE,
+    MARK_CODE,
+    JOIN_CODE,
+    RIGHT_CODE,
+    JOIN_CODE,
+    WITHOUT_CODE,
+];
+
+const FINISH_PROGRAM: [u8; 3] = [ERASE_CODE, COMPLEMENT_CODE, MEET_CODE];
 
 // A name with the length of its program, the length of a rule's program, or that the line is of neither form.
 pub enum Code {
@@ -32,55 +78,64 @@ fn put_row(out: &mut [u8], pos: usize, row: &[u8]) -> usize
 }
 
 // "a choice, `_`, a choice": with X, l, r on the stack, l M p M r is taken from X.
-fn context(line: &[u8], out: &mut [u8], c: Spot) -> Made
-    requires { ⌜ c .pos + 2 * (length (now line) - c .at) + 10 ≤ length (now out) ⌝ }
+fn context(kinds: &KindTable, line: &[u8], out: &mut [u8], c: Spot) -> Made
+    requires { ⌜ Kinds (now kinds) ⌝ }
+    requires { ⌜ c .pos + 2 * (length (now line) - c .cursor .at) + 10 ≤ length (now out) ⌝ }
     ensures { λ r. ⌜ ReadsContext (now (line .entry)) (now (out .entry)) c (now (out .exit)) r ⌝ }
 {
-    let Made::Done(first) = choice::choice(line, out, c) else {
+    let Made::Done(first) = choice::choice(kinds, line, out, c) else {
         return Made::Refused;
     };
-    let at = first.at;
-    let Next::Token(k, _, next) = (Cursor { at }).next(line) else {
-        return Made::Refused;
-    };
-    if k != 20 {
+    let behind = first.cursor;
+    let t = behind.token(kinds, line);
+    let k = t.kind;
+    if k != UNDERSCORE_KIND {
         return Made::Refused;
     }
+    let next = t.next;
     let Made::Done(second) = choice::choice(
+        kinds,
         line,
         out,
         Spot {
-            at: next.at,
+            cursor: next,
             pos: first.pos,
         },
     ) else {
         return Made::Refused;
     };
-    let row: [u8; 10] = [6, 2, 59, 3, 59, 2, 59, 4, 59, 45];
+    let row = CONTEXT_PROGRAM;
     let pos = put_row(out, second.pos, &row);
-    Made::Done(Spot { at: second.at, pos })
+    let cursor = second.cursor;
+    Made::Done(Spot { cursor, pos })
 }
 
 // "then per context `/`, a choice, `_`, a choice", up to the line's end
-fn contexts(line: &[u8], out: &mut [u8], c: Spot) -> Code
+fn contexts(kinds: &KindTable, line: &[u8], out: &mut [u8], c: Spot) -> Code
+    requires { ⌜ Kinds (now kinds) ⌝ }
     requires { ⌜ Ruled (now line) (now out) c ⌝ }
     ensures { λ r. ⌜ ReadsForm (now (line .entry)) (now (out .entry)) (c .pos) (now (out .exit)) r ⌝ }
 {
     let mut here = c;
     loop {
-        let at = here.at;
-        let Next::Token(k, _, next) = (Cursor { at }).next(line) else {
-            let row: [u8; 3] = [7, 33, 8];
+        let behind = here.cursor;
+        let t = behind.token(kinds, line);
+        let start = t.start;
+        if line.len() <= start.at {
+            let row = FINISH_PROGRAM;
             return Code::Rule(put_row(out, here.pos, &row));
-        };
-        if k != 19 {
+        }
+        let k = t.kind;
+        if k != SLASH_KIND {
             return Code::Malformed;
         }
+        let next = t.next;
         let Made::Done(n) = context(
+            kinds,
             line,
             out,
             Spot {
-                at: next.at,
+                cursor: next,
                 pos: here.pos,
             },
         ) else {
@@ -91,64 +146,75 @@ fn contexts(line: &[u8], out: &mut [u8], c: Spot) -> Code
 }
 
 // "a rule, `>`, a choice, then per context ..": behind the `>`
-fn rule(line: &[u8], out: &mut [u8]) -> Code
+fn rule(kinds: &KindTable, line: &[u8], out: &mut [u8]) -> Code
+    requires { ⌜ Kinds (now kinds) ⌝ }
     requires { ⌜ Room (now line) (now out) ⌝ }
-    requires { ⌜ kindOf (getD (now line) 0 0) ≡ 18 ⌝ }
-    requires { ⌜ countOf 20 (now line) ≤ 4 ⌝ }
+    requires { ⌜ kindOf (getD (now line) 0 0) ≡ greaterKind ⌝ }
+    requires { ⌜ countOf underscoreKind (now line) ≤ 4 ⌝ }
     ensures { λ r. ⌜ ReadsForm (now (line .entry)) (now (out .entry)) 0 (now (out .exit)) r ⌝ }
 {
-    let Made::Done(p) = choice::choice(line, out, Spot { at: 1, pos: 0 }) else {
+    let start = Spot {
+        cursor: Cursor { at: 1 },
+        pos: 0,
+    };
+    let Made::Done(p) = choice::choice(kinds, line, out, start) else {
         return Code::Malformed;
     };
-    let row: [u8; 10] = [5, 1, 2, 59, 3, 59, 2, 59, 1, 59];
+    let row = PATTERN_PROGRAM;
     let pos = put_row(out, p.pos, &row);
-    contexts(line, out, Spot { at: p.at, pos })
+    let cursor = p.cursor;
+    contexts(kinds, line, out, Spot { cursor, pos })
 }
 
 // "a definition, `=`, a name, a choice": behind the `=`
-fn definition(line: &[u8], out: &mut [u8]) -> Code
+fn definition(kinds: &KindTable, line: &[u8], out: &mut [u8]) -> Code
+    requires { ⌜ Kinds (now kinds) ⌝ }
     requires { ⌜ Room (now line) (now out) ⌝ }
-    requires { ⌜ kindOf (getD (now line) 0 0) ≡ 17 ⌝ }
+    requires { ⌜ kindOf (getD (now line) 0 0) ≡ equalsKind ⌝ }
     ensures { λ r. ⌜ ReadsForm (now (line .entry)) (now (out .entry)) 0 (now (out .exit)) r ⌝ }
 {
-    let Next::Token(k, name, body) = (Cursor { at: 1 }).next(line) else {
-        return Code::Malformed;
-    };
-    if k != 2 {
+    let t = (Cursor { at: 1 }).token(kinds, line);
+    let k = t.kind;
+    if k != NAME_KIND {
         return Code::Malformed;
     }
+    let name = t.byte;
+    let body = t.next;
     let Made::Done(n) = choice::choice(
+        kinds,
         line,
         out,
         Spot {
-            at: body.at,
+            cursor: body,
             pos: 0,
         },
     ) else {
         return Code::Malformed;
     };
-    let at = n.at;
-    match (Cursor { at }).next(line) {
-        Next::Token(_, _, _) => Code::Malformed,
-        Next::End => Code::Define(name, n.pos),
+    let behind = n.cursor;
+    let end = behind.skip(kinds, line);
+    if end.at < line.len() {
+        return Code::Malformed;
     }
+    Code::Define(name, n.pos)
 }
 
 // The form of a line whose brackets and contexts are counted already.
-pub fn form(line: &[u8], out: &mut [u8]) -> Code
+pub fn form(kinds: &KindTable, line: &[u8], out: &mut [u8]) -> Code
+    requires { ⌜ Kinds (now kinds) ⌝ }
     requires { ⌜ Room (now line) (now out) ⌝ }
-    requires { ⌜ countOf 20 (now line) ≤ 4 ⌝ }
+    requires { ⌜ countOf underscoreKind (now line) ≤ 4 ⌝ }
     ensures { λ r. ⌜ ReadsForm (now (line .entry)) (now (out .entry)) 0 (now (out .exit)) r ⌝ }
 {
     if line.len() < 1 {
         return Code::Malformed;
     }
-    let k = kind(line[0]);
-    if k == 17 {
-        return definition(line, out);
+    let k = kind(kinds, line[0]);
+    if k == EQUALS_KIND {
+        return definition(kinds, line, out);
     }
-    if k == 18 {
-        return rule(line, out);
+    if k == GREATER_KIND {
+        return rule(kinds, line, out);
     }
     Code::Malformed
 }

@@ -1,5 +1,8 @@
 // Line 1: `:` and then 1 to 26 letters, strictly rising.
 use crate::tests;
+use book::kinds::COLON_KIND;
+use book::kinds::LETTER_KIND;
+use choice::kinds::KindTable;
 use choice::kinds::kind;
 ghost use mathlib.Core.Path.{_≡_};
 ghost use Prim.Native.Nat.{_≤_};
@@ -7,6 +10,7 @@ ghost use lib.ListN.{length, drop};
 ghost use Rattle.automata.specs.Format.{narrow};
 ghost use Rattle.book.specs.Text.{rising, isHead};
 ghost use Rattle.book.specs.Line.{readHead};
+ghost use Rattle.choice.specs.Kinds.{Kinds};
 ghost use Rattle.reader.specs.Lines.{lineOf};
 ghost use Rattle.reader.specs.Head.{headOf};
 
@@ -17,14 +21,15 @@ pub enum Head {
 }
 
 // The bytes behind the first are letters, each above the one before.
-fn rises(line: &[u8]) -> bool
+fn rises(kinds: &KindTable, line: &[u8]) -> bool
+    requires { ⌜ Kinds (now kinds) ⌝ }
     ensures { λ r. ⌜ r ≡ rising 0 (drop 1 (now (line .entry))) ⌝ }
 {
     let mut low: u8 = 0;
     let mut i = 1;
     while i < line.len() {
         let b = line[i];
-        if kind(b) != 1 {
+        if kind(kinds, b) != LETTER_KIND {
             return false;
         }
         if b <= low {
@@ -36,13 +41,14 @@ fn rises(line: &[u8]) -> bool
     true
 }
 
-pub fn is_head(line: &[u8]) -> bool
+pub fn is_head(kinds: &KindTable, line: &[u8]) -> bool
+    requires { ⌜ Kinds (now kinds) ⌝ }
     ensures { λ r. ⌜ r ≡ isHead narrow (now (line .entry)) ⌝ }
 {
     if line.len() < 1 {
         return false;
     }
-    if kind(line[0]) != 16 {
+    if kind(kinds, line[0]) != COLON_KIND {
         return false;
     }
     if line.len() < 2 {
@@ -51,17 +57,18 @@ pub fn is_head(line: &[u8]) -> bool
     if 27 < line.len() {
         return false;
     }
-    rises(line)
+    rises(kinds, line)
 }
 
-pub fn read_head(line: &[u8], ended: bool) -> Head
+pub fn read_head(kinds: &KindTable, line: &[u8], ended: bool) -> Head
+    requires { ⌜ Kinds (now kinds) ⌝ }
     ensures { λ r. ⌜ readHead narrow (lineOf (now (line .entry)) ended) ≡ headOf (now (line .entry)) r ⌝ }
 {
-    let n = tests::line_test(line, ended);
+    let n = tests::line_test(kinds, line, ended);
     if n != 0 {
         return Head::Refused(n);
     }
-    if is_head(line) {
+    if is_head(kinds, line) {
         Head::Letters(line.len() - 1)
     } else {
         Head::Refused(5)

@@ -5,8 +5,10 @@ use crate::forms::Code;
 use crate::names::Names;
 use crate::symbols;
 use crate::tests;
+use choice::kinds::KindTable;
 ghost use Prim.Native.Nat.{_<_, _*_, _+_, _≤_};
 ghost use lib.ListN.{length};
+ghost use Rattle.choice.specs.Kinds.{Kinds};
 ghost use Rattle.reader.specs.Forms.{Room};
 ghost use Rattle.reader.specs.Lines.{lineOf};
 ghost use Rattle.reader.specs.Answers.{ReadsLine, ReadsNext};
@@ -26,17 +28,25 @@ pub enum LineAnswer {
 }
 
 // The line of these bytes, which has its end or not. A name's own line does not define it.
-pub fn check(line: &[u8], ended: bool, letters: &[u8], names: Names, out: &mut [u8]) -> Answer
+pub fn check(
+    kinds: &KindTable,
+    line: &[u8],
+    ended: bool,
+    letters: &[u8],
+    names: Names,
+    out: &mut [u8],
+) -> Answer
+    requires { ⌜ Kinds (now kinds) ⌝ }
     requires { ⌜ Room (now line) (now out) ⌝ }
     ensures { λ r. ⌜ ReadsLine (lineOf (now (line .entry)) ended) (now (letters .entry)) names (now (out .entry)) (now (out .exit)) r ⌝ }
 {
-    let n = tests::line_test(line, ended);
+    let n = tests::line_test(kinds, line, ended);
     if n != 0 {
         return Answer::Refused(n);
     }
-    match forms::form(line, out) {
+    match forms::form(kinds, line, out) {
         Code::Define(name, len) => {
-            if !symbols::all_known(&out[0..len], letters, names) {
+            if !symbols::all_known(kinds, &out[0..len], letters, names) {
                 return Answer::Refused(6);
             }
             if names.has(name) {
@@ -45,7 +55,7 @@ pub fn check(line: &[u8], ended: bool, letters: &[u8], names: Names, out: &mut [
             Answer::Define(name, len)
         }
         Code::Rule(len) => {
-            if !symbols::all_known(&out[0..len], letters, names) {
+            if !symbols::all_known(kinds, &out[0..len], letters, names) {
                 return Answer::Refused(6);
             }
             Answer::Rule(len)
@@ -55,14 +65,22 @@ pub fn check(line: &[u8], ended: bool, letters: &[u8], names: Names, out: &mut [
 }
 
 // The line that starts at `at`.
-pub fn read_line(text: &[u8], at: usize, letters: &[u8], names: Names, out: &mut [u8]) -> LineAnswer
+pub fn read_line(
+    kinds: &KindTable,
+    text: &[u8],
+    at: usize,
+    letters: &[u8],
+    names: Names,
+    out: &mut [u8],
+) -> LineAnswer
+    requires { ⌜ Kinds (now kinds) ⌝ }
     requires { ⌜ at < length (now text) ⌝ }
     requires { ⌜ 2 * length (now text) + 64 ≤ length (now out) ⌝ }
     ensures { λ r. ⌜ ReadsNext (now (text .entry)) at (now (letters .entry)) names (now (out .entry)) (now (out .exit)) r ⌝ }
 {
-    let end = ends::line_end(text, at);
+    let end = ends::line_end(kinds, text, at);
     let ended = end < text.len();
-    match check(&text[at..end], ended, letters, names, out) {
+    match check(kinds, &text[at..end], ended, letters, names, out) {
         Answer::Define(name, len) => LineAnswer::Define(name, len, end + 1),
         Answer::Rule(len) => LineAnswer::Rule(len, end + 1),
         Answer::Refused(n) => LineAnswer::Refused(n),

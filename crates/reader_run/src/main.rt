@@ -1,5 +1,6 @@
 // Reads texts from standard input, each ended by a byte 0x1E, and writes for each the number and the line of the first refusal that reading it
 // gives: 3 to 7 in a line, or 10 without a line where there is no rule; `0 0` where it gives none. No stage is made.
+use choice::kinds::KindTable;
 use libc::STDOUT_FILENO;
 use reader::ends::line_end;
 use reader::head::Head;
@@ -9,6 +10,7 @@ use reader::line::read_line;
 use reader::names::Names;
 ghost use Prim.Native.Nat.{_+_, _*_, _≤_};
 ghost use lib.ListN.{length};
+ghost use Rattle.choice.specs.Kinds.{Kinds};
 
 struct Outcome {
     number: u8,
@@ -16,7 +18,8 @@ struct Outcome {
 }
 
 // The lines behind line 1, whose letters these are.
-fn later(text: &[u8], start: usize, letters: &[u8], out: &mut [u8]) -> Outcome
+fn later(kinds: &KindTable, text: &[u8], start: usize, letters: &[u8], out: &mut [u8]) -> Outcome
+    requires { ⌜ Kinds (now kinds) ⌝ }
     requires { ⌜ 2 * length (now text) + 64 ≤ length (now out) ⌝ }
     requires { ⌜ 2 ≤ start ⌝ }
 {
@@ -25,7 +28,7 @@ fn later(text: &[u8], start: usize, letters: &[u8], out: &mut [u8]) -> Outcome
     let mut line = 2;
     let mut at = start;
     while at < text.len() {
-        match read_line(text, at, letters, names, out) {
+        match read_line(kinds, text, at, letters, names, out) {
             LineAnswer::Define(name, _, next) => {
                 names = names.with(name);
                 at = next;
@@ -50,12 +53,13 @@ fn later(text: &[u8], start: usize, letters: &[u8], out: &mut [u8]) -> Outcome
     }
 }
 
-fn first_refusal(text: &[u8], out: &mut [u8]) -> Outcome
+fn first_refusal(kinds: &KindTable, text: &[u8], out: &mut [u8]) -> Outcome
+    requires { ⌜ Kinds (now kinds) ⌝ }
     requires { ⌜ 2 * length (now text) + 64 ≤ length (now out) ⌝ }
 {
-    let end = line_end(text, 0);
+    let end = line_end(kinds, text, 0);
     let ended = end < text.len();
-    match read_head(&text[0..end], ended) {
+    match read_head(kinds, &text[0..end], ended) {
         Head::Refused(number) => Outcome { number, line: 1 },
         Head::Letters(_) => {
             if end < 1 {
@@ -64,19 +68,21 @@ fn first_refusal(text: &[u8], out: &mut [u8]) -> Outcome
             if text.len() <= end {
                 return Outcome { number: 5, line: 1 };
             }
-            later(text, end + 1, &text[1..end], out)
+            later(kinds, text, end + 1, &text[1..end], out)
         }
     }
 }
 
-fn report(text: &[u8], out: &mut [u8]) {
+fn report(kinds: &KindTable, text: &[u8], out: &mut [u8])
+    requires { ⌜ Kinds (now kinds) ⌝ }
+{
     if out.len() < 64 {
         return;
     }
     if (out.len() - 64) / 2 < text.len() {
         return;
     }
-    let o = first_refusal(text, out);
+    let o = first_refusal(kinds, text, out);
     io::print_decimal(STDOUT_FILENO, o.number as u64);
     io::write_all(STDOUT_FILENO, b" ");
     io::print_decimal(STDOUT_FILENO, o.line as u64);
@@ -84,12 +90,14 @@ fn report(text: &[u8], out: &mut [u8]) {
 }
 
 // Each text of the input.
-fn report_all(input: &[u8], out: &mut [u8]) {
+fn report_all(kinds: &KindTable, input: &[u8], out: &mut [u8])
+    requires { ⌜ Kinds (now kinds) ⌝ }
+{
     let mut from = 0;
     let mut i = 0;
     while i < input.len() {
         if input[i] == 0x1E {
-            report(&input[from..i], out);
+            report(kinds, &input[from..i], out);
             from = i + 1;
         }
         i += 1;
@@ -100,5 +108,6 @@ fn main() {
     let mut input = io::buffer();
     let n = io::read_full(0, &mut input);
     let mut out = [0u8; 16384];
-    report_all(&input[..n], &mut out);
+    let kinds = choice::kinds::table();
+    report_all(&kinds, &input[..n], &mut out);
 }

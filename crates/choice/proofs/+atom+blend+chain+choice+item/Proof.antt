@@ -6,6 +6,7 @@ use borrow.Author.Needs.{needs}
 use lib.ListN.{length}
 use Rattle.automata.specs.Stages.{either}
 use Rattle.language.specs.Expression.{pair, join}
+use Rattle.book.specs.Program.{joinCode, eitherCode}
 use Rattle.choice.specs.Reading.{a-choice, a-blend, a-chain, an-item, more-choices, more-blends, more-chains}
 use Rattle.choice.specs.ReadingLaws.{read-to, read-not}
 use Rattle.choice.proofs.TokenLaws.{at-fewer}
@@ -38,50 +39,50 @@ use Rattle.choice.proofs.suffixed.Reads as suffixed-reads
 use Rattle.choice.proofs.+atom+blend+chain+choice+item.{statement}
 use Rattle.choice.proofs.+atom+blend+chain+choice+item.Tie.{close}
 
-abbrev μ-atom : Measures 2 atom-kinds.ps ℕ
-μ-atom κs a = 6 * (length (a .0 .now) - a .1 .1 .0 .at) + 1
+abbrev μ-atom : Measures 3 atom-kinds.ps ℕ
+μ-atom κs a = 6 * (length (a .1 .0 .now) - a .1 .1 .1 .0 .cursor .at) + 1
 
-abbrev μ-blend : Measures 2 blend-kinds.ps ℕ
-μ-blend κs a = 6 * (length (a .0 .now) - a .1 .1 .0 .at) + 4
+abbrev μ-blend : Measures 3 blend-kinds.ps ℕ
+μ-blend κs a = 6 * (length (a .1 .0 .now) - a .1 .1 .1 .0 .cursor .at) + 4
 
-abbrev μ-chain : Measures 2 chain-kinds.ps ℕ
-μ-chain κs a = 6 * (length (a .0 .now) - a .1 .1 .0 .at) + 3
+abbrev μ-chain : Measures 3 chain-kinds.ps ℕ
+μ-chain κs a = 6 * (length (a .1 .0 .now) - a .1 .1 .1 .0 .cursor .at) + 3
 
-abbrev μ-choice : Measures 2 choice-kinds.ps ℕ
-μ-choice κs a = 6 * (length (a .0 .now) - a .1 .1 .0 .at) + 5
+abbrev μ-choice : Measures 3 choice-kinds.ps ℕ
+μ-choice κs a = 6 * (length (a .1 .0 .now) - a .1 .1 .1 .0 .cursor .at) + 5
 
-abbrev μ-item : Measures 2 item-kinds.ps ℕ
-μ-item κs a = 6 * (length (a .0 .now) - a .1 .1 .0 .at) + 2
+abbrev μ-item : Measures 3 item-kinds.ps ℕ
+μ-item κs a = 6 * (length (a .1 .0 .now) - a .1 .1 .1 .0 .cursor .at) + 2
 
-abbrev atom-at : ℕ → In 2 atom-kinds.ps
-atom-at t = and 2 atom-kinds.ps (is 2 atom-kinds.ps μ-atom t) atom.Pre
+abbrev atom-at : ℕ → In 3 atom-kinds.ps
+atom-at t = and 3 atom-kinds.ps (is 3 atom-kinds.ps μ-atom t) atom.Pre
 
-abbrev atom-below : ℕ → In 2 atom-kinds.ps
-atom-below t = and 2 atom-kinds.ps (falls 2 atom-kinds.ps _<_ μ-atom t) atom.Pre
+abbrev atom-below : ℕ → In 3 atom-kinds.ps
+atom-below t = and 3 atom-kinds.ps (falls 3 atom-kinds.ps _<_ μ-atom t) atom.Pre
 
-abbrev blend-at : ℕ → In 2 blend-kinds.ps
-blend-at t = and 2 blend-kinds.ps (is 2 blend-kinds.ps μ-blend t) blend.Pre
+abbrev blend-at : ℕ → In 3 blend-kinds.ps
+blend-at t = and 3 blend-kinds.ps (is 3 blend-kinds.ps μ-blend t) blend.Pre
 
-abbrev blend-below : ℕ → In 2 blend-kinds.ps
-blend-below t = and 2 blend-kinds.ps (falls 2 blend-kinds.ps _<_ μ-blend t) blend.Pre
+abbrev blend-below : ℕ → In 3 blend-kinds.ps
+blend-below t = and 3 blend-kinds.ps (falls 3 blend-kinds.ps _<_ μ-blend t) blend.Pre
 
-abbrev chain-at : ℕ → In 2 chain-kinds.ps
-chain-at t = and 2 chain-kinds.ps (is 2 chain-kinds.ps μ-chain t) chain.Pre
+abbrev chain-at : ℕ → In 3 chain-kinds.ps
+chain-at t = and 3 chain-kinds.ps (is 3 chain-kinds.ps μ-chain t) chain.Pre
 
-abbrev chain-below : ℕ → In 2 chain-kinds.ps
-chain-below t = and 2 chain-kinds.ps (falls 2 chain-kinds.ps _<_ μ-chain t) chain.Pre
+abbrev chain-below : ℕ → In 3 chain-kinds.ps
+chain-below t = and 3 chain-kinds.ps (falls 3 chain-kinds.ps _<_ μ-chain t) chain.Pre
 
-abbrev choice-at : ℕ → In 2 choice-kinds.ps
-choice-at t = and 2 choice-kinds.ps (is 2 choice-kinds.ps μ-choice t) choice.Pre
+abbrev choice-at : ℕ → In 3 choice-kinds.ps
+choice-at t = and 3 choice-kinds.ps (is 3 choice-kinds.ps μ-choice t) choice.Pre
 
-abbrev choice-below : ℕ → In 2 choice-kinds.ps
-choice-below t = and 2 choice-kinds.ps (falls 2 choice-kinds.ps _<_ μ-choice t) choice.Pre
+abbrev choice-below : ℕ → In 3 choice-kinds.ps
+choice-below t = and 3 choice-kinds.ps (falls 3 choice-kinds.ps _<_ μ-choice t) choice.Pre
 
-abbrev item-at : ℕ → In 2 item-kinds.ps
-item-at t = and 2 item-kinds.ps (is 2 item-kinds.ps μ-item t) item.Pre
+abbrev item-at : ℕ → In 3 item-kinds.ps
+item-at t = and 3 item-kinds.ps (is 3 item-kinds.ps μ-item t) item.Pre
 
-abbrev item-below : ℕ → In 2 item-kinds.ps
-item-below t = and 2 item-kinds.ps (falls 2 item-kinds.ps _<_ μ-item t) item.Pre
+abbrev item-below : ℕ → In 3 item-kinds.ps
+item-below t = and 3 item-kinds.ps (falls 3 item-kinds.ps _<_ μ-item t) item.Pre
 
 -- what `atom` calls
 abbrev atom-claims : ℕ → atom-lts.Claims
@@ -120,22 +121,22 @@ atom-returns-3 t c = atom-refused _ (c .before .before .before .before .token .e
 atom-choice-requires : (t : ℕ) → atom-lts.Need-choice-requires (atom-claims t) (atom-at t) atom.Post
 atom-choice-requires t c κs =
     let x = c .before .before .before .before .before .token .ensures .token (λ e. omega arith) in
-    (omega (arith, x .falls), omega (arith, x .falls))
+    (omega (arith, x .falls), (search needs, omega (arith, x .falls)))
 
 atom-returns-4 : (t : ℕ) → atom-lts.Need-returns-4 (atom-claims t) (atom-at t) atom.Post
 atom-returns-4 t c = bracket-refused (c .before .before .before .before .before .before .before .before .before .before .token .ensures .token (λ e. omega arith)) (c .before .before .before .before .before .before .if3 .left) (c .before .before .before .before .choice .ensures) (c .enum-told .given .1)
 
 atom-returns-5 : (t : ℕ) → atom-lts.Need-returns-5 (atom-claims t) (atom-at t) atom.Post
-atom-returns-5 t c = bracket-open (c .before .before .before .before .before .before .before .before .before .before .before .before .before .token .ensures .token (λ e. omega arith)) (c .before .before .before .before .before .before .before .before .before .if3 .left) (c .before .before .before .before .before .before .before .choice .ensures) _ (c .before .before .before .n .given .1) (c .before .token2 .ensures .kind-is) (c .if4 .taken)
+atom-returns-5 t c = bracket-open (c .before .before .before .before .before .before .before .before .before .before .before .before .before .before .token .ensures .token (λ e. omega arith)) (c .before .before .before .before .before .before .before .before .before .before .if3 .left) (c .before .before .before .before .before .before .before .before .choice .ensures) _ (c .before .before .before .before .n .given .1) (c .before .token2 .ensures .kind-is) (c .if4 .taken)
 
 atom-returns-6 : (t : ℕ) → atom-lts.Need-returns-6 (atom-claims t) (atom-at t) atom.Post
-atom-returns-6 t c = bracket-done (c .before .before .before .before .before .before .before .before .before .before .before .before .before .before .token .ensures .token (λ e. omega arith)) (c .before .before .before .before .before .before .before .before .before .before .if3 .left) (c .before .before .before .before .before .before .before .before .choice .ensures) (c .before .before .before .before .n .given .1) (c .before .before .token2 .ensures .token (λ e. omega arith)) (c .before .if4 .left)
+atom-returns-6 t c = bracket-done (c .before .before .before .before .before .before .before .before .before .before .before .before .before .before .before .token .ensures .token (λ e. omega arith)) (c .before .before .before .before .before .before .before .before .before .before .before .if3 .left) (c .before .before .before .before .before .before .before .before .before .choice .ensures) (c .before .before .before .before .before .n .given .1) (c .before .before .token2 .ensures .token (λ e. omega arith)) (c .before .if4 .left)
 
 abbrev blend-Inv-loop : blend-lts.InvT-loop
-blend-Inv-loop s out₀ here₀ more₀ operator₀ out here more operator = Ahead a-blend a-chain more-blends more operator s out₀ here₀ out here
+blend-Inv-loop kinds s out₀ here₀ more₀ operator₀ out here more operator = Ahead a-blend a-chain more-blends more operator s out₀ here₀ out here
 
 abbrev blend-μ-loop : blend-lts.MeasureT-loop
-blend-μ-loop s out₀ here₀ more₀ operator₀ out here more operator = length s - here .at
+blend-μ-loop kinds s out₀ here₀ more₀ operator₀ out here more operator = length s - here .cursor .at
 
 blend-loop-holds : (t : ℕ) → blend-lts.Need-loop-holds (blend-claims t) (blend-at t) blend.Post blend-Inv-loop blend-μ-loop
 blend-loop-holds t c = ahead-start blend-row
@@ -143,7 +144,7 @@ blend-loop-holds t c = ahead-start blend-row
 blend-chain-requires : (t : ℕ) → blend-lts.Need-chain-requires (blend-claims t) (blend-at t) blend.Post blend-Inv-loop blend-μ-loop
 blend-chain-requires t c κs =
     let v = c .before .loop .inv in
-    (omega (arith, v .falls), omega (arith, v .room, v .same-length))
+    (omega (arith, v .falls), (search needs, omega (arith, v .room, v .same-length)))
 
 blend-returns : (t : ℕ) → blend-lts.Need-returns (blend-claims t) (blend-at t) blend.Post blend-Inv-loop blend-μ-loop
 blend-returns t c = c .before .before .before .before .before .before .loop .inv .refused _ (read-not (c .before .before .before .before .chain .ensures) (c .enum-told .given .1))
@@ -152,31 +153,31 @@ blend-put-if-requires : (t : ℕ) → blend-lts.Need-put-if-requires (blend-clai
 blend-put-if-requires t c κs =
     let v = c .before .before .before .before .before .before .before .before .loop .inv in
     let w = read-to (c .before .before .before .before .before .before .chain .ensures) (c .before .before .n .given .1) in
-    omega (arith, v .room, v .same-length, w .room, c .before .before .before .before .before .before .chain .kept .1 .0)
+    omega (arith, v .room, v .same-length, w .room, c .before .before .before .before .before .before .chain .kept .1 .1 .0)
 
 blend-returns-2 : (t : ℕ) → blend-lts.Need-returns-2 (blend-claims t) (blend-at t) blend.Post blend-Inv-loop blend-μ-loop
-blend-returns-2 t c = row-done blend-row (c .before .before .before .before .before .before .before .before .before .before .before .before .before .loop .inv .reads _ _ _ _ (read-to (c .before .before .before .before .before .before .before .before .before .before .before .chain .ensures) (c .before .before .before .before .before .before .before .n .given .1)) (c .before .before .before .before .put-if .ensures) (c .before .before .before .before .before .before .before .before .before .before .before .chain .kept .1 .0) (c .before .before .before .before .put-if .kept .0)) (blends-stop _ _ (c .before .token .ensures .kind-is) (λ q. omega arith) (λ q. omega arith))
+blend-returns-2 t c = row-done blend-row (c .before .before .before .before .before .before .before .before .before .before .before .before .before .before .loop .inv .reads _ _ _ _ (read-to (c .before .before .before .before .before .before .before .before .before .before .before .before .chain .ensures) (c .before .before .before .before .before .before .before .before .n .given .1)) (c .before .before .before .before .before .put-if .ensures) (c .before .before .before .before .before .before .before .before .before .before .before .before .chain .kept .1 .1 .0) (c .before .before .before .before .before .put-if .kept .0)) (blends-stop _ _ (c .before .token .ensures .kind-is) (λ q. omega arith) (λ q. omega arith))
 
 blend-returns-3 : (t : ℕ) → blend-lts.Need-returns-3 (blend-claims t) (blend-at t) blend.Post blend-Inv-loop blend-μ-loop
-blend-returns-3 t c = row-done blend-row (c .before .before .before .before .before .before .before .before .before .before .before .before .before .before .loop .inv .reads _ _ _ _ (read-to (c .before .before .before .before .before .before .before .before .before .before .before .before .chain .ensures) (c .before .before .before .before .before .before .before .before .n .given .1)) (c .before .before .before .before .before .put-if .ensures) (c .before .before .before .before .before .before .before .before .before .before .before .before .chain .kept .1 .0) (c .before .before .before .before .before .put-if .kept .0)) (blends-stop _ _ (c .before .before .token .ensures .kind-is) (λ q. omega arith) (λ q. omega arith))
+blend-returns-3 t c = row-done blend-row (c .before .before .before .before .before .before .before .before .before .before .before .before .before .before .before .loop .inv .reads _ _ _ _ (read-to (c .before .before .before .before .before .before .before .before .before .before .before .before .before .chain .ensures) (c .before .before .before .before .before .before .before .before .before .n .given .1)) (c .before .before .before .before .before .before .put-if .ensures) (c .before .before .before .before .before .before .before .before .before .before .before .before .before .chain .kept .1 .1 .0) (c .before .before .before .before .before .before .put-if .kept .0)) (blends-stop _ _ (c .before .before .token .ensures .kind-is) (λ q. omega arith) (λ q. omega arith))
 
 blend-loop-less : (t : ℕ) → blend-lts.Need-loop-less (blend-claims t) (blend-at t) blend.Post blend-Inv-loop blend-μ-loop
 blend-loop-less t c =
     let x = c .before .before .before .token .ensures .token (λ e. omega arith) in
-    let w = read-to (c .before .before .before .before .before .before .before .before .before .before .before .before .before .chain .ensures) (c .before .before .before .before .before .before .before .before .before .n .given .1) in
-    omega (arith, c .before .before .before .before .before .before .put-if .ensures .at-is, w .falls, x .falls)
+    let w = read-to (c .before .before .before .before .before .before .before .before .before .before .before .before .before .before .chain .ensures) (c .before .before .before .before .before .before .before .before .before .before .n .given .1) in
+    omega (arith, c .before .before .before .before .before .before .before .put-if .ensures .at-is, w .falls, x .falls)
 
 blend-loop-again : (t : ℕ) → blend-lts.Need-loop-again (blend-claims t) (blend-at t) blend.Post blend-Inv-loop blend-μ-loop
 blend-loop-again t c =
     let x = c .before .before .before .token .ensures .token (λ e. omega arith) in
     let y = blends-turn x (c .before .before .if1 .left) (c .before .if2 .left) in
-    ahead-more blend-row (y .op) (c .before .before .before .before .before .before .before .before .before .before .before .before .before .before .before .loop .inv .reads _ _ _ _ (read-to (c .before .before .before .before .before .before .before .before .before .before .before .before .before .chain .ensures) (c .before .before .before .before .before .before .before .before .before .n .given .1)) (c .before .before .before .before .before .before .put-if .ensures) (c .before .before .before .before .before .before .before .before .before .before .before .before .before .chain .kept .1 .0) (c .before .before .before .before .before .before .put-if .kept .0)) (y .turn) refl (omega (arith, at-fewer x)) (omega (arith, at-fewer x)) (omega (arith, x .falls)) (y .code)
+    ahead-more blend-row (y .op) (c .before .before .before .before .before .before .before .before .before .before .before .before .before .before .before .before .loop .inv .reads _ _ _ _ (read-to (c .before .before .before .before .before .before .before .before .before .before .before .before .before .before .chain .ensures) (c .before .before .before .before .before .before .before .before .before .before .n .given .1)) (c .before .before .before .before .before .before .before .put-if .ensures) (c .before .before .before .before .before .before .before .before .before .before .before .before .before .before .chain .kept .1 .1 .0) (c .before .before .before .before .before .before .before .put-if .kept .0)) (y .turn) refl (omega (arith, at-fewer x)) (omega (arith, at-fewer x)) (omega (arith, x .falls)) (y .code)
 
 abbrev chain-Inv-loop : chain-lts.InvT-loop
-chain-Inv-loop s out₀ here₀ more₀ out here more = Ahead a-chain an-item more-chains more 59 s out₀ here₀ out here
+chain-Inv-loop kinds s out₀ here₀ more₀ out here more = Ahead a-chain an-item more-chains more joinCode s out₀ here₀ out here
 
 abbrev chain-μ-loop : chain-lts.MeasureT-loop
-chain-μ-loop s out₀ here₀ more₀ out here more = length s - here .at
+chain-μ-loop kinds s out₀ here₀ more₀ out here more = length s - here .cursor .at
 
 chain-loop-holds : (t : ℕ) → chain-lts.Need-loop-holds (chain-claims t) (chain-at t) chain.Post chain-Inv-loop chain-μ-loop
 chain-loop-holds t c = ahead-start chain-row
@@ -184,7 +185,7 @@ chain-loop-holds t c = ahead-start chain-row
 chain-item-requires : (t : ℕ) → chain-lts.Need-item-requires (chain-claims t) (chain-at t) chain.Post chain-Inv-loop chain-μ-loop
 chain-item-requires t c κs =
     let v = c .before .loop .inv in
-    (omega (arith, v .falls), omega (arith, v .room, v .same-length))
+    (omega (arith, v .falls), (search needs, omega (arith, v .room, v .same-length)))
 
 chain-returns : (t : ℕ) → chain-lts.Need-returns (chain-claims t) (chain-at t) chain.Post chain-Inv-loop chain-μ-loop
 chain-returns t c = c .before .before .before .before .before .before .loop .inv .refused _ (read-not (c .before .before .before .before .item .ensures) (c .enum-told .given .1))
@@ -193,30 +194,30 @@ chain-put-if-requires : (t : ℕ) → chain-lts.Need-put-if-requires (chain-clai
 chain-put-if-requires t c κs =
     let v = c .before .before .before .before .before .before .before .before .loop .inv in
     let w = read-to (c .before .before .before .before .before .before .item .ensures) (c .before .before .n .given .1) in
-    omega (arith, v .room, v .same-length, w .room, c .before .before .before .before .before .before .item .kept .1 .0)
+    omega (arith, v .room, v .same-length, w .room, c .before .before .before .before .before .before .item .kept .1 .1 .0)
 
 chain-returns-2 : (t : ℕ) → chain-lts.Need-returns-2 (chain-claims t) (chain-at t) chain.Post chain-Inv-loop chain-μ-loop
-chain-returns-2 t c = row-done chain-row (c .before .before .before .before .before .before .before .before .before .before .before .before .before .loop .inv .reads _ _ _ _ (read-to (c .before .before .before .before .before .before .before .before .before .before .before .item .ensures) (c .before .before .before .before .before .before .before .n .given .1)) (c .before .before .before .before .put-if .ensures) (c .before .before .before .before .before .before .before .before .before .before .before .item .kept .1 .0) (c .before .before .before .before .put-if .kept .0)) (chains-stop _ _ (c .before .token .ensures .kind-is) (below-items _ (c .if1 .taken)))
+chain-returns-2 t c = row-done chain-row (c .before .before .before .before .before .before .before .before .before .before .before .before .before .before .loop .inv .reads _ _ _ _ (read-to (c .before .before .before .before .before .before .before .before .before .before .before .before .item .ensures) (c .before .before .before .before .before .before .before .before .n .given .1)) (c .before .before .before .before .before .put-if .ensures) (c .before .before .before .before .before .before .before .before .before .before .before .before .item .kept .1 .1 .0) (c .before .before .before .before .before .put-if .kept .0)) (chains-stop _ _ (c .before .token .ensures .kind-is) (below-items _ (c .if1 .taken)))
 
 chain-returns-3 : (t : ℕ) → chain-lts.Need-returns-3 (chain-claims t) (chain-at t) chain.Post chain-Inv-loop chain-μ-loop
-chain-returns-3 t c = row-done chain-row (c .before .before .before .before .before .before .before .before .before .before .before .before .before .before .loop .inv .reads _ _ _ _ (read-to (c .before .before .before .before .before .before .before .before .before .before .before .before .item .ensures) (c .before .before .before .before .before .before .before .before .n .given .1)) (c .before .before .before .before .before .put-if .ensures) (c .before .before .before .before .before .before .before .before .before .before .before .before .item .kept .1 .0) (c .before .before .before .before .before .put-if .kept .0)) (chains-stop _ _ (c .before .before .token .ensures .kind-is) (above-items _ (c .if2 .taken)))
+chain-returns-3 t c = row-done chain-row (c .before .before .before .before .before .before .before .before .before .before .before .before .before .before .before .loop .inv .reads _ _ _ _ (read-to (c .before .before .before .before .before .before .before .before .before .before .before .before .before .item .ensures) (c .before .before .before .before .before .before .before .before .before .n .given .1)) (c .before .before .before .before .before .before .put-if .ensures) (c .before .before .before .before .before .before .before .before .before .before .before .before .before .item .kept .1 .1 .0) (c .before .before .before .before .before .before .put-if .kept .0)) (chains-stop _ _ (c .before .before .token .ensures .kind-is) (above-items _ (c .if2 .taken)))
 
 chain-loop-less : (t : ℕ) → chain-lts.Need-loop-less (chain-claims t) (chain-at t) chain.Post chain-Inv-loop chain-μ-loop
 chain-loop-less t c =
     let x = c .before .before .token .ensures .token (λ e. omega arith) in
-    let w = read-to (c .before .before .before .before .before .before .before .before .before .before .before .before .item .ensures) (c .before .before .before .before .before .before .before .before .n .given .1) in
-    omega (arith, c .before .before .before .before .before .put-if .ensures .at-is, w .falls, x .falls)
+    let w = read-to (c .before .before .before .before .before .before .before .before .before .before .before .before .before .item .ensures) (c .before .before .before .before .before .before .before .before .before .n .given .1) in
+    omega (arith, c .before .before .before .before .before .before .put-if .ensures .at-is, w .falls, x .falls)
 
 chain-loop-again : (t : ℕ) → chain-lts.Need-loop-again (chain-claims t) (chain-at t) chain.Post chain-Inv-loop chain-μ-loop
 chain-loop-again t c =
     let x = c .before .before .token .ensures .token (λ e. omega arith) in
-    ahead-more chain-row join (c .before .before .before .before .before .before .before .before .before .before .before .before .before .before .loop .inv .reads _ _ _ _ (read-to (c .before .before .before .before .before .before .before .before .before .before .before .before .item .ensures) (c .before .before .before .before .before .before .before .before .n .given .1)) (c .before .before .before .before .before .put-if .ensures) (c .before .before .before .before .before .before .before .before .before .before .before .before .item .kept .1 .0) (c .before .before .before .before .before .put-if .kept .0)) (chains-turn x (c .before .if1 .left) (c .if2 .left)) refl (omega arith) (omega arith) (omega arith) (λ e g. refl)
+    ahead-more chain-row join (c .before .before .before .before .before .before .before .before .before .before .before .before .before .before .before .loop .inv .reads _ _ _ _ (read-to (c .before .before .before .before .before .before .before .before .before .before .before .before .before .item .ensures) (c .before .before .before .before .before .before .before .before .before .n .given .1)) (c .before .before .before .before .before .before .put-if .ensures) (c .before .before .before .before .before .before .before .before .before .before .before .before .before .item .kept .1 .1 .0) (c .before .before .before .before .before .before .put-if .kept .0)) (chains-turn x (c .before .if1 .left) (c .if2 .left)) refl (omega arith) (omega arith) (omega arith) (λ e g. refl)
 
 abbrev choice-Inv-loop : choice-lts.InvT-loop
-choice-Inv-loop s out₀ here₀ more₀ out here more = Ahead a-choice a-blend more-choices more 124 s out₀ here₀ out here
+choice-Inv-loop kinds s out₀ here₀ more₀ out here more = Ahead a-choice a-blend more-choices more eitherCode s out₀ here₀ out here
 
 abbrev choice-μ-loop : choice-lts.MeasureT-loop
-choice-μ-loop s out₀ here₀ more₀ out here more = length s - here .at
+choice-μ-loop kinds s out₀ here₀ more₀ out here more = length s - here .cursor .at
 
 choice-loop-holds : (t : ℕ) → choice-lts.Need-loop-holds (choice-claims t) (choice-at t) choice.Post choice-Inv-loop choice-μ-loop
 choice-loop-holds t c = ahead-start choice-row
@@ -224,7 +225,7 @@ choice-loop-holds t c = ahead-start choice-row
 choice-blend-requires : (t : ℕ) → choice-lts.Need-blend-requires (choice-claims t) (choice-at t) choice.Post choice-Inv-loop choice-μ-loop
 choice-blend-requires t c κs =
     let v = c .before .loop .inv in
-    (omega (arith, v .falls), omega (arith, v .room, v .same-length))
+    (omega (arith, v .falls), (search needs, omega (arith, v .room, v .same-length)))
 
 choice-returns : (t : ℕ) → choice-lts.Need-returns (choice-claims t) (choice-at t) choice.Post choice-Inv-loop choice-μ-loop
 choice-returns t c = c .before .before .before .before .before .before .loop .inv .refused _ (read-not (c .before .before .before .before .blend .ensures) (c .enum-told .given .1))
@@ -233,44 +234,44 @@ choice-put-if-requires : (t : ℕ) → choice-lts.Need-put-if-requires (choice-c
 choice-put-if-requires t c κs =
     let v = c .before .before .before .before .before .before .before .before .loop .inv in
     let w = read-to (c .before .before .before .before .before .before .blend .ensures) (c .before .before .n .given .1) in
-    omega (arith, v .room, v .same-length, w .room, c .before .before .before .before .before .before .blend .kept .1 .0)
+    omega (arith, v .room, v .same-length, w .room, c .before .before .before .before .before .before .blend .kept .1 .1 .0)
 
 choice-returns-2 : (t : ℕ) → choice-lts.Need-returns-2 (choice-claims t) (choice-at t) choice.Post choice-Inv-loop choice-μ-loop
-choice-returns-2 t c = row-done choice-row (c .before .before .before .before .before .before .before .before .before .before .before .before .before .loop .inv .reads _ _ _ _ (read-to (c .before .before .before .before .before .before .before .before .before .before .before .blend .ensures) (c .before .before .before .before .before .before .before .n .given .1)) (c .before .before .before .before .put-if .ensures) (c .before .before .before .before .before .before .before .before .before .before .before .blend .kept .1 .0) (c .before .before .before .before .put-if .kept .0)) (choices-stop _ _ (c .before .token .ensures .kind-is) (c .if1 .taken))
+choice-returns-2 t c = row-done choice-row (c .before .before .before .before .before .before .before .before .before .before .before .before .before .before .loop .inv .reads _ _ _ _ (read-to (c .before .before .before .before .before .before .before .before .before .before .before .before .blend .ensures) (c .before .before .before .before .before .before .before .before .n .given .1)) (c .before .before .before .before .before .put-if .ensures) (c .before .before .before .before .before .before .before .before .before .before .before .before .blend .kept .1 .1 .0) (c .before .before .before .before .before .put-if .kept .0)) (choices-stop _ _ (c .before .token .ensures .kind-is) (c .if1 .taken))
 
 choice-loop-less : (t : ℕ) → choice-lts.Need-loop-less (choice-claims t) (choice-at t) choice.Post choice-Inv-loop choice-μ-loop
 choice-loop-less t c =
     let x = c .before .before .token .ensures .token (λ e. omega arith) in
-    let w = read-to (c .before .before .before .before .before .before .before .before .before .before .before .before .blend .ensures) (c .before .before .before .before .before .before .before .before .n .given .1) in
-    omega (arith, c .before .before .before .before .before .put-if .ensures .at-is, w .falls, x .falls)
+    let w = read-to (c .before .before .before .before .before .before .before .before .before .before .before .before .before .blend .ensures) (c .before .before .before .before .before .before .before .before .before .n .given .1) in
+    omega (arith, c .before .before .before .before .before .before .put-if .ensures .at-is, w .falls, x .falls)
 
 choice-loop-again : (t : ℕ) → choice-lts.Need-loop-again (choice-claims t) (choice-at t) choice.Post choice-Inv-loop choice-μ-loop
 choice-loop-again t c =
     let x = c .before .before .token .ensures .token (λ e. omega arith) in
-    ahead-more choice-row (pair either) (c .before .before .before .before .before .before .before .before .before .before .before .before .before .before .loop .inv .reads _ _ _ _ (read-to (c .before .before .before .before .before .before .before .before .before .before .before .before .blend .ensures) (c .before .before .before .before .before .before .before .before .n .given .1)) (c .before .before .before .before .before .put-if .ensures) (c .before .before .before .before .before .before .before .before .before .before .before .before .blend .kept .1 .0) (c .before .before .before .before .before .put-if .kept .0)) (choices-turn x (c .before .if1 .left)) refl (omega (arith, at-fewer x)) (omega (arith, at-fewer x)) (omega (arith, x .falls)) (λ e g. refl)
+    ahead-more choice-row (pair either) (c .before .before .before .before .before .before .before .before .before .before .before .before .before .before .before .loop .inv .reads _ _ _ _ (read-to (c .before .before .before .before .before .before .before .before .before .before .before .before .before .blend .ensures) (c .before .before .before .before .before .before .before .before .before .n .given .1)) (c .before .before .before .before .before .before .put-if .ensures) (c .before .before .before .before .before .before .before .before .before .before .before .before .before .blend .kept .1 .1 .0) (c .before .before .before .before .before .before .put-if .kept .0)) (choices-turn x (c .before .if1 .left)) refl (omega (arith, at-fewer x)) (omega (arith, at-fewer x)) (omega (arith, x .falls)) (λ e g. refl)
 
 item-atom-requires : (t : ℕ) → item-lts.Need-atom-requires (item-claims t) (item-at t) item.Post
 item-atom-requires t c κs =
-    let x = c .before .nots .ensures .passed in
-    (omega (arith, x .falls), omega (arith, x .falls))
+    let x = c .before .before .nots .ensures .passed in
+    (omega (arith, x .falls), (search needs, omega (arith, x .falls)))
 
 item-returns : (t : ℕ) → item-lts.Need-returns (item-claims t) (item-at t) item.Post
-item-returns t c = item-refused (c .before .before .before .before .before .before .nots .ensures) (c .before .before .before .before .atom .ensures) (c .enum-told .given .1)
+item-returns t c = item-refused (c .before .before .before .before .before .before .before .nots .ensures) (c .before .before .before .before .atom .ensures) (c .enum-told .given .1)
 
 item-suffixed-requires : (t : ℕ) → item-lts.Need-suffixed-requires (item-claims t) (item-at t) item.Post
 item-suffixed-requires t c κs =
-    let x = c .before .before .before .before .before .before .before .before .nots .ensures .passed in
+    let x = c .before .before .before .before .before .before .before .before .before .nots .ensures .passed in
     let z = read-to (c .before .before .before .before .before .before .atom .ensures) (c .before .before .n .given .1) in
-    omega (arith, x .falls, z .falls, z .room, c .before .before .before .before .before .before .atom .kept .1 .0)
+    (search needs, omega (arith, x .falls, z .falls, z .room, c .before .before .before .before .before .before .atom .kept .1 .1 .0))
 
 item-negate-requires : (t : ℕ) → item-lts.Need-negate-requires (item-claims t) (item-at t) item.Post
 item-negate-requires t c κs =
-    let x = c .before .before .before .before .before .before .before .before .before .before .before .before .nots .ensures .passed in
+    let x = c .before .before .before .before .before .before .before .before .before .before .before .before .before .nots .ensures .passed in
     let z = read-to (c .before .before .before .before .before .before .before .before .before .before .atom .ensures) (c .before .before .before .before .before .before .n .given .1) in
-    omega (arith, x .falls, z .falls, z .room, c .before .before .before .suffixed .ensures .room, c .before .before .before .suffixed .ensures .falls, c .before .before .before .before .before .before .before .before .before .before .atom .kept .1 .0, c .before .before .before .suffixed .kept .1 .0)
+    omega (arith, x .falls, z .falls, z .room, c .before .before .before .suffixed .ensures .room, c .before .before .before .suffixed .ensures .falls, c .before .before .before .before .before .before .before .before .before .before .atom .kept .1 .1 .0, c .before .before .before .suffixed .kept .1 .1 .0)
 
 item-returns-2 : (t : ℕ) → item-lts.Need-returns-2 (item-claims t) (item-at t) item.Post
-item-returns-2 t c = item-done (c .before .before .before .before .before .before .before .before .before .before .before .before .before .before .before .nots .ensures) (c .before .before .before .before .before .before .before .before .before .before .before .before .before .atom .ensures) (c .before .before .before .before .before .before .before .before .before .n .given .1) (c .before .before .before .before .before .before .suffixed .ensures) (c .before .before .negate .ensures)
+item-returns-2 t c = item-done (c .before .before .before .before .before .before .before .before .before .before .before .before .before .before .before .before .nots .ensures) (c .before .before .before .before .before .before .before .before .before .before .before .before .before .atom .ensures) (c .before .before .before .before .before .before .before .before .before .n .given .1) (c .before .before .before .before .before .before .suffixed .ensures) (c .before .before .negate .ensures)
 
 pub +atom+blend+chain+choice+item-spec : {M : Type 1} → statement M
 +atom+blend+chain+choice+item-spec =

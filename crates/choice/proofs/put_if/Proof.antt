@@ -5,12 +5,6 @@ use borrow.Author.Needs.{needs}
 use Rattle.choice.proofs.put_if.Statement.{statement}
 use Rattle.choice.proofs.put_if.Tie as tie
 
-put-requires : tie.Need-put-requires
-put-requires c κs = search needs
-
-same-length : tie.Need-same-length
-same-length c = search needs
-
 returns : tie.Need-returns
 returns c =
     let x = c .before .before .put .ensures in
@@ -20,4 +14,4 @@ returns-2 : tie.Need-returns-2
 returns-2 c = record { at-is = refl; put = λ e. absurd (true≢false (sym e ∙ c .if1 .left)); same = λ e. (refl, refl) }
 
 pub put-if-spec : {M : Type 1} → statement M
-put-if-spec = tie.close (tie.spec put-requires same-length returns returns-2)
+put-if-spec = tie.close (tie.spec (λ c κs. search needs) (λ c. search needs) returns returns-2)

@@ -9,13 +9,13 @@ use Rattle.choice_main.proofs.show.Tie as tie
 
 slice-reshare-prefix-write-all : tie.Need-slice-reshare-prefix-write-all
 slice-reshare-prefix-write-all c =
-    let z = read-to (c .before .before .before .before .before .choice .ensures) (c .before .n .given .1) in
-    omega (arith, z .room, c .before .before .before .before .before .choice .kept .1 .0)
+    let z = read-to (c .before .before .before .before .before .before .choice .ensures) (c .before .before .n .given .1) in
+    omega (arith, z .room, c .before .before .before .before .before .before .choice .kept .1 .1 .0)
 
 slice-aggregate-write-all-2 : tie.Need-slice-aggregate-write-all-2
 slice-aggregate-write-all-2 c =
-    let z = read-to (c .before .before .before .before .before .before .choice .ensures) (c .before .before .n .given .1) in
-    sym (length-take-le _ _ (omega (arith, z .room, c .before .before .before .before .before .before .choice .kept .1 .0)))
+    let z = read-to (c .before .before .before .before .before .before .before .choice .ensures) (c .before .before .before .n .given .1) in
+    sym (length-take-le _ _ (omega (arith, z .room, c .before .before .before .before .before .before .before .choice .kept .1 .1 .0)))
 
 pub show-spec : {M : Type 1} → statement M
 show-spec =

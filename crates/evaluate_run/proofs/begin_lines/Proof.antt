@@ -6,17 +6,20 @@ use Rattle.evaluate_run.proofs.begin_lines.Tie as tie
 
 lines-requires : tie.Need-lines-requires
 lines-requires c κs = (
-  record {
-    few = (omega arith, omega arith);
-    namesLong = omega arith;
-    registersLong = omega (arith, c .before .before .before .before .before .before .before .before .begin .kept);
-    stackLong = omega arith;
-    rowsLong = omega arith;
-    tableLong = omega arith;
-    workLong = omega arith;
-    held = c .before .before .before .before .before .before .before .before .begin .ensures;
-  },
-  omega arith,
+  search needs,
+  (
+    record {
+      few = (omega arith, omega arith);
+      namesLong = omega arith;
+      registersLong = omega (arith, c .before .before .before .before .before .before .before .before .begin .kept);
+      stackLong = omega arith;
+      rowsLong = omega arith;
+      tableLong = omega arith;
+      workLong = omega arith;
+      held = c .before .before .before .before .before .before .before .before .begin .ensures;
+    },
+    omega arith,
+  ),
 )
 
 pub begin-lines-spec : {M : Type 1} → statement M

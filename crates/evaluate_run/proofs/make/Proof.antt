@@ -12,7 +12,7 @@ returns : tie.Need-returns
 returns c = search needs
 
 run-requires : tie.Need-run-requires
-run-requires c κs = (running (c .before .before .before .before .before .before .before .before .before .before .before .before .before .before .before .pre .0) (c .before .before .before .before .before .before .before .before .before .before .before .before .before .before .before .pre .1) _ (c .before .before .before .before .before .before .nameless .ensures) (not-false _ (c .before .before .before .before .before .if1 .left)), one-machine (c .before .before .before .before .before .before .before .before .before .before .before .before .before .before .before .pre .0) (c .before .before .before .before .before .before .before .before .before .before .before .before .before .before .before .pre .1))
+run-requires c κs = (running (c .before .before .before .before .before .before .before .before .before .before .before .before .before .before .before .pre .1 .0) (c .before .before .before .before .before .before .before .before .before .before .before .before .before .before .before .pre .1 .1) _ (c .before .before .before .before .before .before .nameless .ensures) (not-false _ (c .before .before .before .before .before .if1 .left)), one-machine (c .before .before .before .before .before .before .before .before .before .before .before .before .before .before .before .pre .1 .0) (c .before .before .before .before .before .before .before .before .before .before .before .before .before .before .before .pre .1 .1))
 
 returns-2 : tie.Need-returns-2
 returns-2 c = search needs

@@ -7,10 +7,10 @@ use Rattle.evaluate_run.proofs.nameless.Statement.{statement}
 use Rattle.evaluate_run.proofs.nameless.Tie as tie
 
 abbrev Inv-loop : tie.InvT-loop
-Inv-loop code len i₀ i = (i ≤ len) × NoneBefore code i
+Inv-loop kinds code len i₀ i = (i ≤ len) × NoneBefore code i
 
 abbrev μ-loop : tie.MeasureT-loop
-μ-loop code len i₀ i = len - i
+μ-loop kinds code len i₀ i = len - i
 
 loop-holds : tie.Need-loop-holds Inv-loop μ-loop
 loop-holds c = (omega arith, none-start _)

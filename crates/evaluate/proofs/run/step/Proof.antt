@@ -1,5 +1,5 @@
 use native.Mathlib.Omega.{arith}
-use Rattle.evaluate.specs.Apply.{lent-columns}
+use Rattle.operations.specs.Apply.{lent-columns}
 use Rattle.evaluate.specs.Steps.{tall, push-bring, push-steps, top-low, top-stuck, top-apply, top-steps, beside-stuck, beside-ready, beside-steps, plus-stuck, plus-ready, plus-steps, unknown-steps, store-stuck, store-from, store-to, store-asks, store-steps}
 use borrow.Author.Needs.{needs}
 use Rattle.evaluate.proofs.run.step.Statement.{statement}

@@ -9,28 +9,13 @@ use Rattle.reader.proofs.ends.line_end.Statement.{statement}
 use Rattle.reader.proofs.ends.line_end.Tie as tie
 
 abbrev Inv-loop : tie.InvT-loop
-Inv-loop text at i₀ i = (at ≤ i) × (i ≤ length text) × Plain text at i
+Inv-loop kinds text at i₀ i = (at ≤ i) × (i ≤ length text) × Plain text at i
 
 abbrev μ-loop : tie.MeasureT-loop
-μ-loop text at i₀ i = length text - i
-
-loop-holds : tie.Need-loop-holds Inv-loop μ-loop
-loop-holds c = search needs
-
-shared-slice-read-kind : tie.Need-shared-slice-read-kind Inv-loop μ-loop
-shared-slice-read-kind c = search needs
-
-kind-requires : tie.Need-kind-requires Inv-loop μ-loop
-kind-requires c κs = search needs
+μ-loop kinds text at i₀ i = length text - i
 
 returns : tie.Need-returns Inv-loop μ-loop
 returns c = ends-at _ _ _ (c .before .before .before .before .loop .inv .0) (omega arith) (λ _. sym (c .before .kind .ensures) ∙ c .if1 .taken) (c .before .before .before .before .loop .inv .2)
-
-add-i : tie.Need-add-i Inv-loop μ-loop
-add-i c = search needs
-
-loop-less : tie.Need-loop-less Inv-loop μ-loop
-loop-less c = search needs
 
 loop-again : tie.Need-loop-again Inv-loop μ-loop
 loop-again c = (omega arith, omega arith, plain-next _ _ _ _ (c .before .kind .ensures) (c .if1 .left) (c .before .before .before .before .loop .inv .2))
@@ -44,11 +29,11 @@ line-end-spec =
     (tie.spec
     Inv-loop
     μ-loop
-    loop-holds
-    shared-slice-read-kind
-    kind-requires
+    (λ c. search needs)
+    (λ c. search needs)
+    (λ c κs. search needs)
     returns
-    add-i
-    loop-less
+    (λ c. search needs)
+    (λ c. search needs)
     loop-again
     returns-2)

@@ -4,7 +4,7 @@ use Prim.Native.Nat.{_-_}
 use native.Mathlib.Omega.{arith}
 use borrow.Author.Needs.{needs}
 use lib.ListN.{length}
-use Rattle.choice.proofs.TokenLaws.{seen-token, seen-end}
+use Rattle.choice.proofs.TokenLaws.{past-token, past-end}
 use Rattle.choice.specs.Buffer.{Grown}
 use Rattle.choice.specs.BufferLaws.{grown-none, grown-more}
 use Rattle.reader.specs.Forms.{Ruled}
@@ -13,80 +13,50 @@ use Rattle.reader.proofs.forms.contexts.Statement.{statement}
 use Rattle.reader.proofs.forms.contexts.Tie as tie
 
 abbrev Inv-loop : tie.InvT-loop
-Inv-loop line out₀ here₀ out here = Ruled line out here × (length out ≡ length out₀) × Grown out₀ (here₀ .pos) out (here .pos)
+Inv-loop kinds line out₀ here₀ out here = Ruled line out here × (length out ≡ length out₀) × Grown out₀ (here₀ .pos) out (here .pos)
 
 abbrev μ-loop : tie.MeasureT-loop
-μ-loop line out₀ here₀ out here = length line - here .at
+μ-loop kinds line out₀ here₀ out here = length line - here .cursor .at
 
 loop-holds : tie.Need-loop-holds Inv-loop μ-loop
-loop-holds c = (c .before .before .pre, refl, grown-none _ _)
-
-next-requires : tie.Need-next-requires Inv-loop μ-loop
-next-requires c κs = search needs
-
-enum-known-k : tie.Need-enum-known-k Inv-loop μ-loop
-enum-known-k c = search needs
-
-enum-told : tie.Need-enum-told Inv-loop μ-loop
-enum-told c = search needs
-
-slice-aggregate-put-row : tie.Need-slice-aggregate-put-row Inv-loop μ-loop
-slice-aggregate-put-row c = search needs
+loop-holds c = (c .before .before .pre .1, refl, grown-none _ _)
 
 put-row-requires : tie.Need-put-row-requires Inv-loop μ-loop
 put-row-requires c κs =
-    let d = c .before .before .before .before .before .loop .inv .0 in
+    let d = c .before .before .before .before .before .before .before .loop .inv .0 in
     omega (arith, d .room, d .few)
-
-same-length : tie.Need-same-length Inv-loop μ-loop
-same-length c = search needs
 
 returns : tie.Need-returns Inv-loop μ-loop
 returns c =
-    let d = c .before .before .before .before .before .before .before .before .loop .inv .0 in
-    rule-end d _ _ (seen-end (c .before .before .before .before .before .before .before .next .ensures) (c .before .before .before .before .before .enum-told .given .1)) (c .before .before .before .before .before .before .before .before .loop .inv .2) (c .before .before .put-row .ensures) (omega (arith, d .room, d .few, c .before .before .put-row .ensures .end-is, c .before .before .put-row .kept .0))
-
-same-length-2 : tie.Need-same-length-2 Inv-loop μ-loop
-same-length-2 c = search needs
+    let d = c .before .before .before .before .before .before .before .before .before .before .loop .inv .0 in
+    rule-end d _ _ (past-end (c .before .before .before .before .before .before .before .before .token .ensures .start) (c .before .before .before .before .before .if1 .taken)) (c .before .before .before .before .before .before .before .before .before .before .loop .inv .2) (c .before .before .put-row .ensures) (omega (arith, d .room, d .few, c .before .before .put-row .ensures .end-is, c .before .before .put-row .kept .0))
 
 returns-2 : tie.Need-returns-2 Inv-loop μ-loop
-returns-2 c =
-    let d = c .before .before .before .before .before .loop .inv .0 in
-    let x = seen-token (c .before .before .before .before .next .ensures) (c .before .before .k .given .1) in
-    rule-other d x (c .if1 .taken)
+returns-2 c = rule-other (c .before .before .before .before .before .before .loop .inv .0) (past-token (c .before .before .before .before .token .ensures .start) (c .before .if1 .left)) (c .before .before .before .before .token .ensures .kind-is) (c .if2 .taken)
 
 context-requires : tie.Need-context-requires Inv-loop μ-loop
 context-requires c κs =
-    let d = c .before .before .before .before .before .before .loop .inv .0 in
-    let x = seen-token (c .before .before .before .before .before .next .ensures) (c .before .before .before .k .given .1) in
-    omega (arith, d .room, d .few, x .falls)
-
-enum-known-n : tie.Need-enum-known-n Inv-loop μ-loop
-enum-known-n c = search needs
-
-enum-told-2 : tie.Need-enum-told-2 Inv-loop μ-loop
-enum-told-2 c = search needs
-
-same-length-3 : tie.Need-same-length-3 Inv-loop μ-loop
-same-length-3 c = search needs
+    let d = c .before .before .before .before .before .before .before .before .loop .inv .0 in
+    let x = c .before .before .before .before .before .before .token .ensures .token (λ e. omega arith) in
+    (search needs, omega (arith, d .room, d .few, x .falls))
 
 returns-3 : tie.Need-returns-3 Inv-loop μ-loop
 returns-3 c =
-    let d = c .before .before .before .before .before .before .before .before .before .before .before .loop .inv .0 in
-    let x = seen-token (c .before .before .before .before .before .before .before .before .before .before .next .ensures) (c .before .before .before .before .before .before .before .before .k .given .1) in
-    rule-half d x (c .before .before .before .before .before .before .if1 .left) (context-not (c .before .before .before .before .context .ensures) (c .enum-told2 .given .1))
+    let d = c .before .before .before .before .before .before .before .before .before .before .before .before .before .loop .inv .0 in
+    let x = c .before .before .before .before .before .before .before .before .before .before .before .token .ensures .token (λ e. omega arith) in
+    rule-half d x (c .before .before .before .before .before .before .before .if2 .left) (context-not (c .before .before .before .before .context .ensures) (c .enum-told .given .1))
 
 loop-less : tie.Need-loop-less Inv-loop μ-loop
 loop-less c =
-    let x = seen-token (c .before .before .before .before .before .before .before .before .before .before .before .next .ensures) (c .before .before .before .before .before .before .before .before .before .k .given .1) in
+    let x = c .before .before .before .before .before .before .before .before .before .before .before .before .token .ensures .token (λ e. omega arith) in
     omega (arith, x .falls, context-to (c .before .before .before .before .before .context .ensures) (c .before .n .given .1) .falls)
 
 loop-again : tie.Need-loop-again Inv-loop μ-loop
 loop-again c =
-    let d = c .before .before .before .before .before .before .before .before .before .before .before .before .loop .inv .0 in
-    let x = seen-token (c .before .before .before .before .before .before .before .before .before .before .before .next .ensures) (c .before .before .before .before .before .before .before .before .before .k .given .1) in
+    let d = c .before .before .before .before .before .before .before .before .before .before .before .before .before .before .loop .inv .0 in
+    let x = c .before .before .before .before .before .before .before .before .before .before .before .before .token .ensures .token (λ e. omega arith) in
     let t = context-to (c .before .before .before .before .before .context .ensures) (c .before .n .given .1) in
-    (rule-next d x _ _ (c .before .before .before .before .before .before .before .if1 .left) t (c .before .before .before .before .before .context .kept .1 .0), c .before .before .before .before .before .context .kept .1 .0 ∙ c .before .before .before .before .before .before .before .before .before .before .before .before .loop .inv .1, grown-more (c .before .before .before .before .before .before .before .before .before .before .before .before .loop .inv .2) (t .grown))
+    (rule-next d x _ _ (c .before .before .before .before .before .before .before .before .if2 .left) t (c .before .before .before .before .before .context .kept .1 .1 .0), c .before .before .before .before .before .context .kept .1 .1 .0 ∙ c .before .before .before .before .before .before .before .before .before .before .before .before .before .before .loop .inv .1, grown-more (c .before .before .before .before .before .before .before .before .before .before .before .before .before .before .loop .inv .2) (t .grown))
 
 pub contexts-spec : {M : Type 1} → statement M
 contexts-spec =
@@ -95,19 +65,17 @@ contexts-spec =
     Inv-loop
     μ-loop
     loop-holds
-    next-requires
-    enum-known-k
-    enum-told
-    slice-aggregate-put-row
+    (λ c κs. search needs)
+    (λ c. search needs)
     put-row-requires
-    same-length
+    (λ c. search needs)
     returns
-    same-length-2
+    (λ c. search needs)
     returns-2
     context-requires
-    enum-known-n
-    enum-told-2
-    same-length-3
+    (λ c. search needs)
+    (λ c. search needs)
+    (λ c. search needs)
     returns-3
     loop-less
     loop-again)

@@ -7,30 +7,6 @@ use Rattle.reader.proofs.forms.form.Tie as tie
 returns : tie.Need-returns
 returns c = form-empty _ (c .if1 .taken)
 
-shared-slice-read-kind : tie.Need-shared-slice-read-kind
-shared-slice-read-kind c = search needs
-
-kind-requires : tie.Need-kind-requires
-kind-requires c κs = search needs
-
-definition-requires : tie.Need-definition-requires
-definition-requires c κs = search needs
-
-same-length : tie.Need-same-length
-same-length c = search needs
-
-returns-2 : tie.Need-returns-2
-returns-2 c = search needs
-
-rule-requires : tie.Need-rule-requires
-rule-requires c κs = search needs
-
-same-length-2 : tie.Need-same-length-2
-same-length-2 c = search needs
-
-returns-3 : tie.Need-returns-3
-returns-3 c = search needs
-
 returns-4 : tie.Need-returns-4
 returns-4 c = form-neither _ _ (c .before .before .kind .ensures) (c .before .if2 .left) (c .if3 .left)
 
@@ -39,12 +15,12 @@ form-spec =
     tie.close
     (tie.spec
     returns
-    shared-slice-read-kind
-    kind-requires
-    definition-requires
-    same-length
-    returns-2
-    rule-requires
-    same-length-2
-    returns-3
+    (λ c. search needs)
+    (λ c κs. search needs)
+    (λ c κs. search needs)
+    (λ c. search needs)
+    (λ c. search needs)
+    (λ c κs. search needs)
+    (λ c. search needs)
+    (λ c. search needs)
     returns-4)

@@ -8,12 +8,6 @@ use Rattle.reader.proofs.head.is_head.Tie as tie
 returns : tie.Need-returns
 returns c = sym (head-none (c .before .before .args .line .now) (c .if1 .taken))
 
-shared-slice-read-kind : tie.Need-shared-slice-read-kind
-shared-slice-read-kind c = search needs
-
-kind-requires : tie.Need-kind-requires
-kind-requires c κs = search needs
-
 returns-2 : tie.Need-returns-2
 returns-2 c = sym (head-sign (c .before .before .before .before .before .args .line .now) _ (c .before .before .before .if1 .left) (c .before .kind .ensures) (c .if2 .taken))
 
@@ -23,9 +17,6 @@ returns-3 c = sym (head-short (c .before .before .before .before .before .before
 returns-4 : tie.Need-returns-4
 returns-4 c = sym (head-long (c .before .before .before .before .before .before .before .args .line .now) _ (c .before .before .before .before .before .if1 .left) (c .before .before .before .kind .ensures) (c .before .before .if2 .left) (c .if4 .taken))
 
-rises-requires : tie.Need-rises-requires
-rises-requires c κs = search needs
-
 returns-5 : tie.Need-returns-5
 returns-5 c = c .rises .ensures ∙ sym (head-rises (c .before .before .before .before .before .before .before .before .args .line .now) _ (c .before .before .before .before .before .before .if1 .left) (c .before .before .before .before .kind .ensures) (c .before .before .before .if2 .left) (c .before .before .if3 .left) (c .before .if4 .left))
 
@@ -34,10 +25,10 @@ is-head-spec =
     tie.close
     (tie.spec
     returns
-    shared-slice-read-kind
-    kind-requires
+    (λ c. search needs)
+    (λ c κs. search needs)
     returns-2
     returns-3
     returns-4
-    rises-requires
+    (λ c κs. search needs)
     returns-5)

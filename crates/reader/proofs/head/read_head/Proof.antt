@@ -5,17 +5,11 @@ use borrow.Author.Needs.{needs}
 use Rattle.reader.proofs.head.read_head.Statement.{statement}
 use Rattle.reader.proofs.head.read_head.Tie as tie
 
-line-test-requires : tie.Need-line-test-requires
-line-test-requires c κs = search needs
-
 returns : tie.Need-returns
 returns c = head-tested _ _ _ (c .before .line-test .ensures) (c .if1 .taken)
 
-is-head-requires : tie.Need-is-head-requires
-is-head-requires c κs = search needs
-
-sub-t8 : tie.Need-sub-t8
-sub-t8 c = head-length (c .before .before .before .before .before .args .line .now) (sym (c .before .is-head .ensures) ∙ c .if2 .taken)
+sub-t9 : tie.Need-sub-t9
+sub-t9 c = head-length (c .before .before .before .before .before .args .line .now) (sym (c .before .is-head .ensures) ∙ c .if2 .taken)
 
 returns-2 : tie.Need-returns-2
 returns-2 c = head-letters _ _ _ (c .before .before .before .line-test .ensures) (c .before .before .if1 .left) (sym (c .before .is-head .ensures) ∙ c .if2 .taken)
@@ -25,4 +19,4 @@ returns-3 c = head-malformed _ _ _ (c .before .before .before .line-test .ensure
 
 pub read-head-spec : {M : Type 1} → statement M
 read-head-spec =
-    tie.close (tie.spec line-test-requires returns is-head-requires sub-t8 returns-2 returns-3)
+    tie.close (tie.spec (λ c κs. search needs) returns (λ c κs. search needs) sub-t9 returns-2 returns-3)

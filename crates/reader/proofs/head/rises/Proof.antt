@@ -9,31 +9,16 @@ use Rattle.reader.proofs.head.rises.Statement.{statement}
 use Rattle.reader.proofs.head.rises.Tie as tie
 
 abbrev Inv-loop : tie.InvT-loop
-Inv-loop line low₀ i₀ low i = rising low (drop i line) ≡ rising 0 (drop 1 line)
+Inv-loop kinds line low₀ i₀ low i = rising low (drop i line) ≡ rising 0 (drop 1 line)
 
 abbrev μ-loop : tie.MeasureT-loop
-μ-loop line low₀ i₀ low i = length line - i
-
-loop-holds : tie.Need-loop-holds Inv-loop μ-loop
-loop-holds c = search needs
-
-shared-slice-read-b : tie.Need-shared-slice-read-b Inv-loop μ-loop
-shared-slice-read-b c = search needs
-
-kind-requires : tie.Need-kind-requires Inv-loop μ-loop
-kind-requires c κs = search needs
+μ-loop kinds line low₀ i₀ low i = length line - i
 
 returns : tie.Need-returns Inv-loop μ-loop
 returns c = sym (rises-not _ _ _ (c .before .before .before .loop-test .taken) (c .before .kind .ensures) _ (c .if1 .taken)) ∙ c .before .before .before .before .loop .inv
 
 returns-2 : tie.Need-returns-2 Inv-loop μ-loop
 returns-2 c = sym (rises-low _ _ _ (c .before .before .before .before .loop-test .taken) (c .before .before .kind .ensures) _ (c .before .if1 .left) (c .if2 .taken)) ∙ c .before .before .before .before .before .loop .inv
-
-add-i : tie.Need-add-i Inv-loop μ-loop
-add-i c = search needs
-
-loop-less : tie.Need-loop-less Inv-loop μ-loop
-loop-less c = search needs
 
 loop-again : tie.Need-loop-again Inv-loop μ-loop
 loop-again c = rises-on _ _ _ (c .before .before .before .before .loop-test .taken) (c .before .before .kind .ensures) _ (c .before .if1 .left) (c .if2 .left) ∙ c .before .before .before .before .before .loop .inv
@@ -47,12 +32,12 @@ rises-spec =
     (tie.spec
     Inv-loop
     μ-loop
-    loop-holds
-    shared-slice-read-b
-    kind-requires
+    (λ c. search needs)
+    (λ c. search needs)
+    (λ c κs. search needs)
     returns
     returns-2
-    add-i
-    loop-less
+    (λ c. search needs)
+    (λ c. search needs)
     loop-again
     returns-3)

@@ -8,28 +8,16 @@ use Rattle.reader.proofs.symbols.all_known.Statement.{statement}
 use Rattle.reader.proofs.symbols.all_known.Tie as tie
 
 abbrev Inv-loop : tie.InvT-loop
-Inv-loop code letters names i₀ i = KnownFrom code letters names i
+Inv-loop kinds code letters names i₀ i = KnownFrom code letters names i
 
 abbrev μ-loop : tie.MeasureT-loop
-μ-loop code letters names i₀ i = length code - i
+μ-loop kinds code letters names i₀ i = length code - i
 
 loop-holds : tie.Need-loop-holds Inv-loop μ-loop
 loop-holds c = known-start _ _ _
 
-shared-slice-read-symbol-known : tie.Need-shared-slice-read-symbol-known Inv-loop μ-loop
-shared-slice-read-symbol-known c = search needs
-
-symbol-known-requires : tie.Need-symbol-known-requires Inv-loop μ-loop
-symbol-known-requires c κs = search needs
-
 returns : tie.Need-returns Inv-loop μ-loop
 returns c = known-not _ _ _ _ _ (c .before .before .before .loop-test .taken) (c .before .symbol-known .ensures) (c .before .before .before .before .loop .inv) (not-true _ (c .if1 .taken))
-
-add-i : tie.Need-add-i Inv-loop μ-loop
-add-i c = search needs
-
-loop-less : tie.Need-loop-less Inv-loop μ-loop
-loop-less c = search needs
 
 loop-again : tie.Need-loop-again Inv-loop μ-loop
 loop-again c = known-next _ _ _ _ _ (c .before .before .before .loop-test .taken) (c .before .symbol-known .ensures) (c .before .before .before .before .loop .inv) (not-false _ (c .if1 .left))
@@ -44,10 +32,10 @@ all-known-spec =
     Inv-loop
     μ-loop
     loop-holds
-    shared-slice-read-symbol-known
-    symbol-known-requires
+    (λ c. search needs)
+    (λ c κs. search needs)
     returns
-    add-i
-    loop-less
+    (λ c. search needs)
+    (λ c. search needs)
     loop-again
     returns-2)

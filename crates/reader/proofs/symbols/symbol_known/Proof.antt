@@ -4,12 +4,6 @@ use Rattle.reader.proofs.SymbolLaws.{is-name, symbol-letter, symbol-nam
 use Rattle.reader.proofs.symbols.symbol_known.Statement.{statement}
 use Rattle.reader.proofs.symbols.symbol_known.Tie as tie
 
-kind-requires : tie.Need-kind-requires
-kind-requires c κs = search needs
-
-has-letter-requires : tie.Need-has-letter-requires
-has-letter-requires c κs = search needs
-
 returns : tie.Need-returns
 returns c = symbol-letter _ _ _ _ (c .before .before .kind .ensures) _ (c .before .if1 .taken) (c .has-letter .ensures)
 
@@ -24,4 +18,4 @@ returns-3 c = symbol-other _ _ _ _ (c .before .before .kind .ensures) (c .before
 
 pub symbol-known-spec : {M : Type 1} → statement M
 symbol-known-spec =
-    tie.close (tie.spec kind-requires has-letter-requires returns has-requires returns-2 returns-3)
+    tie.close (tie.spec (λ c κs. search needs) (λ c κs. search needs) returns has-requires returns-2 returns-3)

@@ -11,28 +11,10 @@ use Rattle.reader.proofs.tests.count.Statement.{statement}
 use Rattle.reader.proofs.tests.count.Tie as tie
 
 abbrev Inv-loop : tie.InvT-loop
-Inv-loop line k found₀ i₀ found i = (found ≤ i) × (i ≤ length line) × (found + countOf k (drop i line) ≡ countOf k line)
+Inv-loop kinds line k found₀ i₀ found i = (found ≤ i) × (i ≤ length line) × (found + countOf k (drop i line) ≡ countOf k line)
 
 abbrev μ-loop : tie.MeasureT-loop
-μ-loop line k found₀ i₀ found i = length line - i
-
-loop-holds : tie.Need-loop-holds Inv-loop μ-loop
-loop-holds c = search needs
-
-shared-slice-read-kind : tie.Need-shared-slice-read-kind Inv-loop μ-loop
-shared-slice-read-kind c = search needs
-
-kind-requires : tie.Need-kind-requires Inv-loop μ-loop
-kind-requires c κs = search needs
-
-add-found : tie.Need-add-found Inv-loop μ-loop
-add-found c = search needs
-
-add-i : tie.Need-add-i Inv-loop μ-loop
-add-i c = search needs
-
-loop-less : tie.Need-loop-less Inv-loop μ-loop
-loop-less c = search needs
+μ-loop kinds line k found₀ i₀ found i = length line - i
 
 loop-again : tie.Need-loop-again Inv-loop μ-loop
 loop-again c = ⊎-elim
@@ -49,11 +31,11 @@ count-spec =
     (tie.spec
     Inv-loop
     μ-loop
-    loop-holds
-    shared-slice-read-kind
-    kind-requires
-    add-found
-    add-i
-    loop-less
+    (λ c. search needs)
+    (λ c. search needs)
+    (λ c κs. search needs)
+    (λ c. search needs)
+    (λ c. search needs)
+    (λ c. search needs)
     loop-again
     returns)

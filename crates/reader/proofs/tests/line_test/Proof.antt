@@ -7,14 +7,8 @@ use borrow.Author.Needs.{needs}
 use Rattle.reader.proofs.tests.line_test.Statement.{statement}
 use Rattle.reader.proofs.tests.line_test.Tie as tie
 
-too-deep-requires : tie.Need-too-deep-requires
-too-deep-requires c κs = search needs
-
 returns : tie.Need-returns
 returns c = sym (test-deep _ _ (sym (c .before .too-deep .ensures) ∙ c .if1 .taken))
-
-count-requires : tie.Need-count-requires
-count-requires c κs = search needs
 
 returns-2 : tie.Need-returns-2
 returns-2 c = sym (test-contexts _ _ (sym (c .before .before .before .too-deep .ensures) ∙ c .before .before .if1 .left) (omega (arith, c .before .count .ensures)))
@@ -27,4 +21,4 @@ returns-4 c = sym (test-end _ _ (sym (c .before .before .before .before .too-dee
 
 pub line-test-spec : {M : Type 1} → statement M
 line-test-spec =
-    tie.close (tie.spec too-deep-requires returns count-requires returns-2 returns-3 returns-4)
+    tie.close (tie.spec (λ c κs. search needs) returns (λ c κs. search needs) returns-2 returns-3 returns-4)

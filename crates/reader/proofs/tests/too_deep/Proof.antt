@@ -10,55 +10,22 @@ use Rattle.reader.proofs.tests.too_deep.Statement.{statement}
 use Rattle.reader.proofs.tests.too_deep.Tie as tie
 
 abbrev Inv-loop : tie.InvT-loop
-Inv-loop line opens₀ closes₀ i₀ opens closes i = (opens ≤ i) × (closes ≤ i) × (i ≤ length line) × (tooDeep opens closes (drop i line) ≡ tooDeep 0 0 line)
+Inv-loop kinds line opens₀ closes₀ i₀ opens closes i = (opens ≤ i) × (closes ≤ i) × (i ≤ length line) × (tooDeep opens closes (drop i line) ≡ tooDeep 0 0 line)
 
 abbrev μ-loop : tie.MeasureT-loop
-μ-loop line opens₀ closes₀ i₀ opens closes i = length line - i
-
-loop-holds : tie.Need-loop-holds Inv-loop μ-loop
-loop-holds c = search needs
-
-shared-slice-read-kind : tie.Need-shared-slice-read-kind Inv-loop μ-loop
-shared-slice-read-kind c = search needs
-
-kind-requires : tie.Need-kind-requires Inv-loop μ-loop
-kind-requires c κs = search needs
-
-add-i : tie.Need-add-i Inv-loop μ-loop
-add-i c = search needs
-
-add-opens : tie.Need-add-opens Inv-loop μ-loop
-add-opens c = search needs
-
-sub-if3 : tie.Need-sub-if3 Inv-loop μ-loop
-sub-if3 c = search needs
+μ-loop kinds line opens₀ closes₀ i₀ opens closes i = length line - i
 
 returns : tie.Need-returns Inv-loop μ-loop
 returns c = sym (deep-over _ _ _ (c .before .before .before .before .before .loop-test .taken) (c .before .before .before .kind .ensures) _ _ (c .before .before .if1 .taken) (omega arith)) ∙ c .before .before .before .before .before .before .loop .inv .3
 
-loop-less : tie.Need-loop-less Inv-loop μ-loop
-loop-less c = search needs
-
 loop-again : tie.Need-loop-again Inv-loop μ-loop
 loop-again c = (omega arith, omega arith, omega arith, deep-open _ _ _ (c .before .before .before .before .before .loop-test .taken) (c .before .before .before .kind .ensures) _ _ (c .before .before .if1 .taken) (omega arith) ∙ c .before .before .before .before .before .before .loop .inv .3)
-
-loop-less-2 : tie.Need-loop-less-2 Inv-loop μ-loop
-loop-less-2 c = search needs
 
 loop-again-2 : tie.Need-loop-again-2 Inv-loop μ-loop
 loop-again-2 c = (omega arith, omega arith, omega arith, deep-open _ _ _ (c .before .before .before .before .loop-test .taken) (c .before .before .kind .ensures) _ _ (c .before .if1 .taken) (omega arith) ∙ c .before .before .before .before .before .loop .inv .3)
 
-add-closes : tie.Need-add-closes Inv-loop μ-loop
-add-closes c = search needs
-
-loop-less-3 : tie.Need-loop-less-3 Inv-loop μ-loop
-loop-less-3 c = search needs
-
 loop-again-3 : tie.Need-loop-again-3 Inv-loop μ-loop
 loop-again-3 c = (omega arith, omega arith, omega arith, deep-close _ _ _ (c .before .before .before .before .loop-test .taken) (c .before .before .kind .ensures) _ _ (c .if4 .taken) ∙ c .before .before .before .before .before .loop .inv .3)
-
-loop-less-4 : tie.Need-loop-less-4 Inv-loop μ-loop
-loop-less-4 c = search needs
 
 loop-again-4 : tie.Need-loop-again-4 Inv-loop μ-loop
 loop-again-4 c = (omega arith, omega arith, omega arith, deep-other _ _ _ (c .before .before .before .before .loop-test .taken) (c .before .before .kind .ensures) _ _ (c .before .if1 .left) (c .if4 .left) ∙ c .before .before .before .before .before .loop .inv .3)
@@ -72,20 +39,20 @@ too-deep-spec =
     (tie.spec
     Inv-loop
     μ-loop
-    loop-holds
-    shared-slice-read-kind
-    kind-requires
-    add-i
-    add-opens
-    sub-if3
+    (λ c. search needs)
+    (λ c. search needs)
+    (λ c κs. search needs)
+    (λ c. search needs)
+    (λ c. search needs)
+    (λ c. search needs)
     returns
-    loop-less
+    (λ c. search needs)
     loop-again
-    loop-less-2
+    (λ c. search needs)
     loop-again-2
-    add-closes
-    loop-less-3
+    (λ c. search needs)
+    (λ c. search needs)
     loop-again-3
-    loop-less-4
+    (λ c. search needs)
     loop-again-4
     returns-2)

@@ -1,38 +1,25 @@
 -- `choice::lexer::Cursor::token` meets its contract: where the spaces end, a token stands, or the bytes end.
-use mathlib.Core.Path.{sym, _∙_}
 use native.Mathlib.Omega.{arith}
 use borrow.Author.Needs.{needs}
-use Rattle.choice.proofs.TokenLaws.{tokens-other, tokens-end, lexed-token, lexed-end}
+use Rattle.choice.proofs.TokenLaws.{past-token, past-end, lexed-token, lexed-end}
 use Rattle.choice.proofs.lexer.Cursor.token.Statement.{statement}
 use Rattle.choice.proofs.lexer.Cursor.token.Tie as tie
 
-past-spaces-requires : tie.Need-past-spaces-requires
-past-spaces-requires c κs = search needs
-
-shared-slice-read-b : tie.Need-shared-slice-read-b
-shared-slice-read-b c = search needs
-
-kind-requires : tie.Need-kind-requires
-kind-requires c κs = search needs
-
-add-t9 : tie.Need-add-t9
-add-t9 c = search needs
-
 returns : tie.Need-returns
 returns c =
-    let p = c .before .before .before .past-spaces .ensures in
+    let p = c .before .before .before .skip .ensures in
     let h = c .before .before .if1 .taken in
     let k = c .kind .ensures in
-    lexed-token (record {
-      rest-is = sym (p .same) ∙ tokens-other _ _ _ h k (λ e. p .token h (sym k ∙ e));
+    lexed-token p (record {
+      rest-is = past-token p h;
       kind-is = k;
       falls = omega (arith, p .up);
     })
 
 returns-2 : tie.Need-returns-2
-returns-2 c = lexed-end (sym (c .before .past-spaces .ensures .same) ∙ tokens-end _ _ (c .if1 .left))
+returns-2 c = lexed-end (c .before .skip .ensures) (past-end (c .before .skip .ensures) (c .if1 .left))
 
 pub token-spec : {M : Type 1} → statement M
 token-spec =
     tie.close
-    (tie.spec past-spaces-requires shared-slice-read-b kind-requires add-t9 returns returns-2)
+    (tie.spec (λ c κs. search needs) (λ c. search needs) (λ c κs. search needs) (λ c. search needs) returns returns-2)

@@ -1,0 +1,3 @@
+-- Laws that the proofs cite.
+pub mod RunLaws
+pub mod LineLaws

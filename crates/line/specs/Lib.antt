@@ -1,0 +1,2 @@
+-- What the functions on one line promise.
+pub mod Line

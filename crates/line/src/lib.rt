@@ -1,0 +1,181 @@
+// One line of a book: it is read, its stages are made, and its machine is kept. These are parts: callers give a book in the making and buffers that are
+// long enough.
+pub mod progress;
+
+use choice::kinds::KindTable;
+use evaluate::run;
+use evaluate::run::Evaluated;
+use kept::Place;
+use operations::Layout;
+use progress::Book;
+use reader::line;
+use reader::line::LineAnswer;
+ghost use mathlib.Core.Path.{_≡_};
+ghost use mathlib.Core.Bool.{true, false};
+ghost use Prim.Native.Nat.{_<_};
+ghost use lib.ListN.{length};
+ghost use Rattle.choice.specs.Kinds.{Kinds};
+ghost use Rattle.kept.specs.Stored.{Right};
+ghost use Rattle.line.specs.Line.{Behind, Runs, CompilesForm, IsForm, tellOf, Going, CompilesLine};
+
+// The most sets that a stage may make, and the most states that a kept machine may have.
+pub const SETS: usize = 512;
+
+pub const STATES: usize = 120;
+
+// What the reader says of a line: whether it was read; then where its machine is kept, the length of its program and where the next line starts; else
+// the number of a refusal.
+struct Told {
+    on: bool,
+    number: u8,
+    place: Place,
+    len: usize,
+    next: usize,
+}
+
+fn tell(answer: LineAnswer) -> Told
+    ensures { λ r. ⌜ r ≡ tellOf answer ⌝ }
+{
+    match answer {
+        LineAnswer::Define(name, len, next) => Told {
+            on: true,
+            number: 0,
+            place: Place::Name(name),
+            len: len,
+            next: next,
+        },
+        LineAnswer::Rule(len, next) => Told {
+            on: true,
+            number: 0,
+            place: Place::Book,
+            len: len,
+            next: next,
+        },
+        LineAnswer::Refused(n) => Told {
+            on: false,
+            number: n,
+            place: Place::Book,
+            len: 0,
+            next: 0,
+        },
+    }
+}
+
+// Whether the book goes on; then the book behind the line, else the number of a refusal.
+pub struct Next {
+    pub on: bool,
+    pub number: u8,
+    pub book: Book,
+}
+
+fn goes(place: Place, book: Book, next: usize, peak: usize) -> Next
+    requires { ⌜ Right place × (book .line < 65536) ⌝ }
+    ensures { λ r. ⌜ (r .on ≡ true) × Behind place book next peak (r .book) ⌝ }
+{
+    let behind = book.behind(place, next, peak);
+    Next {
+        on: true,
+        number: 0,
+        book: behind,
+    }
+}
+
+fn stops(book: Book, n: u8) -> Next
+    ensures { λ r. ⌜ (r .on ≡ false) × (r .number ≡ n) ⌝ }
+{
+    Next {
+        on: false,
+        number: n,
+        book: book,
+    }
+}
+
+// A line by its program: its stages are made, and its machine is kept at its place.
+fn form(
+    place: Place,
+    len: usize,
+    next: usize,
+    letters: &[u8],
+    book: Book,
+    code: &[u8],
+    low: &mut [u8],
+    high: &mut [u8],
+    registers: &mut [u8],
+    stack: &mut [u8],
+    rows: &mut [u8],
+    table: &mut [u16],
+    work: &mut [u16],
+) -> Next
+    requires { ⌜ Runs (now letters) len (now code) (now low) (now high) (now registers) (now stack) (now rows) (now table) (now work) ⌝ }
+    requires { ⌜ Right place × (book .line < 65536) ⌝ }
+    ensures { λ r. ⌜ CompilesForm (now (letters .entry)) book next len (now (code .entry)) (now (low .entry)) (now (high .entry)) (now (registers .entry)) (now (low .exit)) (now (high .exit)) (now (registers .exit)) (IsForm place) r ⌝ }
+{
+    let l = Layout {
+        sets: SETS,
+        states: STATES,
+        size: kept::SLOT,
+    };
+    match run::run(
+        code,
+        len,
+        l,
+        letters,
+        &low[..],
+        &high[..],
+        registers,
+        stack,
+        rows,
+        table,
+        work,
+    ) {
+        Evaluated::Made(peak) => {
+            kept::keep(place, &stack[..], low, high, registers);
+            goes(place, book, next, peak)
+        }
+        Evaluated::Refused(n) => stops(book, n),
+    }
+}
+
+// The line at the book's place.
+pub fn one_line(
+    kinds: &KindTable,
+    text: &[u8],
+    letters: &[u8],
+    book: Book,
+    low: &mut [u8],
+    high: &mut [u8],
+    registers: &mut [u8],
+    stack: &mut [u8],
+    rows: &mut [u8],
+    table: &mut [u16],
+    work: &mut [u16],
+    code: &mut [u8],
+) -> Next
+    requires { ⌜ Kinds (now kinds) ⌝ }
+    requires { ⌜ Going (now text) (now letters) book (now low) (now high) (now registers) (now stack) (now rows) (now table) (now work) (now code) ⌝ }
+    requires { ⌜ book .at < length (now text) ⌝ }
+    ensures { λ r. ⌜ CompilesLine (now (text .entry)) (now (letters .entry)) book (now (low .entry)) (now (high .entry)) (now (registers .entry)) (now (low .exit)) (now (high .exit)) (now (registers .exit)) r ⌝ }
+{
+    let at = book.at;
+    let names = book.names;
+    let read = tell(line::read_line(kinds, text, at, letters, names, code));
+    if !read.on {
+        return stops(book, read.number);
+    }
+    let place = read.place;
+    form(
+        place,
+        read.len,
+        read.next,
+        letters,
+        book,
+        &code[..],
+        low,
+        high,
+        registers,
+        stack,
+        rows,
+        table,
+        work,
+    )
+}
