@@ -62,7 +62,19 @@ line-from s i w e (suc n) at q p h =
 pub ends-at : (s : List ℕ) (at i : ℕ) → at ≤ i → i ≤ length s → (i < length s → kindOf (getD s i 0) ≡ lineEndKind) → Plain s at i → Ends s at i
 ends-at s at i h w e p = record { from = h; within = w; lines = λ l. line-from s i w e (i - at) at (omega arith) p l }
 
--- ---- 3
+-- ---- 3 and 4
+
+-- along the line up to i: so many `(`, `)` and `_` were passed, and what is left decides as the whole
+pub record Along (s : List ℕ) (i o c n : ℕ) : Type 0 where
+  pub within : i ≤ length s
+  pub opens : o ≤ i
+  pub closes : c ≤ i
+  pub few : n ≤ i
+  pub deep : tooDeep o c (drop i s) ≡ tooDeep 0 0 s
+  pub gaps : n + countOf underscoreKind (drop i s) ≡ countOf underscoreKind s
+
+pub along-start : (s : List ℕ) → Along s 0 0 0 0
+along-start s = record { within = omega arith; opens = omega arith; closes = omega arith; few = omega arith; deep = refl; gaps = omega arith }
 
 module _ (s : List ℕ) (i k : ℕ) (h : i < length s) (q : k ≡ kindOf (getD s i 0)) where
   kind-is : (x : ℕ) → k ≡ x → eqb (kindOf (getD s i 0)) x ≡ true
@@ -71,24 +83,50 @@ module _ (s : List ℕ) (i k : ℕ) (h : i < length s) (q : k ≡ kindOf (getD s
   kind-not : (x : ℕ) → (k ≡ x → ⊥) → eqb (kindOf (getD s i 0)) x ≡ false
   kind-not x e = ne-eqb (kindOf (getD s i 0)) x (λ w. e (q ∙ w))
 
-  pub deep-over : (o c : ℕ) → k ≡ openKind → c + 4 < suc o → tooDeep o c (drop i s) ≡ true
-  deep-over o c e l = rw (front s i h, kind-is openKind e, lt-ltb (c + 4) (suc o) l)
+  module _ {o c n : ℕ} (v : Along s i o c n) where
+    pub along-over : k ≡ openKind → c + 4 < suc o → tooDeep 0 0 s ≡ true
+    along-over e l = sym (v .deep) ∙ rw (front s i h, kind-is openKind e, lt-ltb (c + 4) (suc o) l)
 
-  pub deep-open : (o c : ℕ) → k ≡ openKind → suc o ≤ c + 4 → tooDeep (o + 1) c (drop (i + 1) s) ≡ tooDeep o c (drop i s)
-  deep-open o c e l = rw (front s i h, kind-is openKind e, le-ltb (c + 4) (suc o) l, add-one o)
+    -- a byte that is no `_`
+    on : (o′ c′ : ℕ) → o′ ≤ i + 1 → c′ ≤ i + 1 → tooDeep o′ c′ (drop (i + 1) s) ≡ tooDeep o c (drop i s) → (k ≡ underscoreKind → ⊥) → Along s (i + 1) o′ c′ n
+    on o′ c′ ho hc e m = record {
+      within = omega arith;
+      opens = ho;
+      closes = hc;
+      few = omega (arith, v .few);
+      deep = e ∙ v .deep;
+      gaps = ap (λ x. n + x) (sym z) ∙ v .gaps;
+    }
+      where
+        z : countOf underscoreKind (drop i s) ≡ countOf underscoreKind (drop (i + 1) s)
+        z = rw (front s i h, kind-not underscoreKind m)
 
-  pub deep-close : (o c : ℕ) → k ≡ closeKind → tooDeep o (c + 1) (drop (i + 1) s) ≡ tooDeep o c (drop i s)
-  deep-close o c e = rw (front s i h, kind-not openKind (λ w. omega arith), kind-is closeKind e, add-one c)
+    pub along-open : k ≡ openKind → suc o ≤ c + 4 → Along s (i + 1) (o + 1) c n
+    along-open e l =
+        on (o + 1) c (omega (arith, v .opens)) (omega (arith, v .closes)) (rw (front s i h, kind-is openKind e, le-ltb (c + 4) (suc o) l, add-one o)) (λ w. omega arith)
 
-  pub deep-other : (o c : ℕ) → (k ≡ openKind → ⊥) → (k ≡ closeKind → ⊥) → tooDeep o c (drop (i + 1) s) ≡ tooDeep o c (drop i s)
-  deep-other o c m n = rw (front s i h, kind-not openKind m, kind-not closeKind n)
+    pub along-close : k ≡ closeKind → Along s (i + 1) o (c + 1) n
+    along-close e =
+        on o (c + 1) (omega (arith, v .opens)) (omega (arith, v .closes)) (rw (front s i h, kind-not openKind (λ w. omega arith), kind-is closeKind e, add-one c)) (λ w. omega arith)
 
-  -- ---- how many bytes of a kind
-  pub count-one : (x : ℕ) → k ≡ x → countOf x (drop i s) ≡ suc (countOf x (drop (i + 1) s))
-  count-one x e = rw (front s i h, kind-is x e)
+    pub along-other : (k ≡ openKind → ⊥) → (k ≡ closeKind → ⊥) → (k ≡ underscoreKind → ⊥) → Along s (i + 1) o c n
+    along-other a b m = on o c (omega (arith, v .opens)) (omega (arith, v .closes)) (rw (front s i h, kind-not openKind a, kind-not closeKind b)) m
 
-  pub count-other : (x : ℕ) → (k ≡ x → ⊥) → countOf x (drop i s) ≡ countOf x (drop (i + 1) s)
-  count-other x n = rw (front s i h, kind-not x n)
+    pub along-gap : k ≡ underscoreKind → Along s (i + 1) o c (n + 1)
+    along-gap e = record {
+      within = omega arith;
+      opens = omega (arith, v .opens);
+      closes = omega (arith, v .closes);
+      few = omega (arith, v .few);
+      deep = y ∙ v .deep;
+      gaps = omega (arith, v .gaps, z);
+    }
+      where
+        y : tooDeep o c (drop (i + 1) s) ≡ tooDeep o c (drop i s)
+        y = rw (front s i h, kind-not openKind (λ w. omega arith), kind-not closeKind (λ w. omega arith))
+
+        z : countOf underscoreKind (drop i s) ≡ suc (countOf underscoreKind (drop (i + 1) s))
+        z = rw (front s i h, kind-is underscoreKind e)
 
   -- ---- rising letters
   pub rises-not : (low : ℕ) → (k ≡ letterKind → ⊥) → rising low (drop i s) ≡ false
@@ -100,11 +138,12 @@ module _ (s : List ℕ) (i k : ℕ) (h : i < length s) (q : k ≡ kindOf (getD s
   pub rises-on : (low : ℕ) → k ≡ letterKind → low < getD s i 0 → rising (getD s i 0) (drop (i + 1) s) ≡ rising low (drop i s)
   rises-on low e l = rw (front s i h, kind-is letterKind e, lt-ltb low (getD s i 0) l)
 
-pub deep-end : (s : List ℕ) (i o c : ℕ) → length s ≤ i → tooDeep o c (drop i s) ≡ false
-deep-end s i o c h = rw (drop-of-length-le s {i = i} h)
+module _ {s : List ℕ} {i o c n : ℕ} (v : Along s i o c n) (h : length s ≤ i) where
+  pub shallow : tooDeep 0 0 s ≡ false
+  shallow = sym (v .deep) ∙ rw (drop-of-length-le s {i = i} h)
 
-pub count-end : (s : List ℕ) (i x : ℕ) → length s ≤ i → countOf x (drop i s) ≡ 0
-count-end s i x h = rw (drop-of-length-le s {i = i} h)
+  pub gaps-all : countOf underscoreKind s ≡ n
+  gaps-all = let z : countOf underscoreKind (drop i s) ≡ 0 = rw (drop-of-length-le s {i = i} h) in omega (arith, v .gaps, z)
 
 pub rises-end : (s : List ℕ) (i low : ℕ) → length s ≤ i → rising low (drop i s) ≡ true
 rises-end s i low h = rw (drop-of-length-le s {i = i} h)
