@@ -2,17 +2,17 @@
 use mathlib.Core.Path.{_≡_, refl, sym, ap, _∙_}
 use mathlib.Core.Bool.{true, false}
 use mathlib.Core.Logic.{_⊎_, inl, inr}
-use mathlib.Core.List.{List, [], _∷_, _++_, append-assoc}
+use mathlib.Core.List.{List, [], _∷_, _++_}
 use Prim.Native.Nat.{ℕ, zero, suc, _+_, _-_, _*_, _/_, _≤_, _<_, min}
 use native.Mathlib.Numerals.{add-one}
 use native.Mathlib.Omega.{arith}
-use lib.ListN.{length, take, drop, set, length-append, length-drop, drop-of-length-le}
+use lib.ListN.{length, take, drop, set, length-append, length-take, length-drop, drop-of-length-le}
 use lib.Seq.{sets, sets-eq, take-at, drop-at, drop-drop, length-take-le, take-all}
 use lib.Dec.{eqb}
 use Rattle.automata.specs.Booleans.{bool-cases}
 use Rattle.automata.specs.Format.{narrow}
 use Rattle.card.specs.Load.{loadTest}
-use Rattle.card.specs.Judge.{judge}
+use Rattle.card.specs.Judge.{Reply, judge}
 use Rattle.card.specs.Layout.{letterCount, stateCount}
 use Rattle.card.specs.Answer.{replyNumbers, holds, rejected, load}
 use Rattle.run.specs.declared.Answer.{Answer}
@@ -45,6 +45,19 @@ replies-length : (c : List ℕ) (ps : List (List ℕ)) → length (repliesTo c p
 replies-length c [] = refl
 replies-length c (p ∷ ps) = omega (arith, replies-length c ps)
 
+-- ---- numbers in their place
+
+pub three-sets : (l : List ℕ) (at x y z : ℕ) → set (set (set l at x) (at + 1) y) (at + 2) z ≡ sets l at (x ∷ y ∷ z ∷ [])
+three-sets l at x y z = let p : at + 1 ≡ suc at = omega arith in let q : at + 2 ≡ suc (suc at) = omega arith in rw (p, q)
+
+-- the answer a is read as r
+pub sets-as : (old new : List ℕ) (at : ℕ) (a : Answer) (r : Reply) → new ≡ sets old at (three (replyNumbers r)) → r ≡ replyOf a → new ≡ sets old at (three (replyNumbers (replyOf a)))
+sets-as old new at a r p e = p ∙ ap (λ x. sets old at (three (replyNumbers x))) e
+
+-- a line is no longer than the whole
+pub line-small : (s : List ℕ) (from e : ℕ) → length (lineOf s from e) ≤ length s
+line-small s from e = omega (arith, length-take (e - from) (drop from s), length-drop from s)
+
 -- ---- what was judged so far
 
 -- The first k plans are judged, and the next one begins at `from`.
@@ -72,19 +85,19 @@ module _ (c s old : List ℕ) where
     upto-length = omega (arith, ap length (u .is), length-append (done k) (drop at old), long, length-drop at old, u .room)
 
     -- one plan more, which begins at `from` and ends at e
-    module _ (b : from < length s) (e : ℕ) (l : LineEnd s from e) (a : Answer) (j : replyOf a ≡ judge narrow c (lineOf s from e)) (h : at + 3 ≤ length old) where
+    module _ (b : from < length s) (e : ℕ) (l : LineEnd s from e) (a : Answer) (j : replyOf a ≡ judge narrow c (lineOf s from e)) (h : at + 3 ≤ length old)
+        (new′ : List ℕ) (w : new′ ≡ sets new at (three (replyNumbers (replyOf a)))) where
       module _ (next : ℕ) (low : from ≤ next) (in′ : next ≤ length s) (p : plansOf (drop from s) ≡ lineOf s from e ∷ plansOf (drop next s)) (g : consumed 1 (drop from s) ≡ next - from) where
         head : drop k (plansOf s) ≡ lineOf s from e ∷ plansOf (drop next s)
         head = sym (u .rest) ∙ p
 
         more : done (suc k) ≡ done k ++ three (replyNumbers (replyOf a))
-            more = ap (repliesTo c) (take-next k (plansOf s) _ _ head) ∙ replies-append c (take k (plansOf s)) (lineOf s from e ∷ [])
+        more = ap (repliesTo c) (take-next k (plansOf s) _ _ head) ∙ replies-append c (take k (plansOf s)) (lineOf s from e ∷ [])
             ∙ ap (λ x. done k ++ three (replyNumbers x)) (sym j)
 
         stored : sets new at (three (replyNumbers (replyOf a))) ≡ done (suc k) ++ drop (at + 3) old
         stored = sets-eq (three (replyNumbers (replyOf a))) new at (omega (arith, upto-length))
-            ∙ (λ i. front i ++ (three (replyNumbers (replyOf a)) ++ back i))
-            ∙ sym (append-assoc (done k) (three (replyNumbers (replyOf a))) (drop (at + 3) old)) ∙ ap (λ x. x ++ drop (at + 3) old) (sym more)
+            ∙ (λ i. front i ++ three (replyNumbers (replyOf a)) ++ back i) ∙ ap (λ x. x ++ drop (at + 3) old) (sym more)
           where
             front : take at new ≡ done k
             front = ap (take at) (u .is) ∙ take-at (done k) (drop at old) at long
@@ -92,22 +105,22 @@ module _ (c s old : List ℕ) where
             back : drop (at + 3) new ≡ drop (at + 3) old
             back = sym (drop-drop 3 at new) ∙ ap (λ x. drop 3 (drop at x)) (u .is) ∙ ap (drop 3) (drop-at (done k) (drop at old) at long) ∙ drop-drop 3 at old
 
-        pub upto-next : Upto c s old (k + 1) (at + 3) next (sets new at (three (replyNumbers (replyOf a))))
-            upto-next = rw (add-one k) (record {
+        pub upto-next : Upto c s old (k + 1) (at + 3) next new′
+        upto-next = rw (add-one k) (record {
           count = omega (arith, ap length head, length-drop k (plansOf s));
           place = omega (arith, u .place);
           room = h;
           inside = in′;
           used = sym (consumed-next k s ∙ ap (λ x. x + consumed 1 (drop x s)) (sym (u .used)) ∙ ap (λ x. from + x) g ∙ omega arith);
           rest = sym (drop-next k (plansOf s) _ _ head);
-          is = stored;
+          is = w ∙ stored;
         })
 
-      pub upto-line : e < length s → Upto c s old (k + 1) (at + 3) (e + 1) (sets new at (three (replyNumbers (replyOf a))))
+      pub upto-line : e < length s → Upto c s old (k + 1) (at + 3) (e + 1) new′
       upto-line x = let z : suc e ≡ e + 1 = omega arith in
           upto-next (e + 1) (omega (arith, l .low)) (omega arith) (plans-line s from e l x ∙ ap (λ y. lineOf s from e ∷ plansOf (drop y s)) z) (consumed-line s from e l x ∙ omega arith)
 
-      pub upto-end : length s ≤ e → Upto c s old (k + 1) (at + 3) e (sets new at (three (replyNumbers (replyOf a))))
+      pub upto-end : length s ≤ e → Upto c s old (k + 1) (at + 3) e new′
       upto-end x = upto-next e (l .low) (l .most) (plans-end s from e l b x) (consumed-end s from e l x)
 
     -- ---- the end

@@ -5,8 +5,8 @@ use mathlib.Core.Logic.{_⊎_, inl, inr, _≢_}
 use mathlib.Core.List.{List, [], _∷_, _++_, append-assoc, append-nil}
 use Prim.Native.Nat.{ℕ, zero, suc, _+_, _-_, _≤_, _<_}
 use native.Mathlib.Omega.{arith}
-use lib.ListN.{length, getD, take, drop, take-append-drop, length-take, length-drop, drop-of-length-le}
-use lib.Seq.{drop-cons, drop-drop, getD-drop, take-all}
+use lib.ListN.{length, getD, take, drop, take-append-drop, length-append, length-take, length-drop, drop-of-length-le}
+use lib.Seq.{drop-cons, drop-drop, drop-nil, getD-drop, take-add, take-suc}
 use lib.Dec.{eqb}
 use borrow.Author.Tests.{eq-eqb, ne-eqb}
 use Rattle.automata.specs.Booleans.{bool-cases, choose}
@@ -77,7 +77,7 @@ plans-rest (suc k) [] = refl
 plans-rest (suc k) (b ∷ bs) = go (bool-cases (eqb b lineEnd)) (plans-rest k bs) (plans-rest (suc k) bs)
   where
     put : (k : ℕ) (ps : List (List ℕ)) → drop (suc k) (putByte b ps) ≡ drop (suc k) ps
-    put k [] = lib.Seq.drop-nil k
+    put k [] = drop-nil k
     put k (p ∷ ps) = refl
 
     go : (eqb b lineEnd ≡ true) ⊎ (eqb b lineEnd ≡ false) → plansOf (drop (consumed k bs) bs) ≡ drop k (plansOf bs)
@@ -105,6 +105,16 @@ begun-append u (b ∷ s) t = go (bool-cases (eqb b lineEnd)) (λ v. begun-append
         → begun u ((b ∷ s) ++ t) ≡ begun (begun u (b ∷ s)) t
     go (inl e) x = rw e (x [])
     go (inr e) x = rw e (x (u ++ (b ∷ [])))
+
+-- no more bytes than came
+pub begun-few : (u s : List ℕ) → length (begun u s) ≤ length u + length s
+begun-few u [] = omega arith
+begun-few u (b ∷ s) = go (bool-cases (eqb b lineEnd)) (begun-few [] s) (begun-few (u ++ (b ∷ [])) s)
+  where
+    go : (eqb b lineEnd ≡ true) ⊎ (eqb b lineEnd ≡ false) → length (begun [] s) ≤ 0 + length s → length (begun (u ++ (b ∷ [])) s) ≤ length (u ++ (b ∷ [])) + length s
+        → length (begun u (b ∷ s)) ≤ length u + suc (length s)
+    go (inl e) x y = rw e (omega arith)
+    go (inr e) x y = rw e (omega (arith, length-append u (b ∷ [])))
 
 -- bytes in front of plans
 abbrev putBytes : List ℕ → List (List ℕ) → List (List ℕ)
@@ -184,3 +194,28 @@ module _ (s : List ℕ) (from e : ℕ) (l : LineEnd s from e) where
 
   pub consumed-end : length s ≤ e → consumed 1 (drop from s) ≡ e - from
   consumed-end h = ap (consumed 1) (line-last h) ∙ consumed-last 0 line line-free ∙ line-length
+
+  -- ---- and in bytes that come in pieces, where of a plan u has come
+
+  take-last : take e s ≡ take from s ++ line
+  take-last = let z : e ≡ from + (e - from) = omega (arith, l .low) in ap (λ x. take x s) z ∙ take-add from (e - from) s
+
+  take-line : e < length s → take (suc e) s ≡ take from s ++ (line ++ (lineEnd ∷ []))
+  take-line h = take-suc s e 0 h ∙ (λ i. take-last i ++ (l .end h i ∷ [])) ∙ append-assoc (take from s) line (lineEnd ∷ [])
+
+  module _ (u : List ℕ) where
+    -- A LINE END ends the plan.
+    pub ended-line : e < length s → ended u (take (suc e) s) ≡ ended u (take from s) ++ ((begun u (take from s) ++ line) ∷ [])
+    ended-line h = ap (ended u) (take-line h) ∙ ended-append u (take from s) (line ++ (lineEnd ∷ []))
+        ∙ ap (λ x. ended u (take from s) ++ x) (ended-cut (begun u (take from s)) line [] line-free)
+
+    pub begun-line : e < length s → begun u (take (suc e) s) ≡ []
+    begun-line h = ap (begun u) (take-line h) ∙ begun-append u (take from s) (line ++ (lineEnd ∷ [])) ∙ begun-cut (begun u (take from s)) line [] line-free
+
+    -- BYTES BEFORE A LINE END go on with it.
+    pub ended-last : ended u (take e s) ≡ ended u (take from s)
+    ended-last = ap (ended u) take-last ∙ ended-append u (take from s) line
+        ∙ ap (λ x. ended u (take from s) ++ x) (ended-free (begun u (take from s)) line line-free) ∙ append-nil (ended u (take from s))
+
+    pub begun-last : begun u (take e s) ≡ begun u (take from s) ++ line
+    begun-last = ap (begun u) take-last ∙ begun-append u (take from s) line ∙ begun-free (begun u (take from s)) line line-free

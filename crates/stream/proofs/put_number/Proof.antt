@@ -1,9 +1,11 @@
 -- `put_number` meets its contract: a number has at most 20 digits.
+use mathlib.Core.Path.{_≡_, sym, ap, subst, _∙_}
 use native.Mathlib.Omega.{arith}
 use borrow.Author.Needs.{needs}
-use Rattle.judge.proofs.PlanLaws.{digits-few}
-use Rattle.judge.proofs.text.put_number.Statement.{statement}
-use Rattle.judge.proofs.text.put_number.Tie as tie
+use Rattle.io.specs.Digits.{digits}
+use Rattle.stream.specs.TextLaws.{digits-few, fewest-places, put-as}
+use Rattle.stream.proofs.put_number.Statement.{statement}
+use Rattle.stream.proofs.put_number.Tie as tie
 
 put-requires : tie.Need-put-requires
 put-requires c κs = omega (arith, c .before .before .decimal .ensures .0 .1, digits-few (c .before .before .before .before .before .args .number) (c .before .before .decimal .result) (c .before .before .before .before .before .fits .number .fits) (c .before .before .decimal .ensures .1 .0))
@@ -12,9 +14,7 @@ returns : tie.Need-returns
 returns c =
     record {
       most = omega (arith, c .before .before .put .ensures .place, c .before .before .before .before .before .decimal .ensures .0 .1, digits-few (c .before .before .before .before .before .before .before .before .args .number) (c .before .before .before .before .before .decimal .result) (c .before .before .before .before .before .before .before .before .fits .number .fits) (c .before .before .before .before .before .decimal .ensures .1 .0));
-      text = _;
-      decimal = record { count = c .before .before .before .before .before .decimal .result; fewest = c .before .before .before .before .before .decimal .ensures .1 .0; is = c .before .before .before .before .before .decimal .ensures .1 .1 };
-      put = c .before .before .put .ensures;
+      put = put-as _ _ _ _ _ _ (c .before .before .put .ensures) (c .before .before .before .before .before .decimal .ensures .1 .1 ∙ ap (λ k. digits 10 k (c .before .before .before .before .before .before .before .before .args .number)) (sym (fewest-places (c .before .before .before .before .before .before .before .before .args .number) (c .before .before .before .before .before .decimal .result) (c .before .before .before .before .before .decimal .ensures .1 .0))));
     }
 
 pub put-number-spec : {M : Type 1} → statement M

@@ -4,9 +4,9 @@ use Prim.Native.Nat.{_≤_, _-_}
 use native.Mathlib.Omega.{arith}
 use lib.ListN.{length}
 use borrow.Author.Needs.{needs}
-use Rattle.judge.proofs.TextLaws.{PutUpto, put-start, put-next, put-done}
-use Rattle.judge.proofs.text.put.Statement.{statement}
-use Rattle.judge.proofs.text.put.Tie as tie
+use Rattle.stream.proofs.PutLaws.{PutUpto, put-start, put-next, put-done}
+use Rattle.stream.proofs.put.Statement.{statement}
+use Rattle.stream.proofs.put.Tie as tie
 
 abbrev Inv-loop : tie.InvT-loop
 Inv-loop out₀ at text i₀ out i = (i ≤ length text) × (length out ≡ length out₀) × PutUpto out₀ at text out i

@@ -2,8 +2,8 @@
 use native.Mathlib.Omega.{arith}
 use borrow.Author.Needs.{needs}
 use Rattle.judge.proofs.TextLaws.{line-allowed, line-unfinished, line-hopeless, line-refused}
-use Rattle.judge.proofs.text.line.Statement.{statement}
-use Rattle.judge.proofs.text.line.Tie as tie
+use Rattle.judge.proofs.reply.line.Statement.{statement}
+use Rattle.judge.proofs.reply.line.Tie as tie
 
 returns : tie.Need-returns
 returns c = line-allowed _ _ (c .before .before .before .before .before .before .before .before .before .before .before .args .answer) _ _ _ (c .before .before .before .before .before .before .before .before .answer .given .1) (c .before .before .before .before .before .enum-told .given .1) (c .before .before .put .ensures)
