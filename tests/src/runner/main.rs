@@ -6,6 +6,7 @@
 
 mod acting;
 mod board_examples;
+mod by_format;
 mod compare_board;
 mod compare_compile;
 mod compare_programs;
@@ -117,7 +118,12 @@ fn run(tally: &mut Tally, options: &Options, effort: Effort) {
     }
     if wanted("board") {
         match product::board() {
-            Some(board) => compare_board::run(tally, &*board, effort),
+            Some(board) => {
+                compare_board::run(tally, &*board, effort);
+                if effort.fixed {
+                    by_format::run(tally, &*board);
+                }
+            }
             None => tally.skip("board", "no static library is linked"),
         }
     }
