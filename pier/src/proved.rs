@@ -61,15 +61,51 @@ pub fn step(card: &[u8], state: usize, letter: u8) -> Stepped {
     }
 }
 
+/// Judges one plan; for tests, since `judge_lines` answers the same.
+#[cfg(test)]
 pub fn judge(card: &[u8], plan: &[u8]) -> Judged {
     let mut out = [UNSET; 3];
     entries::judge(card, plan, &mut out);
-    match out {
+    judged(out)
+}
+
+fn judged(reply: [u64; REPLY]) -> Judged {
+    match reply {
         [0, 1, _] => Judged::Allowed,
         [0, 0, _] => Judged::Unfinished,
         [0, _, place] => Judged::Hopeless(place),
         [27, _, before] => Judged::UnknownLetter { before },
         [number, ..] => Judged::Refused(number),
+    }
+}
+
+/// A reply's numbers: refusal or 0, verdict, place.
+pub const REPLY: usize = 3;
+
+/// The replies of one call.
+pub struct Replies<'a>(std::slice::ChunksExact<'a, u64>);
+
+impl Iterator for Replies<'_> {
+    type Item = Judged;
+
+    fn next(&mut self) -> Option<Judged> {
+        self.0.next().map(|reply| judged([reply[0], reply[1], reply[2]]))
+    }
+
+    fn size_hint(&self) -> (usize, Option<usize>) {
+        self.0.size_hint()
+    }
+}
+
+impl ExactSizeIterator for Replies<'_> {}
+
+/// Judges the plans of `plans`, one a line, as far as there is room for replies:
+/// the bytes of those that were judged, and the replies; or the card's refusal.
+pub fn judge_lines<'a>(card: &[u8], plans: &'a [u8], replies: &'a mut [u64]) -> Result<(&'a [u8], Replies<'a>), u64> {
+    let mut out = [UNSET; 3];
+    match entries::judge_lines(card, plans, replies, &mut out) {
+        0 => Ok((&plans[..out[1] as usize], Replies(replies[..REPLY * out[0] as usize].chunks_exact(REPLY)))),
+        number => Err(number),
     }
 }
 
@@ -146,6 +182,17 @@ mod entries {
         unsafe { pier_judge(card.as_ptr(), card.len(), plan.as_ptr(), plan.len(), out.as_mut_ptr(), out.len()) }
     }
 
+    pub fn judge_lines(card: &[u8], plans: &[u8], replies: &mut [u64], out: &mut [u64]) -> u64 {
+        let (mut judged, mut bytes) = (0, 0);
+        for (line, reply) in plans.split_inclusive(|&byte| byte == b'\n').zip(replies.chunks_exact_mut(super::REPLY)) {
+            judge(card, line.strip_suffix(b"\n").unwrap_or(line), reply);
+            judged += 1;
+            bytes += line.len() as u64;
+        }
+        out.copy_from_slice(&[judged, bytes, 0]);
+        0
+    }
+
     #[cfg(not(feature = "compile"))]
     pub fn compile(_text: &[u8], _card: &mut [u8], _out: &mut [u64]) -> bool {
         false
@@ -218,6 +265,20 @@ mod entries {
             Err(Refused::Card(number)) => [number.into(), 0, 0],
             Err(Refused::ForeignLetter { before }) => [27, 0, before as u64],
         });
+    }
+
+    pub fn judge_lines(card: &[u8], plans: &[u8], replies: &mut [u64], out: &mut [u64]) -> u64 {
+        if let Err(number) = board::load(card) {
+            return number.into();
+        }
+        let (mut judged, mut bytes) = (0, 0);
+        for (line, reply) in plans.split_inclusive(|&byte| byte == b'\n').zip(replies.chunks_exact_mut(super::REPLY)) {
+            judge(card, line.strip_suffix(b"\n").unwrap_or(line), reply);
+            judged += 1;
+            bytes += line.len() as u64;
+        }
+        out.copy_from_slice(&[judged, bytes, 0]);
+        0
     }
 
     pub fn compile(text: &[u8], card: &mut [u8], out: &mut [u64]) -> bool {
