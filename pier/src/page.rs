@@ -58,7 +58,7 @@ fn envelope(table: &Table) -> String {
 
 fn rows(table: &Table) -> String {
     let heads: String = table.letters.iter().map(|&letter| format!("<th>{}</th>", letter as char)).collect();
-    let mut text = format!("<tr><th>state</th><th>mark</th>{heads}</tr>\n");
+    let mut text = format!("<tr><th>state</th><th class=\"mark\">mark</th>{heads}</tr>\n");
     for (state, row) in table.moves.iter().enumerate() {
         let mark = table.marks[state];
         let class = if mark == card::HOPELESS { " class=\"hopeless\"" } else { "" };

@@ -20,12 +20,19 @@ const MARGIN: f64 = 24.0;
 /// The arrow without a beginning.
 const START: f64 = 44.0;
 
+/// Which part of a label stands at its place.
+#[derive(Clone, Copy)]
+pub enum Anchor {
+    Start,
+    Middle,
+    End,
+}
+
 pub struct Arrow {
     pub path: String,
     pub label: String,
     pub at: (f64, f64),
-    /// Is the label centred at its place, or does it begin there?
-    pub centred: bool,
+    pub anchor: Anchor,
     pub pale: bool,
 }
 
@@ -141,7 +148,10 @@ pub fn picture(layout: &Layout) -> Picture {
         }
         let (a, b) = (states[from], states.get(to).copied());
         arrows.push(match b {
-            None => fall(a, down[from], bar.map_or(0.0, |(_, top, _)| top), text),
+            None => {
+                let left = down[from] == 0.0 && !arriving.contains_key(from);
+                fall(a, down[from], bar.map_or(0.0, |(_, top, _)| top), left, text)
+            }
             Some(b) if from == to => around(b, text),
             Some(b) if leaving.contains_key(ends) => {
                 back((a.0 + leaving[ends], a), lane_of[to], (b.0 + arriving[to], b), text)
@@ -151,7 +161,9 @@ pub fn picture(layout: &Layout) -> Picture {
         });
     }
     let height = bar.map_or(bottom, |(_, top, _)| top + BAR);
-    Picture { states, arrows, bar, width: width.max(bar.map_or(0.0, |(left, _, wide)| left + wide + 70.0)), height }
+    let written = |arrow: &Arrow| arrow.at.0 + LETTER * arrow.label.len() as f64 + MARGIN;
+    let width = arrows.iter().map(written).fold(width, f64::max);
+    Picture { states, arrows, bar, width, height }
 }
 
 /// The point at a part of the way along a curve with one handle.
@@ -171,7 +183,7 @@ fn curve(a: (f64, f64), handle: (f64, f64), b: (f64, f64), part: f64, label: Str
     let (from, to) = (ring(a, handle), ring(b, handle));
     let at = along(from, handle, to, part);
     let path = format!("M{:.1},{:.1} Q{:.1},{:.1} {:.1},{:.1}", from.0, from.1, handle.0, handle.1, to.0, to.1);
-    Arrow { path, label, at: (at.0, at.1 - 6.0), centred: true, pale: false }
+    Arrow { path, label, at: (at.0, at.1 - 6.0), anchor: Anchor::Middle, pale: false }
 }
 
 /// Between neighbouring columns; bent a little where another comes back.
@@ -179,7 +191,8 @@ fn line(a: (f64, f64), b: (f64, f64), both: bool, label: String) -> Arrow {
     let bend = if both { 0.16 } else { 0.0 };
     let (dx, dy) = (b.0 - a.0, b.1 - a.1);
     let handle = ((a.0 + b.0) / 2.0 + dy * bend, (a.1 + b.1) / 2.0 - dx * bend);
-    curve(a, handle, b, 0.45, label)
+    // Lines that cross go up and down; their labels stand apart.
+    curve(a, handle, b, if dy < 0.0 { 0.36 } else { 0.5 }, label)
 }
 
 /// Between two states of one column.
@@ -204,7 +217,7 @@ fn around((x, y): (f64, f64), label: String) -> Arrow {
         x + h,
         y - v
     );
-    Arrow { path, label, at: (x, y - 47.0), centred: true, pale: false }
+    Arrow { path, label, at: (x, y - 47.0), anchor: Anchor::Middle, pale: false }
 }
 
 /// Back over several columns: down at `x`, along the lane, up to the other state.
@@ -226,11 +239,11 @@ fn back((x, a): (f64, (f64, f64)), lane: f64, (up, b): (f64, (f64, f64)), label:
         to.0,
         to.1
     );
-    Arrow { path, label, at: (x + 3.0, a.1 + RADIUS + 16.0), centred: false, pale: false }
+    Arrow { path, label, at: (x + 3.0, a.1 + RADIUS + 16.0), anchor: Anchor::Start, pale: false }
 }
 
-/// Down to the hopeless state's bar.
-fn fall(a: (f64, f64), offset: f64, bar: f64, label: String) -> Arrow {
+/// Down to the hopeless state's bar, with the label on the left or right.
+fn fall(a: (f64, f64), offset: f64, bar: f64, left: bool, label: String) -> Arrow {
     let x = a.0 + offset;
     let path = if offset == 0.0 {
         format!("M{x:.1},{:.1} V{bar:.1}", a.1 + RADIUS)
@@ -238,7 +251,8 @@ fn fall(a: (f64, f64), offset: f64, bar: f64, label: String) -> Arrow {
         let from = ring(a, (a.0 - 1.0, a.1 + 1.0));
         format!("M{:.1},{:.1} Q{x:.1},{:.1} {x:.1},{:.1} V{bar:.1}", from.0, from.1, from.1, from.1 + 12.0)
     };
-    Arrow { path, label, at: (x + 4.0, a.1 + RADIUS + 18.0), centred: false, pale: true }
+    let (shift, anchor) = if left { (-4.0, Anchor::End) } else { (4.0, Anchor::Start) };
+    Arrow { path, label, at: (x + shift, a.1 + RADIUS + 18.0), anchor, pale: true }
 }
 
 /// From the bar to itself, at its right end.
@@ -246,5 +260,5 @@ fn bar_loop(right: f64, top: f64, label: String) -> Arrow {
     let (a, b) = (top + 6.0, top + BAR - 6.0);
     let path =
         format!("M{right:.1},{a:.1} C{0:.1},{1:.1} {0:.1},{2:.1} {right:.1},{b:.1}", right + 26.0, a - 6.0, b + 6.0);
-    Arrow { path, label, at: (right + 24.0, top + BAR / 2.0 + 4.0), centred: false, pale: true }
+    Arrow { path, label, at: (right + 24.0, top + BAR / 2.0 + 4.0), anchor: Anchor::Start, pale: true }
 }

@@ -2,16 +2,17 @@
 
 use crate::card::{self, Table};
 use crate::layout::Layout;
-use crate::route::{self, Picture, BAR, RADIUS};
+use crate::route::{self, Anchor, Picture, BAR, RADIUS};
 
 const STYLE: &str = "\
 text{font:13px sans-serif;fill:#222}\
 .state circle{fill:#fff;stroke:#222;stroke-width:1.4}\
-.state rect,.box{fill:#ccc;stroke:#888}\
+.state rect{fill:#ccc;stroke:#888}\
 .state text{text-anchor:middle}\
 .arrow{fill:none;stroke:#222;stroke-width:1.2;marker-end:url(#head)}\
 .label{fill:#05386b;paint-order:stroke;stroke:#fff;stroke-width:4px}\
 .mid{text-anchor:middle}\
+.end{text-anchor:end}\
 .pale .arrow{stroke:#aaa;marker-end:url(#pale)}\
 .pale .label{fill:#777}\
 .now circle,.now rect{fill:#ffe08a}";
@@ -55,7 +56,11 @@ fn body(table: &Table, picture: &Picture) -> String {
     let mut text = String::new();
     for arrow in &picture.arrows {
         let group = if arrow.pale { "<g class=\"pale\">" } else { "<g>" };
-        let label = if arrow.centred { "label mid" } else { "label" };
+        let label = match arrow.anchor {
+            Anchor::Start => "label",
+            Anchor::Middle => "label mid",
+            Anchor::End => "label end",
+        };
         text += &format!(
             "{group}<path class=\"arrow\" d=\"{}\"/><text class=\"{label}\" x=\"{:.1}\" y=\"{:.1}\">{}</text></g>\n",
             arrow.path, arrow.at.0, arrow.at.1, arrow.label
