@@ -60,14 +60,14 @@ Times time_all(const Action *act, int count, void *with, double seconds, int mos
 Times time_both(Action product, Action twin, Action second, void *with, double seconds, int most);
 double now(void);
 
-// A card, a plan, and the answer's numbers.
+// A card, a plan, and the answer: a number, two values and 0.
 typedef struct {
     const char *name;
     size_t length;
     uint8_t card[CARD];
     const uint8_t *plan;
     size_t letters;
-    uint64_t out[3];
+    uint64_t out[4];
 } Judging;
 
 Times time_load(Judging *j, double seconds, int most);

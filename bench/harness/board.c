@@ -7,7 +7,7 @@
 
 static void load_product(void *v) {
     Judging *j = v;
-    pier_load(j->card, j->length, j->out, 3);
+    j->out[0] = pier_load(j->card, j->length, j->out + 1);
 }
 static void load_twin(void *v) {
     Judging *j = v;
@@ -15,7 +15,7 @@ static void load_twin(void *v) {
 }
 static void judge_product(void *v) {
     Judging *j = v;
-    pier_judge(j->card, j->length, j->plan, j->letters, j->out, 3);
+    j->out[0] = pier_judge(j->card, j->length, j->plan, j->letters, j->out + 1);
 }
 static void judge_twin(void *v) {
     Judging *j = v;
@@ -58,12 +58,12 @@ static void line(const char *what, const Judging *j, size_t letters, Times x) {
 }
 
 static int same(Judging *j, Action product, Action twin) {
-    uint64_t p[3];
+    uint64_t p[4];
     product(j);
     memcpy(p, j->out, sizeof p);
     twin(j);
     if (memcmp(p, j->out, sizeof p) == 0) return 1;
-    printf("differs: %s: product %lu %lu %lu; C %lu %lu %lu\n", j->name, p[0], p[1], p[2], j->out[0], j->out[1], j->out[2]);
+    printf("differs: %s: product %lu %lu %lu %lu; C %lu %lu %lu\n", j->name, p[0], p[1], p[2], p[3], j->out[0], j->out[1], j->out[2]);
     return 0;
 }
 

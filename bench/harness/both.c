@@ -8,10 +8,10 @@ static uint8_t low[NAMES], high[NAMES], registers[REGISTERS], stack[STACK], rows
 static uint16_t table[TABLE], work[WORK];
 
 Compiled product_compile(const Text *text, uint8_t *card) {
-    uint64_t out[4];
-    pier_compile(text->text, text->length, card, CARD, low, NAMES, high, NAMES, registers, REGISTERS, stack, STACK, rows, ROWS, table, TABLE, work,
-                 WORK, code, CODE, out, 4);
-    return (Compiled){(int)out[0], (int)out[1], out[2], (int)out[3]};
+    uint64_t out[3];
+    uint64_t number = pier_compile(text->text, text->length, card, CARD, low, NAMES, high, NAMES, registers, REGISTERS, stack, STACK, rows, ROWS, table,
+                                   TABLE, work, WORK, code, CODE, out);
+    return (Compiled){(int)number, (int)out[0], out[1], (int)out[2]};
 }
 
 Compiled twin_compile(const Text *text, uint8_t *card) { return plain_compile(text->text, text->length, card, CARD); }

@@ -39,14 +39,14 @@ typedef struct {
     size_t length;
     const uint8_t *plan;
     size_t letters;
-    uint64_t out[4];
+    uint64_t out[3];
 } Job;
 
 static void nothing(void *j) { (void)j; }
 static void do_compile(void *v) { product_compile(((Job *)v)->text, ((Job *)v)->card); }
-static void do_load(void *v) { pier_load(((Job *)v)->card, ((Job *)v)->length, ((Job *)v)->out, 3); }
-static void do_step(void *v) { pier_step(((Job *)v)->card, ((Job *)v)->length, 0, 'a', ((Job *)v)->out, 3); }
-static void do_judge(void *v) { pier_judge(((Job *)v)->card, ((Job *)v)->length, ((Job *)v)->plan, ((Job *)v)->letters, ((Job *)v)->out, 3); }
+static void do_load(void *v) { pier_load(((Job *)v)->card, ((Job *)v)->length, ((Job *)v)->out); }
+static void do_step(void *v) { pier_step(((Job *)v)->card, ((Job *)v)->length, 0, 'a', ((Job *)v)->out); }
+static void do_judge(void *v) { pier_judge(((Job *)v)->card, ((Job *)v)->length, ((Job *)v)->plan, ((Job *)v)->letters, ((Job *)v)->out); }
 
 void memory(const char *folder) {
     static Job j;

@@ -1,8 +1,9 @@
 //! The proved functions, and the only `unsafe` of this program.
 //!
 //! They come from the static library `capi`. A slice is passed as its pointer
-//! and then its length; the answer is written into a lent row of numbers. The
-//! feature `reference` puts the second program of ../tests in their place.
+//! and then its length; the number of a refusal, or 0, is handed back, and the
+//! rest of the answer stands in three lent numbers. The feature `reference`
+//! puts the second program of ../tests in their place.
 
 /// What loading answers.
 #[derive(Clone, Copy, PartialEq, Eq, Debug)]
@@ -40,34 +41,32 @@ pub const LONGEST_CARD: usize = 12 + 26 + 120 + 26 * 120;
 /// The longest book.
 pub const LONGEST_BOOK: usize = 16_384;
 
-/// No answer has this number, so a row that was not written shows.
-const UNSET: u64 = u64::MAX;
-
 pub fn load(card: &[u8]) -> Loaded {
-    let mut out = [UNSET; 3];
-    entries::load(card, &mut out);
-    match out {
-        [0, letters, states] => Loaded::Card { letters: letters as usize, states: states as usize },
-        [number, ..] => Loaded::Refused(number),
+    let mut out = [0; 3];
+    match (entries::load(card, &mut out), out) {
+        (0, [letters, states, _]) => Loaded::Card { letters: letters as usize, states: states as usize },
+        (number, _) => Loaded::Refused(number),
     }
 }
 
 pub fn step(card: &[u8], state: usize, letter: u8) -> Stepped {
-    let mut out = [UNSET; 3];
-    entries::step(card, state, letter, &mut out);
-    match out {
-        [0, state, _marks] => Stepped::To { state: state as usize },
-        [number, ..] => Stepped::Refused(number),
+    let mut out = [0; 3];
+    match (entries::step(card, state, letter, &mut out), out) {
+        (0, [state, _marks, _]) => Stepped::To { state: state as usize },
+        (number, _) => Stepped::Refused(number),
     }
 }
 
 /// Judges one plan; for tests, since `judge_lines` answers the same.
 #[cfg(test)]
 pub fn judge(card: &[u8], plan: &[u8]) -> Judged {
-    let mut out = [UNSET; 3];
-    entries::judge(card, plan, &mut out);
-    judged(out)
+    let mut out = [0; 3];
+    let number = entries::judge(card, plan, &mut out);
+    judged([number, out[0], out[1]])
 }
+
+/// A reply's numbers: refusal or 0, verdict, place.
+pub const REPLY: usize = 3;
 
 fn judged(reply: [u64; REPLY]) -> Judged {
     match reply {
@@ -78,9 +77,6 @@ fn judged(reply: [u64; REPLY]) -> Judged {
         [number, ..] => Judged::Refused(number),
     }
 }
-
-/// A reply's numbers: refusal or 0, verdict, place.
-pub const REPLY: usize = 3;
 
 /// The replies of one call.
 pub struct Replies<'a>(std::slice::ChunksExact<'a, u64>);
@@ -102,10 +98,12 @@ impl ExactSizeIterator for Replies<'_> {}
 /// Judges the plans of `plans`, one a line, as far as there is room for replies:
 /// the bytes of those that were judged, and the replies; or the card's refusal.
 pub fn judge_lines<'a>(card: &[u8], plans: &'a [u8], replies: &'a mut [u64]) -> Result<(&'a [u8], Replies<'a>), u64> {
-    let mut out = [UNSET; 3];
-    match entries::judge_lines(card, plans, replies, &mut out) {
-        0 => Ok((&plans[..out[1] as usize], Replies(replies[..REPLY * out[0] as usize].chunks_exact(REPLY)))),
-        number => Err(number),
+    let mut out = [0; 3];
+    match (entries::judge_lines(card, plans, replies, &mut out), out) {
+        (0, [judged, bytes, _]) => {
+            Ok((&plans[..bytes as usize], Replies(replies[..REPLY * judged as usize].chunks_exact(REPLY))))
+        }
+        (number, _) => Err(number),
     }
 }
 
@@ -113,32 +111,28 @@ pub fn judge_lines<'a>(card: &[u8], plans: &'a [u8], replies: &'a mut [u64]) -> 
 /// build holds no compiler.
 pub fn compile(text: &[u8]) -> Option<Compiled> {
     let mut card = vec![0; LONGEST_CARD];
-    let mut out = [UNSET; 4];
-    if !entries::compile(text, &mut card, &mut out) {
-        return None;
-    }
-    Some(match out {
-        [0, _, length, peak] => {
+    let mut out = [0; 3];
+    Some(match (entries::compile(text, &mut card, &mut out)?, out) {
+        (0, [_, length, peak]) => {
             card.truncate(length as usize);
             Compiled::Card { bytes: card, peak }
         }
-        [number, line, ..] => Compiled::Refused { number, line },
+        (number, [line, ..]) => Compiled::Refused { number, line },
     })
 }
 
 #[cfg(not(feature = "reference"))]
 mod entries {
     extern "C" {
-        fn pier_load(card: *const u8, card_length: usize, out: *mut u64, out_length: usize);
-        fn pier_step(card: *const u8, card_length: usize, state: usize, letter: u8, out: *mut u64, out_length: usize);
+        fn pier_load(card: *const u8, card_length: usize, out: &mut [u64; 3]) -> u64;
+        fn pier_step(card: *const u8, card_length: usize, state: usize, letter: u8, out: &mut [u64; 3]) -> u64;
         fn pier_judge(
             card: *const u8,
             card_length: usize,
             plan: *const u8,
             plan_length: usize,
-            out: *mut u64,
-            out_length: usize,
-        );
+            out: &mut [u64; 3],
+        ) -> u64;
         #[cfg(feature = "compile")]
         fn pier_compile(
             text: *const u8,
@@ -161,45 +155,44 @@ mod entries {
             work_length: usize,
             code: *mut u8,
             code_length: usize,
-            out: *mut u64,
-            out_length: usize,
-        );
+            out: &mut [u64; 3],
+        ) -> u64;
     }
 
     /// What each work buffer is lent, in bytes: none needs more.
     #[cfg(feature = "compile")]
     const LENT: usize = 65_536;
 
-    pub fn load(card: &[u8], out: &mut [u64]) {
-        unsafe { pier_load(card.as_ptr(), card.len(), out.as_mut_ptr(), out.len()) }
+    pub fn load(card: &[u8], out: &mut [u64; 3]) -> u64 {
+        unsafe { pier_load(card.as_ptr(), card.len(), out) }
     }
 
-    pub fn step(card: &[u8], state: usize, letter: u8, out: &mut [u64]) {
-        unsafe { pier_step(card.as_ptr(), card.len(), state, letter, out.as_mut_ptr(), out.len()) }
+    pub fn step(card: &[u8], state: usize, letter: u8, out: &mut [u64; 3]) -> u64 {
+        unsafe { pier_step(card.as_ptr(), card.len(), state, letter, out) }
     }
 
-    pub fn judge(card: &[u8], plan: &[u8], out: &mut [u64]) {
-        unsafe { pier_judge(card.as_ptr(), card.len(), plan.as_ptr(), plan.len(), out.as_mut_ptr(), out.len()) }
+    pub fn judge(card: &[u8], plan: &[u8], out: &mut [u64; 3]) -> u64 {
+        unsafe { pier_judge(card.as_ptr(), card.len(), plan.as_ptr(), plan.len(), out) }
     }
 
-    pub fn judge_lines(card: &[u8], plans: &[u8], replies: &mut [u64], out: &mut [u64]) -> u64 {
-        let (mut judged, mut bytes) = (0, 0);
+    pub fn judge_lines(card: &[u8], plans: &[u8], replies: &mut [u64], out: &mut [u64; 3]) -> u64 {
+        *out = [0; 3];
         for (line, reply) in plans.split_inclusive(|&byte| byte == b'\n').zip(replies.chunks_exact_mut(super::REPLY)) {
-            judge(card, line.strip_suffix(b"\n").unwrap_or(line), reply);
-            judged += 1;
-            bytes += line.len() as u64;
+            let mut judged = [0; 3];
+            let number = judge(card, line.strip_suffix(b"\n").unwrap_or(line), &mut judged);
+            reply.copy_from_slice(&[number, judged[0], judged[1]]);
+            *out = [out[0] + 1, out[1] + line.len() as u64, 0];
         }
-        out.copy_from_slice(&[judged, bytes, 0]);
         0
     }
 
     #[cfg(not(feature = "compile"))]
-    pub fn compile(_text: &[u8], _card: &mut [u8], _out: &mut [u64]) -> bool {
-        false
+    pub fn compile(_text: &[u8], _card: &mut [u8], _out: &mut [u64; 3]) -> Option<u64> {
+        None
     }
 
     #[cfg(feature = "compile")]
-    pub fn compile(text: &[u8], card: &mut [u8], out: &mut [u64]) -> bool {
+    pub fn compile(text: &[u8], card: &mut [u8], out: &mut [u64; 3]) -> Option<u64> {
         let mut low = vec![0u8; LENT];
         let mut high = vec![0u8; LENT];
         let mut registers = vec![0u8; LENT];
@@ -208,7 +201,7 @@ mod entries {
         let mut table = vec![0u16; LENT / 2];
         let mut work = vec![0u16; LENT / 2];
         let mut code = vec![0u8; LENT];
-        unsafe {
+        let number = unsafe {
             pier_compile(
                 text.as_ptr(),
                 text.len(),
@@ -230,11 +223,10 @@ mod entries {
                 work.len(),
                 code.as_mut_ptr(),
                 code.len(),
-                out.as_mut_ptr(),
-                out.len(),
+                out,
             )
-        }
-        true
+        };
+        Some(number)
     }
 }
 
@@ -243,52 +235,57 @@ mod entries {
     use reference::board::{self, Refused, Verdict};
     use reference::compile::{compile as reference_compile, Lent};
 
-    pub fn load(card: &[u8], out: &mut [u64]) {
-        out.copy_from_slice(&match board::load(card) {
-            Ok(bodies) => [0, bodies.letters.len() as u64, bodies.states() as u64],
-            Err(number) => [number.into(), 0, 0],
-        });
+    /// The number handed back, and three numbers in `out`.
+    fn put(out: &mut [u64; 3], number: u64, values: [u64; 3]) -> u64 {
+        *out = values;
+        number
     }
 
-    pub fn step(card: &[u8], state: usize, letter: u8, out: &mut [u64]) {
-        out.copy_from_slice(&match board::step(card, state, letter) {
-            Ok((state, marks)) => [0, state as u64, marks.into()],
-            Err(number) => [number.into(), 0, 0],
-        });
+    pub fn load(card: &[u8], out: &mut [u64; 3]) -> u64 {
+        match board::load(card) {
+            Ok(bodies) => put(out, 0, [bodies.letters.len() as u64, bodies.states() as u64, 0]),
+            Err(number) => put(out, number.into(), [0; 3]),
+        }
     }
 
-    pub fn judge(card: &[u8], plan: &[u8], out: &mut [u64]) {
-        out.copy_from_slice(&match board::judge(card, plan) {
-            Ok(Verdict::Allowed) => [0, 1, 0],
-            Ok(Verdict::Unfinished) => [0, 0, 0],
-            Ok(Verdict::Hopeless(place)) => [0, 2, place as u64],
-            Err(Refused::Card(number)) => [number.into(), 0, 0],
-            Err(Refused::ForeignLetter { before }) => [27, 0, before as u64],
-        });
+    pub fn step(card: &[u8], state: usize, letter: u8, out: &mut [u64; 3]) -> u64 {
+        match board::step(card, state, letter) {
+            Ok((state, marks)) => put(out, 0, [state as u64, marks.into(), 0]),
+            Err(number) => put(out, number.into(), [0; 3]),
+        }
     }
 
-    pub fn judge_lines(card: &[u8], plans: &[u8], replies: &mut [u64], out: &mut [u64]) -> u64 {
+    pub fn judge(card: &[u8], plan: &[u8], out: &mut [u64; 3]) -> u64 {
+        match board::judge(card, plan) {
+            Ok(Verdict::Allowed) => put(out, 0, [1, 0, 0]),
+            Ok(Verdict::Unfinished) => put(out, 0, [0; 3]),
+            Ok(Verdict::Hopeless(place)) => put(out, 0, [2, place as u64, 0]),
+            Err(Refused::Card(number)) => put(out, number.into(), [0; 3]),
+            Err(Refused::ForeignLetter { before }) => put(out, 27, [0, before as u64, 0]),
+        }
+    }
+
+    pub fn judge_lines(card: &[u8], plans: &[u8], replies: &mut [u64], out: &mut [u64; 3]) -> u64 {
+        *out = [0; 3];
         if let Err(number) = board::load(card) {
             return number.into();
         }
-        let (mut judged, mut bytes) = (0, 0);
         for (line, reply) in plans.split_inclusive(|&byte| byte == b'\n').zip(replies.chunks_exact_mut(super::REPLY)) {
-            judge(card, line.strip_suffix(b"\n").unwrap_or(line), reply);
-            judged += 1;
-            bytes += line.len() as u64;
+            let mut judged = [0; 3];
+            let number = judge(card, line.strip_suffix(b"\n").unwrap_or(line), &mut judged);
+            reply.copy_from_slice(&[number, judged[0], judged[1]]);
+            *out = [out[0] + 1, out[1] + line.len() as u64, 0];
         }
-        out.copy_from_slice(&[judged, bytes, 0]);
         0
     }
 
-    pub fn compile(text: &[u8], card: &mut [u8], out: &mut [u64]) -> bool {
-        out.copy_from_slice(&match reference_compile(text, &Lent { bench: Vec::new(), card: card.len() }) {
+    pub fn compile(text: &[u8], card: &mut [u8], out: &mut [u64; 3]) -> Option<u64> {
+        Some(match reference_compile(text, &Lent { bench: Vec::new(), card: card.len() }) {
             Ok(accepted) => {
                 card[..accepted.card.len()].copy_from_slice(&accepted.card);
-                [0, 0, accepted.card.len() as u64, accepted.peak as u64]
+                put(out, 0, [0, accepted.card.len() as u64, accepted.peak as u64])
             }
-            Err(refusal) => [refusal.number.into(), refusal.line as u64, 0, 0],
-        });
-        true
+            Err(refusal) => put(out, refusal.number.into(), [refusal.line as u64, 0, 0]),
+        })
     }
 }

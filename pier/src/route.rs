@@ -47,16 +47,18 @@ pub struct Picture {
 
 pub const BAR: f64 = 28.0;
 
-/// How many lines run down on each side of each column.
+/// How wide the lines are that run down on each side of each column.
 struct Beside {
-    left: Vec<usize>,
-    right: Vec<usize>,
+    left: Vec<f64>,
+    right: Vec<f64>,
 }
 
 impl Beside {
-    fn take(counts: &mut [usize], column: usize) -> f64 {
-        counts[column] += 1;
-        RADIUS + BESIDE * counts[column] as f64
+    /// One more line, with so much room behind it for its label.
+    fn take(widths: &mut [f64], column: usize, label: f64) -> f64 {
+        let offset = RADIUS + BESIDE + widths[column];
+        widths[column] += BESIDE + label;
+        offset
     }
 }
 
@@ -72,7 +74,7 @@ pub fn picture(layout: &Layout) -> Picture {
         .collect();
 
     // Lines beside the columns: an offset for each state that needs one.
-    let mut beside = Beside { left: vec![0; layout.columns.len()], right: vec![0; layout.columns.len()] };
+    let mut beside = Beside { left: vec![0.0; layout.columns.len()], right: vec![0.0; layout.columns.len()] };
     let mut down = BTreeMap::new();
     let mut leaving = BTreeMap::new();
     let mut arriving = BTreeMap::new();
@@ -80,15 +82,16 @@ pub fn picture(layout: &Layout) -> Picture {
         for (row, state) in states.iter().enumerate().rev() {
             let hopeless = layout.below.is_some_and(|below| layout.arrows.contains_key(&(*state, below)));
             if hopeless && row + 1 < states.len() {
-                down.insert(*state, -Beside::take(&mut beside.left, column(state)));
+                down.insert(*state, -Beside::take(&mut beside.left, column(state), 0.0));
             } else if hopeless {
                 down.insert(*state, 0.0);
             }
             if long.iter().any(|(_, to)| to == state) {
-                arriving.insert(*state, -Beside::take(&mut beside.left, column(state)));
+                arriving.insert(*state, -Beside::take(&mut beside.left, column(state), 0.0));
             }
             for ends in long.iter().filter(|(from, _)| from == state) {
-                leaving.insert(*ends, Beside::take(&mut beside.right, column(state)));
+                leaving
+                    .insert(*ends, Beside::take(&mut beside.right, column(state), LETTER * label(ends).len() as f64));
             }
         }
     }
@@ -98,21 +101,21 @@ pub fn picture(layout: &Layout) -> Picture {
         let joins = |(from, to): &&(usize, usize)| {
             placed(from) && placed(to) && {
                 let (a, b) = (layout.places[from].0, layout.places[to].0);
-                (a.min(b), a.max(b)) == (column, column + 1) || (a == column && a != b) || (a == b && b == column)
+                (a.min(b), a.max(b)) == (column, column + 1)
             }
         };
         layout.arrows.keys().filter(joins).map(|ends| label(ends).len()).max().unwrap_or(0) as f64 * LETTER
     };
     let most = layout.columns.iter().map(Vec::len).max().unwrap_or(1) as f64;
     let top = MARGIN + RADIUS + 48.0;
-    let mut x = MARGIN + START + RADIUS + BESIDE * beside.left[0] as f64;
+    let mut x = MARGIN + START + RADIUS + beside.left[0];
     let mut states = BTreeMap::new();
     for (index, column) in layout.columns.iter().enumerate() {
         for (row, state) in column.iter().enumerate() {
             states.insert(*state, (x, top + ROW * (row as f64 + (most - column.len() as f64) / 2.0)));
         }
-        let lines = beside.right[index] + beside.left.get(index + 1).copied().unwrap_or(0);
-        x += 2.0 * RADIUS + GAP + widest(index) + BESIDE * lines as f64;
+        let lines = beside.right[index] + beside.left.get(index + 1).copied().unwrap_or(0.0);
+        x += 2.0 * RADIUS + GAP + widest(index) + lines;
     }
     let width = x - GAP + MARGIN;
     let floor = top + ROW * (most - 1.0) + RADIUS + 30.0;

@@ -1,3 +1,3 @@
--- What the entries for Rust and C leave in their lent slice.
-pub mod Numbers
-pub mod Compiled
+-- What the entries for Rust and C hand back.
+pub mod Handed
+pub mod HandedLaws

@@ -1,4 +1,5 @@
-// The entries for Rust and C, on numbers and slices: each puts the paper's numbers of its answer into a lent slice, or leaves a shorter slice alone. They ask nothing of the caller.
+// The entries for Rust and C, on numbers and slices: each hands back the paper's number of its answer, 0 where nothing is refused, and puts the rest of the
+// answer into `out`. They ask nothing of the caller.
 ghost use mathlib.Core.Path.{_≡_};
 ghost use mathlib.Core.List.{_∷_, []};
 ghost use Rattle.automata.specs.Format.{narrow};
@@ -8,72 +9,56 @@ ghost use Rattle.card.specs.Step.{stepOn};
 ghost use lib.ListN.{length};
 ghost use Rattle.compiler.specs.Outcome.{outcome};
 ghost use Rattle.driver.specs.Entry.{documented, lentLengths};
-ghost use Rattle.capi.specs.Numbers.{stored, numbers, Compiles};
+ghost use Rattle.capi.specs.Handed.{handed, numbers, Compiles};
 
-// Three numbers into the slice.
-fn put(out: &mut [u64], number: u64, first: u64, second: u64)
-    ensures { λ _. ⌜ now (out .exit) ≡ stored (number ∷ first ∷ second ∷ []) (now (out .entry)) ⌝ }
+// The number handed back, and three numbers in `out`.
+fn put(out: &mut [u64; 3], number: u64, first: u64, second: u64, third: u64) -> u64
+    ensures { λ r. ⌜ handed r (now (out .exit)) ≡ handed number (first ∷ second ∷ third ∷ []) ⌝ }
 {
-    if out.len() < 3 {
-        return;
-    }
-    out[0] = number;
-    out[1] = first;
-    out[2] = second;
+    *out = [first, second, third];
+    number
 }
 
-// Loading: 0, letters, states; or 21 to 26.
+// Loading: 0, and letters, states, 0; or 21 to 26.
 #[no_mangle]
-pub extern "C" fn pier_load(card: &[u8], out: &mut [u64])
-    ensures { λ _. ⌜ now (out .exit) ≡ stored (numbers (loadNumbers (load narrow (now (card .entry))))) (now (out .entry)) ⌝ }
+pub extern "C" fn pier_load(card: &[u8], out: &mut [u64; 3]) -> u64
+    ensures { λ r. ⌜ handed r (now (out .exit)) ≡ numbers (loadNumbers (load narrow (now (card .entry)))) ⌝ }
 {
     match board::load(card) {
-        board::Loaded::Accepted(m, n) => put(out, 0, m as u64, n as u64),
-        board::Loaded::Refused(number) => put(out, number as u64, 0, 0),
+        board::Loaded::Accepted(m, n) => put(out, 0, m as u64, n as u64, 0),
+        board::Loaded::Refused(number) => put(out, number as u64, 0, 0, 0),
     }
 }
 
-// One step: 0, the next state, its marks byte; or 21, 27, 28 or 23.
+// One step: 0, and the next state, its marks byte, 0; or 21, 27, 28 or 23.
 #[no_mangle]
-pub extern "C" fn pier_step(card: &[u8], state: usize, letter: u8, out: &mut [u64])
-    ensures { λ _. ⌜ now (out .exit) ≡ stored (numbers (stepNumbers (stepOn narrow (now (card .entry)) state letter))) (now (out .entry)) ⌝ }
+pub extern "C" fn pier_step(card: &[u8], state: usize, letter: u8, out: &mut [u64; 3]) -> u64
+    ensures { λ r. ⌜ handed r (now (out .exit)) ≡ numbers (stepNumbers (stepOn narrow (now (card .entry)) state letter)) ⌝ }
 {
     match board::step(card, state, letter) {
-        board::Stepped::Moved(next, mark) => put(out, 0, next as u64, mark as u64),
-        board::Stepped::Stopped(number) => put(out, number as u64, 0, 0),
+        board::Stepped::Moved(next, mark) => put(out, 0, next as u64, mark as u64, 0),
+        board::Stepped::Stopped(number) => put(out, number as u64, 0, 0, 0),
     }
 }
 
-// Judging: 0, the verdict (1 allowed, 0 unfinished, 2 hopeless), the place; or 21 to 26; or 27, 0, the letters before the first unknown one.
+// Judging: 0, and the verdict (1 allowed, 0 unfinished, 2 hopeless), the place of hopeless, 0; or 21 to 26; or 27, and 0, the letters before the first
+// unknown one, 0.
 #[no_mangle]
-pub extern "C" fn pier_judge(card: &[u8], plan: &[u8], out: &mut [u64])
-    ensures { λ _. ⌜ now (out .exit) ≡ stored (numbers (replyNumbers (judge narrow (now (card .entry)) (now (plan .entry))))) (now (out .entry)) ⌝ }
+pub extern "C" fn pier_judge(card: &[u8], plan: &[u8], out: &mut [u64; 3]) -> u64
+    ensures { λ r. ⌜ handed r (now (out .exit)) ≡ numbers (replyNumbers (judge narrow (now (card .entry)) (now (plan .entry)))) ⌝ }
 {
     match board::judge(card, plan) {
-        run::Answer::Refused(number, before) => put(out, number as u64, 0, before as u64),
+        run::Answer::Refused(number, before) => put(out, number as u64, 0, before as u64, 0),
         run::Answer::Judged(verdict) => match verdict {
-            run::Verdict::Allowed => put(out, 0, 1, 0),
-            run::Verdict::Unfinished => put(out, 0, 0, 0),
-            run::Verdict::Hopeless(k) => put(out, 0, 2, k as u64),
+            run::Verdict::Allowed => put(out, 0, 1, 0, 0),
+            run::Verdict::Unfinished => put(out, 0, 0, 0, 0),
+            run::Verdict::Hopeless(k) => put(out, 0, 2, k as u64, 0),
         },
     }
 }
 
-// Four numbers into the slice.
-fn put_four(out: &mut [u64], number: u64, line: u64, length: u64, peak: u64)
-    ensures { λ _. ⌜ now (out .exit) ≡ stored (number ∷ line ∷ length ∷ peak ∷ []) (now (out .entry)) ⌝ }
-{
-    if out.len() < 4 {
-        return;
-    }
-    out[0] = number;
-    out[1] = line;
-    out[2] = length;
-    out[3] = peak;
-}
-
-// Compiling: 0, 0, the card's length, the peak; or the number of a refusal and its line, with length 0 and peak 0. The card stands in front of the card
-// buffer, or the buffer is left alone; the other buffers are free.
+// Compiling: 0, and 0, the card's length, the peak; or the number of a refusal, and its line, 0, 0. The card stands in front of the card buffer, or the
+// buffer is left alone; the other buffers are free.
 #[no_mangle]
 pub extern "C" fn pier_compile(
     text: &[u8],
@@ -86,9 +71,9 @@ pub extern "C" fn pier_compile(
     table: &mut [u16],
     work: &mut [u16],
     code: &mut [u8],
-    out: &mut [u64],
-)
-    ensures { λ _. ⌜ Compiles (outcome narrow documented (now (text .entry)) (lentLengths (now (low .entry)) (now (high .entry)) (now (registers .entry)) (now (stack .entry)) (now (rows .entry)) (now (table .entry)) (now (work .entry)) (now (code .entry))) (length (now (card .entry)))) (now (card .entry)) (now (card .exit)) (now (out .entry)) (now (out .exit)) ⌝ }
+    out: &mut [u64; 3],
+) -> u64
+    ensures { λ r. ⌜ Compiles (outcome narrow documented (now (text .entry)) (lentLengths (now (low .entry)) (now (high .entry)) (now (registers .entry)) (now (stack .entry)) (now (rows .entry)) (now (table .entry)) (now (work .entry)) (now (code .entry))) (length (now (card .entry)))) (now (card .entry)) (now (card .exit)) r (now (out .exit)) ⌝ }
 {
     match driver::compile(
         text,
@@ -102,7 +87,7 @@ pub extern "C" fn pier_compile(
         work,
         code,
     ) {
-        driver::Compiled::Card(length, peak) => put_four(out, 0, 0, length as u64, peak as u64),
-        driver::Compiled::Refused(number, line) => put_four(out, number as u64, line as u64, 0, 0),
+        driver::Compiled::Card(length, peak) => put(out, 0, 0, length as u64, peak as u64),
+        driver::Compiled::Refused(number, line) => put(out, number as u64, line as u64, 0, 0),
     }
 }

@@ -10,21 +10,32 @@ use reference::refusal::Refusal;
 use std::cell::RefCell;
 use std::collections::HashMap;
 
-/// What loading answers.
+/// What loading answers. `Unknown`, here and below, is an answer of no agreed
+/// form.
 #[derive(Clone, PartialEq, Eq, Debug)]
 pub enum Loaded {
-    Card { letters: u64, states: u64 },
+    Card {
+        letters: u64,
+        states: u64,
+    },
     Refused(u64),
+    #[allow(dead_code)]
+    Unknown([u64; 4]),
 }
 
 /// What one step answers.
 #[derive(Clone, PartialEq, Eq, Debug)]
 pub enum Stepped {
-    To { state: u64, marks: u64 },
+    To {
+        state: u64,
+        marks: u64,
+    },
     Refused(u64),
+    #[allow(dead_code)]
+    Unknown([u64; 4]),
 }
 
-/// What judging answers. `Unknown` is an answer of no agreed form.
+/// What judging answers.
 #[derive(Clone, PartialEq, Eq, Debug)]
 pub enum Judged {
     Allowed,
@@ -35,7 +46,7 @@ pub enum Judged {
         before: u64,
     },
     #[allow(dead_code)]
-    Unknown(Vec<u64>),
+    Unknown([u64; 4]),
 }
 
 pub trait BoardEntry {

@@ -6,6 +6,7 @@
 
 mod acting;
 mod board_examples;
+mod by_format;
 mod compare_board;
 mod compare_compile;
 mod compare_programs;
@@ -33,6 +34,7 @@ mod shrink;
 mod tally;
 
 use effort::Effort;
+use entry::Reference;
 use program::Program;
 use std::process::ExitCode;
 use std::time::{Duration, Instant};
@@ -111,13 +113,19 @@ fn run(tally: &mut Tally, options: &Options, effort: Effort) {
             self_examples::run(tally);
             self_planted::run(tally);
             self_coverage::run(tally);
+            by_format::run(tally, "reference", &Reference { bench: Vec::new() });
         }
         self_meaning::run(tally, effort);
         self_board::run(tally, effort);
     }
     if wanted("board") {
         match product::board() {
-            Some(board) => compare_board::run(tally, &*board, effort),
+            Some(board) => {
+                compare_board::run(tally, &*board, effort);
+                if effort.fixed {
+                    by_format::run(tally, "board", &*board);
+                }
+            }
             None => tally.skip("board", "no static library is linked"),
         }
     }

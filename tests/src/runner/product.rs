@@ -1,66 +1,74 @@
 //! The product's static library: the one file to adapt when names or
-//! buffers change. A slice is passed as its pointer and then its length.
+//! buffers change. A slice is passed as its pointer and then its length, `out`
+//! as a pointer to three numbers; the number of a refusal, or 0, is handed back.
 //!
 //! Linked with the features `product-board` and `product-compile`; without
 //! them both entries are absent and their comparisons are skipped.
 
 use crate::entry::{BoardEntry, CompileEntry};
 
+/// Nothing that a library would answer by chance.
+#[cfg(any(feature = "product-board", feature = "product-compile"))]
+const UNSET: u64 = 0xDEAD_BEEF_DEAD_BEEF;
+
+/// An answer's number and the three numbers of `out`; and whether a number
+/// just beside `out` was written.
+#[cfg(any(feature = "product-board", feature = "product-compile"))]
+fn answer(call: impl FnOnce(&mut [u64; 3]) -> u64) -> ([u64; 4], bool) {
+    let mut lent = [[UNSET; 3]; 3];
+    let number = call(&mut lent[1]);
+    let [before, [first, second, third], behind] = lent;
+    ([number, first, second, third], before != [UNSET; 3] || behind != [UNSET; 3])
+}
+
 #[cfg(feature = "product-board")]
 mod board {
+    use super::answer;
     use crate::entry::{BoardEntry, Judged, Loaded, Stepped};
 
     extern "C" {
-        fn pier_load(card: *const u8, card_length: usize, out: *mut u64, out_length: usize);
-        fn pier_step(card: *const u8, card_length: usize, state: usize, letter: u8, out: *mut u64, out_length: usize);
+        fn pier_load(card: *const u8, card_length: usize, out: &mut [u64; 3]) -> u64;
+        fn pier_step(card: *const u8, card_length: usize, state: usize, letter: u8, out: &mut [u64; 3]) -> u64;
         fn pier_judge(
             card: *const u8,
             card_length: usize,
             plan: *const u8,
             plan_length: usize,
-            out: *mut u64,
-            out_length: usize,
-        );
+            out: &mut [u64; 3],
+        ) -> u64;
     }
-
-    /// Nothing that a library would answer by chance.
-    const UNSET: u64 = 0xDEAD_BEEF_DEAD_BEEF;
 
     pub struct Board;
 
     impl BoardEntry for Board {
         fn load(&self, card: &[u8]) -> Loaded {
-            let mut out = [UNSET; 3];
-            unsafe { pier_load(card.as_ptr(), card.len(), out.as_mut_ptr(), out.len()) };
-            match out {
-                [0, letters, states] => Loaded::Card { letters, states },
-                [number, ..] => Loaded::Refused(number),
+            match answer(|out| unsafe { pier_load(card.as_ptr(), card.len(), out) }) {
+                ([0, letters, states, 0], false) => Loaded::Card { letters, states },
+                ([number, 0, 0, 0], false) => Loaded::Refused(number),
+                (numbers, _) => Loaded::Unknown(numbers),
             }
         }
 
         fn step(&self, card: &[u8], state: usize, letter: u8) -> Stepped {
-            let mut out = [UNSET; 3];
-            unsafe { pier_step(card.as_ptr(), card.len(), state, letter, out.as_mut_ptr(), out.len()) };
-            match out {
-                [0, state, marks] => Stepped::To { state, marks },
-                [number, ..] => Stepped::Refused(number),
+            match answer(|out| unsafe { pier_step(card.as_ptr(), card.len(), state, letter, out) }) {
+                ([0, state, marks, 0], false) => Stepped::To { state, marks },
+                ([number, 0, 0, 0], false) => Stepped::Refused(number),
+                (numbers, _) => Stepped::Unknown(numbers),
             }
         }
 
-        /// out: number, verdict, place; with number 0 the verdict is a marks
-        /// byte (1 allowed, 0 unfinished, 2 hopeless) and the place that of
+        /// out: verdict, place, 0; with number 0 the verdict is a marks byte
+        /// (1 allowed, 0 unfinished, 2 hopeless) and the place that of
         /// hopeless; with number 27 the place is the letters before the
         /// foreign one.
         fn judge(&self, card: &[u8], plan: &[u8]) -> Judged {
-            let mut out = [UNSET; 3];
-            unsafe { pier_judge(card.as_ptr(), card.len(), plan.as_ptr(), plan.len(), out.as_mut_ptr(), out.len()) };
-            match out {
-                [0, 1, 0] => Judged::Allowed,
-                [0, 0, 0] => Judged::Unfinished,
-                [0, 2, place] => Judged::Hopeless(place),
-                [0, ..] => Judged::Unknown(out.to_vec()),
-                [27, 0, before] => Judged::ForeignLetter { before },
-                [number, ..] => Judged::Refused(number),
+            match answer(|out| unsafe { pier_judge(card.as_ptr(), card.len(), plan.as_ptr(), plan.len(), out) }) {
+                ([0, 1, 0, 0], false) => Judged::Allowed,
+                ([0, 0, 0, 0], false) => Judged::Unfinished,
+                ([0, 2, place, 0], false) => Judged::Hopeless(place),
+                ([27, 0, before, 0], false) => Judged::ForeignLetter { before },
+                ([number, 0, 0, 0], false) => Judged::Refused(number),
+                (numbers, _) => Judged::Unknown(numbers),
             }
         }
     }
@@ -68,6 +76,7 @@ mod board {
 
 #[cfg(feature = "product-compile")]
 mod compile {
+    use super::answer;
     use crate::entry::{Buffer, CompileEntry, Compiled, Request};
     use crate::rng::Rng;
 
@@ -106,9 +115,8 @@ mod compile {
             b6_length: usize,
             b7: *mut B7,
             b7_length: usize,
-            out: *mut u64,
-            out_length: usize,
-        );
+            out: &mut [u64; 3],
+        ) -> u64;
     }
 
     pub struct Compiler;
@@ -162,8 +170,7 @@ mod compile {
             let mut b7 = Lent::new(lengths[7], || rng.next() as B7);
             let mut bytes = request.card_before().into_iter();
             let mut card = Lent::new(request.card_length, || bytes.next().unwrap_or(0xA5));
-            let mut out = [0xDEAD_BEEF_DEAD_BEEF_u64; 4];
-            unsafe {
+            let ([number, line, length, peak], beside) = answer(|out| unsafe {
                 pier_compile(
                     request.text.as_ptr(),
                     request.text.len(),
@@ -185,11 +192,11 @@ mod compile {
                     b6.length,
                     b7.entries.as_mut_ptr(),
                     b7.length,
-                    out.as_mut_ptr(),
-                    out.len(),
+                    out,
                 )
-            };
-            let spilled = b0.spilled()
+            });
+            let spilled = beside
+                || b0.spilled()
                 || b1.spilled()
                 || b2.spilled()
                 || b3.spilled()
@@ -198,7 +205,6 @@ mod compile {
                 || b6.spilled()
                 || b7.spilled()
                 || card.spilled();
-            let [number, line, length, peak] = out;
             card.entries.truncate(card.length);
             Compiled { number, line, length, peak, card_buffer: card.entries, spilled }
         }

@@ -1,0 +1,255 @@
+//! A loader made from the words of docs/FORMAT.md alone, held against a board
+//! on every small card and on damaged ones. It shares no code with the product
+//! or with the reference.
+
+use crate::entry::{BoardEntry, Loaded};
+use crate::last_case;
+use crate::tally::{hex, Tally};
+
+/// "In what follows m is the number of letters (1 to 26) and n the number of
+/// states (1 to 120)."
+struct Card<'b> {
+    m: usize,
+    n: usize,
+    letters: &'b [u8],
+    marks: &'b [u8],
+    moves: &'b [u8],
+}
+
+impl Card<'_> {
+    /// "The next state for state s and the letter in column c (0 for the
+    /// first letter) is the byte at 12 + m + n + s × m + c."
+    fn next(&self, s: usize, c: usize) -> usize {
+        self.moves[s * self.m + c].into()
+    }
+
+    /// "1 where a plan may end".
+    fn may_end(&self, s: usize) -> bool {
+        self.marks[s] == 1
+    }
+}
+
+/// "A board tests a card in this order and answers with the first number that
+/// applies."
+fn load(bytes: &[u8]) -> Result<(usize, usize), u64> {
+    let card = contents(bytes).ok_or(21u64)?;
+    if !rising(card.letters) {
+        Err(22)
+    } else if card.moves.iter().any(|&to| usize::from(to) >= card.n) {
+        // "a move leads to n or above"
+        Err(23)
+    } else if !numbered(&card) {
+        Err(24)
+    } else if !marked(&card) {
+        Err(25)
+    } else if twins(&card) {
+        Err(26)
+    } else {
+        Ok((card.m, card.n))
+    }
+}
+
+/// 21: "there are under 12 bytes, or the length is not 12 + m + n + n × m, or
+/// one of the six numbers is not as in the layout, or m is not 1 to 26, or n
+/// is not 1 to 120."
+fn contents(bytes: &[u8]) -> Option<Card<'_>> {
+    if bytes.len() < 12 {
+        return None;
+    }
+    // "The six numbers of the contents have two bytes each, the low byte
+    // first."
+    let number = |at: usize| usize::from(bytes[at]) + 256 * usize::from(bytes[at + 1]);
+    let (m, n) = (number(2), number(6));
+    if bytes.len() != 12 + m + n + n * m || !(1..=26).contains(&m) || !(1..=120).contains(&n) {
+        return None;
+    }
+    let layout = [12, m, 12 + m, n, 12 + m + n, n * m];
+    if (0..6).any(|i| number(2 * i) != layout[i]) {
+        return None;
+    }
+    Some(Card { m, n, letters: &bytes[12..12 + m], marks: &bytes[12 + m..12 + m + n], moves: &bytes[12 + m + n..] })
+}
+
+/// "m bytes, 0x61 to 0x7A (a to z), strictly rising".
+fn rising(letters: &[u8]) -> bool {
+    let within = letters.iter().all(|letter| (0x61..=0x7A).contains(letter));
+    within && (1..letters.len()).all(|i| letters[i - 1] < letters[i])
+}
+
+/// "State 0 is seen from the start. The rows of moves are read in the order of
+/// their states, each row from its first byte to its last; a move either leads
+/// to a state that has been seen, or to the least number that has not, which is
+/// then seen. Before state p's row is read, p must have been seen."
+fn numbered(card: &Card) -> bool {
+    let mut seen = vec![false; card.n];
+    seen[0] = true;
+    for p in 0..card.n {
+        if !seen[p] {
+            return false;
+        }
+        for c in 0..card.m {
+            let to = card.next(p, c);
+            let least = seen.iter().position(|&seen| !seen);
+            if !seen[to] && Some(to) != least {
+                return false;
+            }
+            seen[to] = true;
+        }
+    }
+    true
+}
+
+/// "Byte 1 is taken as given; a state without byte 1 must have 0 if a state
+/// with byte 1 can be reached from it, and 2 if none can; any other byte is
+/// refused".
+fn marked(card: &Card) -> bool {
+    (0..card.n).all(|s| {
+        let due = match reached(s, |s, c| card.next(s, c), card.m).into_iter().any(|s| card.may_end(s)) {
+            true => 0,
+            false => 2,
+        };
+        card.may_end(s) || card.marks[s] == due
+    })
+}
+
+/// "two states allow the same continuations: the same rows of letters lead
+/// from both to byte 1".
+fn twins(card: &Card) -> bool {
+    let alike = |pair: (usize, usize)| {
+        let pairs = reached(pair, |(p, q), c| (card.next(p, c), card.next(q, c)), card.m);
+        pairs.into_iter().all(|(p, q)| card.may_end(p) == card.may_end(q))
+    };
+    (0..card.n).any(|q| (0..q).any(|p| alike((p, q))))
+}
+
+/// Where rows of letters lead, the empty one too.
+fn reached<T: Copy + PartialEq>(from: T, next: impl Fn(T, usize) -> T, columns: usize) -> Vec<T> {
+    let mut found = vec![from];
+    let mut at = 0;
+    while at < found.len() {
+        for c in 0..columns {
+            let to = next(found[at], c);
+            if !found.contains(&to) {
+                found.push(to);
+            }
+        }
+        at += 1;
+    }
+    found
+}
+
+/// Bytes laid out as in the table, whatever the bodies hold.
+fn laid_out(letters: &[u8], marks: &[u8], moves: &[u8]) -> Vec<u8> {
+    let (m, n) = (letters.len(), marks.len());
+    let numbers = [12, m, 12 + m, n, 12 + m + n, moves.len()];
+    let contents = numbers.into_iter().flat_map(|number| [(number % 256) as u8, (number / 256) as u8]);
+    contents.chain([letters, marks, moves].concat()).collect()
+}
+
+/// "The first card on paper".
+const FIRST: [u8; 23] = [
+    0x0C, 0x00, 0x02, 0x00, 0x0E, 0x00, 0x03, 0x00, 0x11, 0x00, 0x06, 0x00, 0x61, 0x62, 0x01, 0x01, 0x02, 0x01, 0x02,
+    0x01, 0x00, 0x02, 0x02,
+];
+
+pub fn run(tally: &mut Tally, who: &str, board: &dyn BoardEntry) {
+    tally.group(&format!("{who}: the loader of FORMAT.md, its own cards"), |tally| {
+        let card = |marks: &[u8], moves: &[u8]| laid_out(b"a", marks, moves);
+        let cards = [
+            (FIRST.to_vec(), Ok((2, 3))),
+            (card(&[1], &[0]), Ok((1, 1))),
+            ([card(&[1], &[0]), b"x".to_vec()].concat(), Err(21)),
+            (laid_out(b"A", &[1], &[0]), Err(22)),
+            (card(&[1], &[1]), Err(23)),
+            (card(&[1, 2], &[0, 1]), Err(24)),
+            (card(&[0], &[0]), Err(25)),
+            (card(&[1, 1], &[1, 0]), Err(26)),
+        ];
+        for (card, due) in cards {
+            tally.same(&hex(&card), &due, &load(&card));
+            compare(tally, board, &card);
+        }
+    });
+    tally.group(&format!("{who}: the loader of FORMAT.md, every small card"), |tally| {
+        for letters in [&b"a"[..], b"ab"] {
+            for n in 1..=3 {
+                every(n, 4, |marks| {
+                    every(n * letters.len(), n + 1, |moves| compare(tally, board, &laid_out(letters, marks, moves)))
+                });
+            }
+        }
+    });
+    tally.group(&format!("{who}: the loader of FORMAT.md, damaged cards"), |tally| damaged(tally, board));
+}
+
+/// Every row of so many numbers below a bound.
+fn every(length: usize, bound: usize, mut each: impl FnMut(&[u8])) {
+    let mut row = vec![0; length];
+    loop {
+        each(&row);
+        let Some(place) = row.iter().position(|&byte| usize::from(byte) + 1 < bound) else { return };
+        row[..place].fill(0);
+        row[place] += 1;
+    }
+}
+
+fn damaged(tally: &mut Tally, board: &dyn BoardEntry) {
+    let alphabet: Vec<u8> = (b'a'..=b'z').collect();
+    // In state s every letter leads to s + 1, in the last to itself.
+    let chain = |letters: &[u8], n: usize| {
+        let marks: Vec<u8> = (0..n).map(|s| if s + 1 == n { 1 } else { 0 }).collect();
+        let moves: Vec<u8> = (0..n).flat_map(|s| vec![(s + 1).min(n - 1) as u8; letters.len()]).collect();
+        laid_out(letters, &marks, &moves)
+    };
+    for card in [FIRST.to_vec(), chain(b"a", 1), chain(b"q", 2), chain(b"bcz", 4), chain(&alphabet, 3)] {
+        for place in 0..card.len() {
+            for byte in 0..=255 {
+                let mut card = card.clone();
+                card[place] = byte;
+                compare(tally, board, &card);
+            }
+        }
+        for length in 0..card.len() {
+            compare(tally, board, &card[..length]);
+        }
+        for more in [1, 2, 12, card.len()] {
+            compare(tally, board, &[&card[..], &card[..more]].concat());
+        }
+        // The contents' numbers, two at a time.
+        for (one, other) in (0..6).flat_map(|one| (0..one).map(move |other| (one, other))) {
+            every(2, 9, |steps| {
+                let mut card = card.clone();
+                card[2 * one] = card[2 * one].wrapping_add(steps[0]).wrapping_sub(4);
+                card[2 * other] = card[2 * other].wrapping_add(steps[1]).wrapping_sub(4);
+                compare(tally, board, &card);
+            });
+        }
+    }
+    // Lengths and counts at and past their bounds, laid out in agreement.
+    for m in [0, 1, 2, 25, 26, 27, 255, 256] {
+        for n in [0, 1, 2, 119, 120, 121, 255, 256, 257] {
+            let letters: Vec<u8> = (0..m).map(|c| b'a'.wrapping_add(c as u8)).collect();
+            compare(tally, board, &laid_out(&letters, &vec![1; n], &vec![0; n * m]));
+            if n > 0 {
+                compare(tally, board, &chain(&letters, n));
+            }
+        }
+    }
+    let bytes = [0, 0x0A, b' ', b'A', 0x60, b'a', b'b', b'y', b'z', 0x7B, 0x80, 0xE1, 0xFF];
+    every(3, bytes.len(), |row| {
+        let letters: Vec<u8> = row.iter().map(|&place| bytes[usize::from(place)]).collect();
+        for count in 1..=3 {
+            compare(tally, board, &chain(&letters[..count], 2));
+        }
+    });
+}
+
+fn compare(tally: &mut Tally, board: &dyn BoardEntry, card: &[u8]) {
+    last_case::note(|| format!("loading {}", hex(card)));
+    let due = match load(card) {
+        Ok((m, n)) => Loaded::Card { letters: m as u64, states: n as u64 },
+        Err(number) => Loaded::Refused(number),
+    };
+    let found = board.load(card);
+    tally.check(due == found, || format!("loading {}\n  by FORMAT.md: {due:?}\n  by the board: {found:?}", hex(card)));
+}
