@@ -75,7 +75,7 @@ fn refused(book: &Path, text: &[u8], number: u64, line: usize) -> String {
     let place = if line == 0 { String::new() } else { format!(", line {line}") };
     let mut message = format!("{}: refused {number} ({}){place}: {}\n", files::shown(book), entry.word, entry.when);
     let hint = hint::hint(text, number, line);
-    if let Some((bytes, _)) = hint::line_of(text, line) {
+    if let Some((bytes, _)) = hint::line_of(text, line).filter(|_| !hint::is_card(text)) {
         message += &hint::picture(line, bytes, hint.as_ref().and_then(|hint| hint.column));
     }
     if let Some(hint) = hint {

@@ -10,8 +10,10 @@ pub struct Hint {
     pub text: String,
 }
 
-/// How every card begins: its letters stand at byte 12.
-const CARD: &[u8] = &[12, 0];
+/// Does a card begin so? Its letters stand at byte 12.
+pub fn is_card(text: &[u8]) -> bool {
+    text.starts_with(&[12, 0])
+}
 
 fn at(column: usize, text: impl Into<String>) -> Option<Hint> {
     Some(Hint { column: Some(column), text: text.into() })
@@ -38,7 +40,7 @@ pub fn hint(text: &[u8], number: u64, line: usize) -> Option<Hint> {
     }
     let (bytes, ended) = line_of(text, line)?;
     match number {
-        5 if line == 1 && text.starts_with(CARD) => {
+        5 if line == 1 && is_card(text) => {
             whole("these bytes begin as a card does; pier judge, show, draw, page, compare and check take cards")
         }
         3 => at(fifth_bracket(bytes)?, "the fifth open bracket"),
