@@ -5,6 +5,7 @@
 //! not proved.
 
 mod arguments;
+mod arrow;
 mod card;
 mod check;
 mod command;

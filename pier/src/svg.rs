@@ -1,8 +1,9 @@
 //! A card's picture as SVG, with what it needs in itself.
 
+use crate::arrow::{Anchor, BAR, RADIUS};
 use crate::card::{self, Table};
 use crate::layout::Layout;
-use crate::route::{self, Anchor, Picture, BAR, RADIUS};
+use crate::route::{self, Picture};
 
 const STYLE: &str = "\
 text{font:13px sans-serif;fill:#222}\
