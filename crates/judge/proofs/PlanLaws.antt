@@ -1,17 +1,19 @@
 -- The states of judging plan after plan.
 use mathlib.Core.Path.{_≡_, refl, sym, ap, _∙_}
-use mathlib.Core.Logic.{inl, inr, _≢_}
-use mathlib.Core.List.{List, [], _++_}
-use Prim.Native.Nat.{ℕ, _-_, _^_, _≤_, _<_}
-use native.Mathlib.Nat.{pow-le-pow-right, zero-lt-suc}
+use mathlib.Core.Bool.{true, false}
+use mathlib.Core.Logic.{_⊎_, inl, inr, _≢_}
+use mathlib.Core.List.{List, [], _∷_, _++_}
+use Prim.Native.Nat.{ℕ, suc, _+_, _≤_}
 use native.Mathlib.Omega.{arith}
-use lib.ListN.{length, take, drop, length-take, length-drop}
-use Rattle.io.specs.Digits.{Fewest}
-use Rattle.automata.specs.Basics.{LtCases, lt-cases}
+use lib.ListN.{length}
+use lib.Dec.{ltb}
+use Rattle.automata.specs.Booleans.{bool-cases}
 use Rattle.automata.specs.Format.{narrow}
+use Rattle.card.specs.Layout.{lettersOf}
+use Rattle.card.specs.Alphabet.{column}
 use Rattle.card.specs.Answer.{rejected, holds, load}
-use Rattle.card.specs.Judge.{refused, judge}
-use Rattle.card.specs.Run.{runStart, runOn, runReply}
+use Rattle.card.specs.Judge.{Place, none, found, refused, judge}
+use Rattle.card.specs.Run.{Run, runStart, runLetter, runOn, runReply}
 use Rattle.run.specs.declared.Run.{Run as Run′}
 use Rattle.run.specs.declared.Answer.{Answer}
 use Rattle.run.specs.declared.Answer.the-variants.{Refused}
@@ -58,19 +60,22 @@ module _ (c : List ℕ) where
     pub answers-refused : j .number ≢ 0 → Answers c j (Refused (j .number) 0)
     answers-refused d = record { is = λ u b. refused-judge c u (j .number) (t .refused d) }
 
--- ---- text
+-- ---- letters
 
-grows : (i : ℕ) → 20 ≤ i → 10 ^ 20 ≤ 10 ^ i
-grows i h = pow-le-pow-right (zero-lt-suc 9) h
+-- a run takes no more letters than come
+module _ (c : List ℕ) where
+  letter-few : (r : Run) (l : ℕ) → runLetter narrow c r l .letters ≤ suc (r .letters)
+  letter-few r l = go (r .unknown) refl (bool-cases (ltb (column (lettersOf narrow c) l) (length (lettersOf narrow c))))
+    where
+      go : (p : Place) → r .unknown ≡ p → (ltb (column (lettersOf narrow c) l) (length (lettersOf narrow c)) ≡ true) ⊎ (ltb (column (lettersOf narrow c) l) (length (lettersOf narrow c)) ≡ false)
+          → runLetter narrow c r l .letters ≤ suc (r .letters)
+      go (found k) e b = rw e (omega arith)
+      go none e (inl b) = rw (e, b) (omega arith)
+      go none e (inr b) = rw (e, b) (omega arith)
 
--- a 64-bit number has at most 20 digits
-pub digits-few : (n k : ℕ) → n < 2 ^ 64 → Fewest 10 1 n k → k ≤ 20
-digits-few n k h f = go (lt-cases 20 k)
-  where
-    go : LtCases 20 k → k ≤ 20
-    go (inl x) = absurd (omega (arith, f .2 (omega arith), grows (k - 1) (omega arith)))
-    go (inr x) = x .0
+  run-few : (r : Run) (u : List ℕ) → runOn narrow c r u .letters ≤ r .letters + length u
+  run-few r [] = omega arith
+  run-few r (l ∷ u) = omega (arith, run-few (runLetter narrow c r l) u, letter-few r l)
 
--- a part is no longer than the whole
-pub part-small : (l : List ℕ) (a e : ℕ) → length (take (e - a) (drop a l)) ≤ length l
-part-small l a e = omega (arith, length-take (e - a) (drop a l), length-drop a l)
+  pub letters-few : (u : List ℕ) (j : Judging) → Judges c u j → j .number ≡ 0 → j .run .letters ≤ length u
+  letters-few u j w e = omega (arith, ap (λ x. x .letters) (w .after e .is), run-few (runStart narrow c) u)

@@ -1,24 +1,28 @@
 -- Judging one plan after another, each in pieces, on a card that was tested once: the answer is that of judging the whole plan.
 use mathlib.Core.Path.{_≡_}
-use mathlib.Core.Logic.{_⊎_, _≢_}
+use mathlib.Core.Logic.{_≢_}
 use mathlib.Core.List.{List, _++_}
-use Prim.Native.Nat.{ℕ, _≤_}
-use lib.ListN.{length}
+use Prim.Native.Nat.{ℕ}
 use Rattle.automata.specs.Format.{narrow}
+use Rattle.card.specs.Layout.{lettersOf}
+use Rattle.card.specs.Load.{loadTest}
 use Rattle.card.specs.Answer.{rejected, load}
 use Rattle.card.specs.Judge.{judge}
 use Rattle.run.specs.declared.Answer.{Answer}
 use Rattle.run.specs.Reading.{replyOf}
-use Rattle.run.specs.Walk.{Ready, Underway}
+use Rattle.run.specs.Walk.{Ready, Underway, ColumnTable}
 use Rattle.run.specs.Pieces.{After}
 use Rattle.judge.specs.declared.plan.Judging.{Judging}
-use Rattle.judge.specs.Text.{Line}
 
 -- The card was tested, and the run goes on.
 pub record Tests (c : List ℕ) (j : Judging) : Type 0 where
   pub refused : j .number ≢ 0 → rejected (j .number) ≡ load narrow c
   pub ready : j .number ≡ 0 → Ready c (j .m) (j .n)
   pub underway : j .number ≡ 0 → Underway c (j .n) (j .run)
+
+-- Where the card loads, the table has its columns.
+pub record Columns (c t : List ℕ) : Type 0 where
+  pub table : loadTest narrow c ≡ 0 → ColumnTable (lettersOf narrow c) t
 
 -- Of the plan the letters u have come.
 pub record Judges (c u : List ℕ) (j : Judging) : Type 0 where
@@ -33,10 +37,3 @@ pub record More (c : List ℕ) (j : Judging) (piece : List ℕ) (r : Judging) : 
 -- The answer is that of judging the letters that have come.
 pub record Answers (c : List ℕ) (j : Judging) (a : Answer) : Type 0 where
   pub is : (u : List ℕ) → Judges c u j → replyOf a ≡ judge narrow c u
-
--- The plan's answer is put as a line behind what waits, or at the buffer's start where what waited was written.
-pub record Ends (c : List ℕ) (j : Judging) (out : List ℕ) (at : ℕ) (out′ : List ℕ) (r : ℕ) : Type 0 where
-  pub most : r ≤ length out′
-  pub answer : Answer
-  pub answers : Answers c j answer
-  pub line : Line out at answer out′ r ⊎ Line out 0 answer out′ r

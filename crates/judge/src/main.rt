@@ -2,12 +2,12 @@
 // tested once; a plan of any length goes through in pieces, and so does the text.
 mod lines;
 mod plan;
-mod text;
+mod reply;
 
 use libc::STDIN_FILENO;
 ghost use Rattle.io.specs.Counts.{Counts};
 
-// The file's bytes, one more at most than the longest card has, so that a longer file fails by its length. A file that cannot be opened has none.
+// The file's bytes, one more at most than the longest card has, so that a longer file fails by its length. A file that cannot be opened or read has none.
 fn read_card(bytes: &mut [u8; 3279]) -> usize
     ensures { λ r. ⌜ Counts r (now (bytes .exit)) ⌝ }
 {
@@ -15,9 +15,12 @@ fn read_card(bytes: &mut [u8; 3279]) -> usize
     if file < 0 {
         return 0;
     }
-    let size = io::read_full(file, bytes);
+    let input = stream::read_all(file, bytes);
     libc::close(file);
-    size
+    match input {
+        stream::Input::Whole(size) => size,
+        stream::Input::Failed => 0,
+    }
 }
 
 fn main() {

@@ -3,7 +3,7 @@ ghost use mathlib.Core.Path.{_≡_};
 ghost use mathlib.Core.List.{[]};
 ghost use Prim.Native.Nat.{_+_, _<_, _^_};
 ghost use lib.ListN.{length};
-ghost use Rattle.judge.specs.Plan.{Tests, Judges, More, Answers};
+ghost use Rattle.judge.specs.Plan.{Tests, Columns, Judges, More, Answers};
 
 // The number of the card's refusal, or 0 and its counts; and the run of the plan so far.
 pub struct Judging {
@@ -41,6 +41,20 @@ pub fn begin(card: &[u8]) -> Judging
     }
 }
 
+// The table of the card's columns, made once; a refused card needs none.
+pub fn columns(card: &[u8], j: Judging) -> [u8; 256]
+    requires { ⌜ Tests (now card) j ⌝ }
+    ensures { λ r. ⌜ Columns (now (card .entry)) r ⌝ }
+{
+    let number = j.number;
+    let m = j.m;
+    let n = j.n;
+    if number == 0 {
+        return run::table(card, m, n);
+    }
+    [0u8; 256]
+}
+
 // Begins the next plan.
 pub fn next(card: &[u8], j: Judging) -> Judging
     requires { ⌜ Tests (now card) j ⌝ }
@@ -62,8 +76,8 @@ pub fn next(card: &[u8], j: Judging) -> Judging
 }
 
 // One piece more of the plan.
-pub fn more(card: &[u8], j: Judging, piece: &[u8]) -> Judging
-    requires { ⌜ Tests (now card) j × (j .run .letters + length (now piece) < 2 ^ 64) ⌝ }
+pub fn more(card: &[u8], columns: &[u8; 256], j: Judging, piece: &[u8]) -> Judging
+    requires { ⌜ Tests (now card) j × Columns (now card) (now columns) × (j .number ≡ 0 → j .run .letters + length (now piece) < 2 ^ 64) ⌝ }
     ensures { λ r. ⌜ More (now (card .entry)) j (now (piece .entry)) r ⌝ }
 {
     let number = j.number;
@@ -71,7 +85,7 @@ pub fn more(card: &[u8], j: Judging, piece: &[u8]) -> Judging
     let n = j.n;
     let r = j.run;
     if number == 0 {
-        let s = run::piece(card, m, n, r, piece);
+        let s = run::piece_by(card, m, n, columns, r, piece);
         return Judging {
             number: 0,
             m,

@@ -154,9 +154,17 @@ pub fn start(card: &[u8], m: usize, n: usize) -> Run
     }
 }
 
-// One piece more.
-pub fn piece(card: &[u8], m: usize, n: usize, run: Run, plan: &[u8]) -> Run
-    requires { ⌜ Ready (now card) m n × Underway (now card) n run × (run .letters + length (now plan) < 2 ^ 64) ⌝ }
+// Of every byte its column on the card, made once for many pieces.
+pub fn table(card: &[u8], m: usize, n: usize) -> [u8; 256]
+    requires { ⌜ Ready (now card) m n ⌝ }
+    ensures { λ r. ⌜ ColumnTable (lettersOf narrow (now (card .entry))) r ⌝ }
+{
+    columns::columns(card::letters(card, m, n))
+}
+
+// One piece more, by the card's table.
+pub fn piece_by(card: &[u8], m: usize, n: usize, table: &[u8; 256], run: Run, plan: &[u8]) -> Run
+    requires { ⌜ Ready (now card) m n × ColumnTable (lettersOf narrow (now card)) (now table) × Underway (now card) n run × (run .letters + length (now plan) < 2 ^ 64) ⌝ }
     ensures { λ r. ⌜ Runs (now (card .entry)) n (runOn narrow (now (card .entry)) (runOf run) (now (plan .entry))) r ⌝ }
 {
     let unknown = run.unknown;
@@ -166,18 +174,17 @@ pub fn piece(card: &[u8], m: usize, n: usize, run: Run, plan: &[u8]) -> Run
     if let Place::At(_) = unknown {
         return run;
     }
-    let table = columns::columns(card::letters(card, m, n));
     if let Place::At(place) = dead {
-        return past_dead(card, m, n, &table, plan, 0, state, letters, place);
+        return past_dead(card, m, n, table, plan, 0, state, letters, place);
     }
-    match walk_on(card, m, n, &table, plan, state) {
+    match walk_on(card, m, n, table, plan, state) {
         Walk::Done(q) => Run {
             state: q,
             letters: letters + plan.len(),
             dead: Place::None,
             unknown: Place::None,
         },
-        Walk::Dead(q, a) => past_dead(card, m, n, &table, plan, a, q, letters + a, letters + a),
+        Walk::Dead(q, a) => past_dead(card, m, n, table, plan, a, q, letters + a, letters + a),
         Walk::Unknown(q, a) => Run {
             state: q,
             letters: letters + a,
@@ -185,6 +192,15 @@ pub fn piece(card: &[u8], m: usize, n: usize, run: Run, plan: &[u8]) -> Run
             unknown: Place::At(letters + a),
         },
     }
+}
+
+// One piece more.
+pub fn piece(card: &[u8], m: usize, n: usize, run: Run, plan: &[u8]) -> Run
+    requires { ⌜ Ready (now card) m n × Underway (now card) n run × (run .letters + length (now plan) < 2 ^ 64) ⌝ }
+    ensures { λ r. ⌜ Runs (now (card .entry)) n (runOn narrow (now (card .entry)) (runOf run) (now (plan .entry))) r ⌝ }
+{
+    let columns = table(card, m, n);
+    piece_by(card, m, n, &columns, run, plan)
 }
 
 // The answer of a run at the plan's end.

@@ -1,0 +1,85 @@
+-- `judge_each` meets its contract: the plans so far are judged.
+use Prim.Native.Nat.{_-_}
+use native.Mathlib.Omega.{arith}
+use lib.ListN.{length}
+use borrow.Author.Needs.{needs}
+use Rattle.plans.proofs.ManyLaws.{Upto, upto-none, upto-length, upto-line, upto-end, judges-all, judges-full}
+use Rattle.plans.proofs.judge_each.Statement.{statement}
+use Rattle.plans.proofs.judge_each.Tie as tie
+
+abbrev Inv-loop : tie.InvT-loop
+Inv-loop card m n table plans replies₀ count₀ at₀ from₀ replies count at from = Upto card plans replies₀ count at from replies
+
+abbrev μ-loop : tie.MeasureT-loop
+μ-loop card m n table plans replies₀ count₀ at₀ from₀ replies count at from = length plans - from
+
+loop-holds : tie.Need-loop-holds Inv-loop μ-loop
+loop-holds c = upto-none _ _ _
+
+sub-room : tie.Need-sub-room Inv-loop μ-loop
+sub-room c = omega (arith, c .before .loop .inv .room, upto-length _ _ _ _ _ _ _ (c .before .loop .inv))
+
+same-length : tie.Need-same-length Inv-loop μ-loop
+same-length c = upto-length _ _ _ _ _ _ _ (c .before .before .loop .inv)
+
+returns : tie.Need-returns Inv-loop μ-loop
+returns c = judges-full _ _ _ _ _ _ _ (c .before .before .loop .inv) (c .before .before .before .before .before .before .pre .0 .loads) (omega (arith, c .if1 .taken, upto-length _ _ _ _ _ _ _ (c .before .before .loop .inv)))
+
+line-end-requires : tie.Need-line-end-requires Inv-loop μ-loop
+line-end-requires c κs = c .before .before .loop .inv .inside
+
+judge-line-requires : tie.Need-judge-line-requires Inv-loop μ-loop
+judge-line-requires c κs = (c .before .before .before .before .before .before .before .before .pre .0, c .before .before .before .before .before .before .before .before .pre .1, c .before .line-end .ensures .low, c .before .line-end .ensures .most)
+
+put-answer-requires : tie.Need-put-answer-requires Inv-loop μ-loop
+put-answer-requires c κs = omega (arith, c .before .before .before .if1 .left, c .before .before .before .before .before .loop .inv .room, upto-length _ _ _ _ _ _ _ (c .before .before .before .before .before .loop .inv))
+
+add-count : tie.Need-add-count Inv-loop μ-loop
+add-count c = omega (arith, c .before .before .before .before .before .before .before .before .loop .inv .place, c .before .before .before .before .before .before .if1 .left, c .before .before .before .before .before .before .before .before .loop .inv .room, upto-length _ _ _ _ _ _ _ (c .before .before .before .before .before .before .before .before .loop .inv))
+
+add-at : tie.Need-add-at Inv-loop μ-loop
+add-at c = omega (arith, c .before .before .before .before .before .before .if1 .left, c .before .before .before .before .before .before .before .before .loop .inv .room, upto-length _ _ _ _ _ _ _ (c .before .before .before .before .before .before .before .before .loop .inv))
+
+add-from : tie.Need-add-from Inv-loop μ-loop
+add-from c = omega (arith, c .if2 .taken)
+
+loop-less : tie.Need-loop-less Inv-loop μ-loop
+loop-less c = omega (arith, c .if2 .taken, c .before .before .before .before .before .before .line-end .ensures .low)
+
+loop-again : tie.Need-loop-again Inv-loop μ-loop
+loop-again c = upto-line _ _ _ _ _ _ _ (c .before .before .before .before .before .before .before .before .before .loop .inv) (c .before .before .before .before .before .before .before .before .loop-test .taken) _ (c .before .before .before .before .before .before .line-end .ensures) (c .before .before .before .before .judge-line .result) (c .before .before .before .before .judge-line .ensures) (omega (arith, c .before .before .before .before .before .before .before .if1 .left, upto-length _ _ _ _ _ _ _ (c .before .before .before .before .before .before .before .before .before .loop .inv))) _ (c .before .before .before .put-answer .ensures) (c .if2 .taken)
+
+loop-less-2 : tie.Need-loop-less-2 Inv-loop μ-loop
+loop-less-2 c = omega (arith, c .if2 .left, c .before .before .before .before .before .before .before .before .loop-test .taken)
+
+loop-again-2 : tie.Need-loop-again-2 Inv-loop μ-loop
+loop-again-2 c = upto-end _ _ _ _ _ _ _ (c .before .before .before .before .before .before .before .before .before .loop .inv) (c .before .before .before .before .before .before .before .before .loop-test .taken) _ (c .before .before .before .before .before .before .line-end .ensures) (c .before .before .before .before .judge-line .result) (c .before .before .before .before .judge-line .ensures) (omega (arith, c .before .before .before .before .before .before .before .if1 .left, upto-length _ _ _ _ _ _ _ (c .before .before .before .before .before .before .before .before .before .loop .inv))) _ (c .before .before .before .put-answer .ensures) (c .if2 .left)
+
+same-length-2 : tie.Need-same-length-2 Inv-loop μ-loop
+same-length-2 c = upto-length _ _ _ _ _ _ _ (c .before .loop .inv)
+
+returns-2 : tie.Need-returns-2 Inv-loop μ-loop
+returns-2 c = judges-all _ _ _ _ _ _ _ (c .before .loop .inv) (c .before .before .before .before .before .pre .0 .loads) (c .loop-test .left)
+
+pub judge-each-spec : {M : Type 1} → statement M
+judge-each-spec =
+    tie.close
+    (tie.spec
+    Inv-loop
+    μ-loop
+    loop-holds
+    sub-room
+    same-length
+    returns
+    line-end-requires
+    judge-line-requires
+    put-answer-requires
+    add-count
+    add-at
+    add-from
+    loop-less
+    loop-again
+    loop-less-2
+    loop-again-2
+    same-length-2
+    returns-2)
