@@ -8,8 +8,9 @@ use std::path::{Path, PathBuf};
 
 /// How much is read at once. A line that is longer makes the room grow.
 const PIECE: usize = 1 << 20;
-/// How many plans one call judges at most.
-pub const CALL: usize = 1 << 16;
+/// How many plans one call judges at most: a piece, where they have 7 letters on
+/// average.
+const CALL: usize = PIECE / 8;
 
 pub struct Plans {
     input: Box<dyn Read>,

@@ -34,8 +34,8 @@ done
 long=$(yes cw | head -n 1500000 | tr -d '\n')
 printf 'du\nd%su\nd' "$long" | pier judge ramp.card >replies
 check "a plan longer than a piece" "allowed allowed unfinished" "$(tr '\n' ' ' <replies | sed 's/ $//')"
-yes '' | head -n 70000 | pier judge ramp.card 2>/dev/null | sort | uniq -c | sed 's/^ *//' >counted
-check "more plans than a call takes" "70000 allowed" "$(cat counted)"
+yes '' | head -n 300000 | pier judge ramp.card 2>/dev/null | sort | uniq -c | sed 's/^ *//' >counted
+check "more plans than a call takes" "300000 allowed" "$(cat counted)"
 
 # The status, and --strict.
 printf 'du\nd\n' >unfinished.plans
