@@ -27,6 +27,8 @@ if [ -z "$browser" ]; then
 else
     # seen PAGE: the page after its script ran.
     seen() { timeout 120 "$browser" --headless --no-sandbox --disable-gpu --user-data-dir="$PWD/profile" --dump-dom "file://$PWD/$1" 2>/dev/null; }
+    has "the picture in a browser" 'id="state0"' "$(seen ramp.svg)"
+    check "which finds no fault" 0 "$(seen all.svg | grep -c parsererror)"
     for name in ramp pilots hazard; do
         # The plans are typed into the box one by one.
         {

@@ -50,7 +50,7 @@ has "a byte-order mark before the plans" "a byte-order mark at the beginning" "$
 # A million short plans on a large card: tested once a piece, not once a plan.
 if [ -z "$option" ]; then
     letters=abcdefghijklmnopqrstuvwxyz
-    row=$letters${letters:13}${letters:0:13}$letters$letters
+    row=$letters${letters:13}${letters:0:13}$letters$letters$letters
     printf ':%s\n>%s\n' $letters ${row:0:110} >row.book
     pier compile row.book -o board.bin >out
     check "the large card" "states  111" "$(sed -n 2p out)"
