@@ -152,8 +152,8 @@ const FIRST: [u8; 23] = [
     0x01, 0x00, 0x02, 0x02,
 ];
 
-pub fn run(tally: &mut Tally, who: &str, board: &dyn BoardEntry) {
-    tally.group(&format!("{who}: the loader of FORMAT.md, its own cards"), |tally| {
+pub fn run(tally: &mut Tally, board: &dyn BoardEntry) {
+    tally.group("board: the loader of FORMAT.md, its own cards", |tally| {
         let card = |marks: &[u8], moves: &[u8]| laid_out(b"a", marks, moves);
         let cards = [
             (FIRST.to_vec(), Ok((2, 3))),
@@ -170,16 +170,17 @@ pub fn run(tally: &mut Tally, who: &str, board: &dyn BoardEntry) {
             compare(tally, board, &card);
         }
     });
-    tally.group(&format!("{who}: the loader of FORMAT.md, every small card"), |tally| {
+    tally.group("board: the loader of FORMAT.md, every small card", |tally| {
         for letters in [&b"a"[..], b"ab"] {
             for n in 1..=3 {
                 every(n, 4, |marks| {
+                    last_case::note(|| format!("loading a card of {} letters with marks {marks:?}", letters.len()));
                     every(n * letters.len(), n + 1, |moves| compare(tally, board, &laid_out(letters, marks, moves)))
                 });
             }
         }
     });
-    tally.group(&format!("{who}: the loader of FORMAT.md, damaged cards"), |tally| damaged(tally, board));
+    tally.group("board: the loader of FORMAT.md, damaged cards", |tally| damaged(tally, board));
 }
 
 /// Every row of so many numbers below a bound.
@@ -202,6 +203,7 @@ fn damaged(tally: &mut Tally, board: &dyn BoardEntry) {
         laid_out(letters, &marks, &moves)
     };
     for card in [FIRST.to_vec(), chain(b"a", 1), chain(b"q", 2), chain(b"bcz", 4), chain(&alphabet, 3)] {
+        last_case::note(|| format!("loading, damaged, {}", hex(&card)));
         for place in 0..card.len() {
             for byte in 0..=255 {
                 let mut card = card.clone();
@@ -225,6 +227,7 @@ fn damaged(tally: &mut Tally, board: &dyn BoardEntry) {
             });
         }
     }
+    last_case::note(|| "loading cards of many letters and states".to_string());
     // Lengths and counts at and past their bounds, laid out in agreement.
     for m in [0, 1, 2, 25, 26, 27, 255, 256] {
         for n in [0, 1, 2, 119, 120, 121, 255, 256, 257] {
@@ -245,7 +248,6 @@ fn damaged(tally: &mut Tally, board: &dyn BoardEntry) {
 }
 
 fn compare(tally: &mut Tally, board: &dyn BoardEntry, card: &[u8]) {
-    last_case::note(|| format!("loading {}", hex(card)));
     let due = match load(card) {
         Ok((m, n)) => Loaded::Card { letters: m as u64, states: n as u64 },
         Err(number) => Loaded::Refused(number),

@@ -34,7 +34,6 @@ mod shrink;
 mod tally;
 
 use effort::Effort;
-use entry::Reference;
 use program::Program;
 use std::process::ExitCode;
 use std::time::{Duration, Instant};
@@ -113,7 +112,6 @@ fn run(tally: &mut Tally, options: &Options, effort: Effort) {
             self_examples::run(tally);
             self_planted::run(tally);
             self_coverage::run(tally);
-            by_format::run(tally, "reference", &Reference { bench: Vec::new() });
         }
         self_meaning::run(tally, effort);
         self_board::run(tally, effort);
@@ -123,7 +121,7 @@ fn run(tally: &mut Tally, options: &Options, effort: Effort) {
             Some(board) => {
                 compare_board::run(tally, &*board, effort);
                 if effort.fixed {
-                    by_format::run(tally, "board", &*board);
+                    by_format::run(tally, &*board);
                 }
             }
             None => tally.skip("board", "no static library is linked"),

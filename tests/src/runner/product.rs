@@ -14,9 +14,9 @@ const UNSET: u64 = 0xDEAD_BEEF_DEAD_BEEF;
 /// An answer's number and the three numbers of `out`; and whether a number
 /// just beside `out` was written.
 #[cfg(any(feature = "product-board", feature = "product-compile"))]
-fn answer(call: impl FnOnce(&mut [u64; 3]) -> u64) -> ([u64; 4], bool) {
+fn answer(call: impl FnOnce(*mut [u64; 3]) -> u64) -> ([u64; 4], bool) {
     let mut lent = [[UNSET; 3]; 3];
-    let number = call(&mut lent[1]);
+    let number = call(lent.as_mut_ptr().wrapping_add(1));
     let [before, [first, second, third], behind] = lent;
     ([number, first, second, third], before != [UNSET; 3] || behind != [UNSET; 3])
 }
@@ -27,14 +27,14 @@ mod board {
     use crate::entry::{BoardEntry, Judged, Loaded, Stepped};
 
     extern "C" {
-        fn pier_load(card: *const u8, card_length: usize, out: &mut [u64; 3]) -> u64;
-        fn pier_step(card: *const u8, card_length: usize, state: usize, letter: u8, out: &mut [u64; 3]) -> u64;
+        fn pier_load(card: *const u8, card_length: usize, out: *mut [u64; 3]) -> u64;
+        fn pier_step(card: *const u8, card_length: usize, state: usize, letter: u8, out: *mut [u64; 3]) -> u64;
         fn pier_judge(
             card: *const u8,
             card_length: usize,
             plan: *const u8,
             plan_length: usize,
-            out: &mut [u64; 3],
+            out: *mut [u64; 3],
         ) -> u64;
     }
 
@@ -115,7 +115,7 @@ mod compile {
             b6_length: usize,
             b7: *mut B7,
             b7_length: usize,
-            out: &mut [u64; 3],
+            out: *mut [u64; 3],
         ) -> u64;
     }
 

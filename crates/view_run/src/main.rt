@@ -1,0 +1,135 @@
+// Runs the view on the paper's first card: a view that judges plan after plan, a view whose counts are forged, and a card that is refused. A line for each
+// answer.
+use libc::STDOUT_FILENO;
+use run::Answer;
+use run::Verdict;
+use view::View;
+ghost use mathlib.Core.Path.{_≡_};
+ghost use Rattle.automata.specs.Format.{narrow};
+ghost use Rattle.card.specs.Judge.{judge as judgeOf};
+ghost use Rattle.run.specs.Reading.{replyOf};
+
+// Two answers.
+struct Both {
+    first: Answer,
+    second: Answer,
+}
+
+fn together(first: Answer, second: Answer) -> Both
+    ensures { λ r. ⌜ (r .first ≡ first) × (r .second ≡ second) ⌝ }
+{
+    Both { first, second }
+}
+
+// The card is loaded once, and the view judges one plan and then another.
+fn several<'a, 'p, 'r>(card: &'a [u8], first: &'p [u8], second: &'r [u8]) -> Both
+    ensures { λ r. ⌜ (replyOf (r .first) ≡ judgeOf narrow (now (card .entry)) (now (first .entry))) × (replyOf (r .second) ≡ judgeOf narrow (now (card .entry)) (now (second .entry))) ⌝ }
+{
+    let view = view::load(card);
+    let one = view::judge(view, first);
+    let other = view::judge(view, second);
+    together(one, other)
+}
+
+// A view that was not loaded: 9 letters, 200 states and a refusal beside the card's bytes.
+fn forged<'a, 'p>(card: &'a [u8], plan: &'p [u8]) -> Answer
+    ensures { λ r. ⌜ replyOf r ≡ judgeOf narrow (now (card .entry)) (now (plan .entry)) ⌝ }
+{
+    view::judge(
+        View {
+            bytes: card,
+            letters: 9,
+            states: 200,
+            number: 26,
+        },
+        plan,
+    )
+}
+
+fn say(word: &[u8], number: usize) {
+    io::write_all(STDOUT_FILENO, word);
+    io::print_decimal(STDOUT_FILENO, number as u64);
+}
+
+fn say_counts(card: &[u8]) {
+    let k = view::counts(card);
+    say(b"letters ", k.letters);
+    say(b" states ", k.states);
+    say(b" number ", k.number as usize);
+    io::write_all(STDOUT_FILENO, b"\n");
+}
+
+fn say_verdict(verdict: Verdict) {
+    match verdict {
+        Verdict::Allowed => {
+            io::write_all(STDOUT_FILENO, b"allowed");
+        }
+        Verdict::Unfinished => {
+            io::write_all(STDOUT_FILENO, b"unfinished");
+        }
+        Verdict::Hopeless(k) => {
+            say(b"hopeless ", k);
+        }
+    }
+}
+
+fn say_answer(answer: Answer) {
+    match answer {
+        Answer::Judged(verdict) => say_verdict(verdict),
+        Answer::Refused(number, before) => {
+            say(b"refused ", number as usize);
+            say(b" after ", before);
+        }
+    }
+    io::write_all(STDOUT_FILENO, b"\n");
+}
+
+fn say_several(card: &[u8], first: &[u8], second: &[u8]) {
+    let answers = several(card, first, second);
+    let one = answers.first;
+    let other = answers.second;
+    say_answer(one);
+    say_answer(other);
+}
+
+// The card of the book `:ab`, `>b / .*a _ .*`, with the given marks byte for state 0.
+fn card(mark: u8) -> [u8; 23] {
+    [
+        12,
+        0,
+        2,
+        0,
+        14,
+        0,
+        3,
+        0,
+        17,
+        0,
+        6,
+        0,
+        97,
+        98,
+        mark,
+        1,
+        2,
+        1,
+        2,
+        1,
+        0,
+        2,
+        2,
+    ]
+}
+
+fn main() {
+    let good = card(1);
+    say_counts(&good[..]);
+    say_several(&good[..], b"ab", b"abb");
+    say_several(&good[..], b"b", b"abcb");
+    say_answer(forged(&good[..], b"ab"));
+    say_answer(forged(&good[..], b"abb"));
+    let wrong = card(2);
+    say_counts(&wrong[..]);
+    say_several(&wrong[..], b"ab", b"c");
+    say_answer(forged(&wrong[..], b"ab"));
+}
