@@ -23,6 +23,7 @@ mod layout;
 mod manual;
 mod note;
 mod page;
+mod pipe;
 mod plans;
 mod progress;
 mod proved;

@@ -1,6 +1,7 @@
 //! Plans, one a line, read in pieces of whole lines and judged by the proved
 //! entry for many plans, which tests the card once a call.
 
+use crate::pipe::Pipe;
 use crate::{files, proved, Failure};
 use std::fs::File;
 use std::io::{self, ErrorKind, IsTerminal, Read};
@@ -28,11 +29,13 @@ impl Plans {
             if io::stdin().is_terminal() {
                 files::complain("Plans, one a line; end with Ctrl-D.\n");
             }
-            (Box::new(io::stdin().lock()), None)
+            (Box::new(Pipe::of(io::stdin())), None)
         } else {
             let file = File::open(path).map_err(|error| files::trouble("read", path, &error))?;
-            let length = file.metadata().ok().filter(|found| found.is_file()).map(|found| found.len());
-            (Box::new(file), length)
+            match file.metadata().ok().filter(|found| found.is_file()) {
+                Some(found) => (Box::new(file), Some(found.len())),
+                None => (Box::new(Pipe::of(file)), None),
+            }
         };
         Ok(Plans { input, name: path.into(), length, room: vec![0; PIECE], filled: 0, given: 0 })
     }
