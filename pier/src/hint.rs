@@ -202,7 +202,8 @@ fn stranger(text: &[u8], bytes: &[u8], line: usize) -> Option<Hint> {
     if sign.is_ascii_lowercase() {
         return at(column, format!("{sign} is not among the letters of line 1"));
     }
-    at(column, format!("{sign} is not defined on a line above"))
+    let joined = if column == skipped + 1 && skipped > 0 { "; a name is one capital letter alone" } else { "" };
+    at(column, format!("{sign} is not defined on a line above{joined}"))
 }
 
 fn taken(text: &[u8], bytes: &[u8], line: usize) -> Option<Hint> {
@@ -251,7 +252,7 @@ mod tests {
 
     #[test]
     fn each_common_error_is_named_at_its_place() {
-        let cases: [(&str, u64, usize, Option<usize>, &str); 30] = [
+        let cases: [(&str, u64, usize, Option<usize>, &str); 31] = [
             ("", 5, 1, None, "empty"),
             (":ab\n>(((((a)))))\n", 3, 2, Some(5), "fifth open"),
             (":ab\n>a/a_a/a_a/a_a/a_a/a_a\n", 4, 2, Some(20), "fifth _"),
@@ -281,6 +282,7 @@ mod tests {
             (":ab\n>a/b\n", 5, 2, None, "lacks its _"),
             (":ab\n>a|\n", 5, 2, Some(3), "at the end"),
             (":ab\n=C aD\n", 6, 2, Some(4), "D is not defined"),
+            (":ab\n=CD a\n", 6, 2, Some(2), "one capital letter alone"),
             (":ab\n=A a\n=A b\n", 7, 3, Some(1), "line 2"),
         ];
         for (text, number, line, column, words) in cases {

@@ -19,8 +19,8 @@ const CHARACTERS: [(&[u8], &str); 13] = [
 
 /// Signs of other notations.
 const SIGNS: [(&[u8], &str); 11] = [
-    (b"[]", "a square bracket: brackets are round, ( and )"),
-    (b"{}", "a curly bracket: brackets are round, ( and ); a part that stands n times is written n times"),
+    (b"[]", "brackets are round, ( and )"),
+    (b"{}", "brackets are round, ( and ), and a part that stands n times is written n times"),
     (b"#", "there are no comments: keep the text about a book in a file beside it"),
     (b"~", "everything else is written !"),
     (b"\"'`", "letters stand without quotation marks"),
@@ -51,7 +51,7 @@ pub fn words(bytes: &[u8], column: usize) -> String {
     let byte = bytes[column];
     let after_name = column > 0 && bytes[column - 1].is_ascii_uppercase();
     if let Some((_, words)) = SIGNS.iter().find(|(signs, _)| signs.contains(&byte)) {
-        return (*words).into();
+        return format!("{} is no sign of the language: {words}", byte as char);
     }
     match byte {
         b'0'..=b'9' if after_name => "a digit behind a name: a name is one capital letter and nothing more".into(),
@@ -75,8 +75,8 @@ mod tests {
             (b">a\t/", 2, "a tab: write spaces"),
             (b">a\xE2\x80\x93b", 2, "long dash"),
             (b">a\xE2\x80\x94b", 2, "long dash"),
-            (b">[ab]", 1, "square bracket"),
-            (b">a{2}", 2, "curly bracket"),
+            (b">[ab]", 1, "[ is no sign of the language: brackets are round"),
+            (b">a{2}", 2, "{ is no sign of the language: brackets are round"),
             (b">A1", 2, "behind a name"),
             (b">a1", 2, "a digit:"),
             (b">a%", 2, "% is no sign"),
