@@ -1,5 +1,7 @@
 // The entries for Rust and C, on numbers and slices: each hands back the paper's number of its answer, 0 where nothing is refused, and puts the rest of the
 // answer into `out`. They ask nothing of the caller.
+mod lines;
+
 ghost use mathlib.Core.Path.{_≡_};
 ghost use mathlib.Core.List.{_∷_, []};
 ghost use Rattle.automata.specs.Format.{narrow};

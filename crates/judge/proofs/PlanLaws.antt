@@ -9,9 +9,10 @@ use lib.ListN.{length}
 use lib.Dec.{ltb}
 use Rattle.automata.specs.Booleans.{bool-cases}
 use Rattle.automata.specs.Format.{narrow}
-use Rattle.card.specs.Layout.{lettersOf}
+use Rattle.card.specs.Layout.{letterCount, stateCount, lettersOf}
+use Rattle.card.specs.Load.{loadTest}
 use Rattle.card.specs.Alphabet.{column}
-use Rattle.card.specs.Answer.{rejected, holds, load}
+use Rattle.card.specs.Answer.{rejected, holds, load, load-holds}
 use Rattle.card.specs.Judge.{Place, none, found, refused, judge}
 use Rattle.card.specs.Run.{Run, runStart, runLetter, runOn, runReply}
 use Rattle.run.specs.declared.Run.{Run as Run′}
@@ -22,7 +23,10 @@ use Rattle.run.specs.Walk.{Ready, Underway, Runs}
 use Rattle.run.specs.Pieces.{After, after-piece, after-reply}
 use Rattle.board.proofs.EntryLaws.{loaded-ready, refused-judge, rejected-some}
 use Rattle.judge.specs.declared.plan.Judging.{Judging}
-use Rattle.judge.specs.Plan.{Tests, Judges, More, Answers}
+use Rattle.judge.specs.Plan.{Tests, Columns, Judges, More, Answers}
+
+rejected-loads : (c : List ℕ) (k : ℕ) → rejected k ≡ load narrow c → loadTest narrow c ≡ 0 → ⊥
+rejected-loads c k e z = let f : rejected k ≡ holds (letterCount narrow c) (stateCount narrow c) = e ∙ load-holds narrow c z in let y : _≡_ {A = ℕ} 0 1 = cc in omega arith
 
 module _ (c : List ℕ) where
   abbrev of : ℕ → ℕ → ℕ → Run′ → Judging
@@ -59,6 +63,10 @@ module _ (c : List ℕ) where
 
     pub answers-refused : j .number ≢ 0 → Answers c j (Refused (j .number) 0)
     answers-refused d = record { is = λ u b. refused-judge c u (j .number) (t .refused d) }
+
+-- a refused card has no columns
+pub columns-none : (c t : List ℕ) (j : Judging) → Tests c j → j .number ≢ 0 → Columns c t
+columns-none c t j w d = record { table = λ e. absurd (rejected-loads c (j .number) (w .refused d) e) }
 
 -- ---- letters
 

@@ -19,7 +19,7 @@ isOpen (b ∷ u) = true
 -- Since the last line end the bytes u have come.
 pub record Since (c u : List ℕ) (s : State) : Type 0 where
   pub judges : Judges c u (s .judging)
-  pub open : s .open ≡ isOpen u
+  pub opened : s .open ≡ isOpen u
 
 -- What has come is some u, and n more bytes of a plan can be counted.
 pub record Counted (c : List ℕ) (s : State) (n : ℕ) : Type 0 where

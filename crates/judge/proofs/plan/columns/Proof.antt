@@ -1,21 +1,16 @@
-use borrow.Author.Needs.{needs}
+-- `columns` meets its contract.
+use Rattle.judge.proofs.PlanLaws.{columns-none}
 use Rattle.judge.proofs.plan.columns.Statement.{statement}
 use Rattle.judge.proofs.plan.columns.Tie as tie
-use Rattle.judge.proofs.plan.columns.Reads as reads
-use Rattle.judge.proofs.plan.columns.Lts as lts
-use Rattle.run.proofs.table.Reads as table-reads
 
--- src/plan.rt:53:9
 table-requires : tie.Need-table-requires
-table-requires c κs = ?
+table-requires c κs = c .before .before .pre .ready (c .if1 .taken)
 
--- src/plan.rt:53:9
 returns : tie.Need-returns
-returns c = search needs
+returns c = record { table = λ _. c .table .ensures }
 
--- src/plan.rt:45:1
 returns-2 : tie.Need-returns-2
-returns-2 c = ?
+returns-2 c = columns-none _ _ (c .before .before .args .j) (c .before .before .pre) (c .if1 .left)
 
 pub columns-spec : {M : Type 1} → statement M
 columns-spec = tie.close (tie.spec table-requires returns returns-2)
