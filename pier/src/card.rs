@@ -1,31 +1,111 @@
-//! A loaded card's table, for showing and drawing.
+//! Cards: reading a file, the loaded table, marks and letters in words.
 
 use crate::proved::{self, Loaded, Stepped};
+use crate::{files, refusal, Failure};
+use std::collections::BTreeMap;
+use std::path::Path;
 
 pub const PLAN_MAY_END: u8 = 1;
 pub const HOPELESS: u8 = 2;
+
+/// What a marks byte means.
+pub fn mark(byte: u8) -> &'static str {
+    match byte {
+        PLAN_MAY_END => "may end",
+        HOPELESS => "hopeless",
+        _ => "on the way",
+    }
+}
+
+/// A file's bytes that a board loads.
+pub fn read(path: &Path) -> Result<Vec<u8>, Failure> {
+    let bytes = bytes(path)?;
+    match proved::load(&bytes) {
+        Loaded::Card { .. } => Ok(bytes),
+        Loaded::Refused(number) => Err(refused(path, &bytes, number)),
+    }
+}
+
+/// A file's bytes: enough that a card too long is seen to be.
+pub fn bytes(path: &Path) -> Result<Vec<u8>, Failure> {
+    files::read(path, proved::LONGEST_CARD + 1)
+}
+
+/// Why a card is refused. A book begins with `:`, a card with its 12.
+pub fn refused(path: &Path, bytes: &[u8], number: u64) -> Failure {
+    let refusal = refusal::of(number);
+    let name = files::shown(path);
+    let look = match bytes {
+        [b':', ..] => "  look at: it begins with :, as a book does; pier compile makes its card, pier try needs none\n",
+        [] => "  look at: the file is empty\n",
+        _ => "",
+    };
+    Failure::Refused(format!(
+        "{name}: refused {number} ({}): {}\n{look}  advice: {}\n",
+        refusal.word, refusal.when, refusal.advice
+    ))
+}
 
 pub struct Table {
     pub letters: Vec<u8>,
     pub marks: Vec<u8>,
     /// For each state the next state of each letter.
     pub moves: Vec<Vec<usize>>,
+    /// The card's length.
+    pub bytes: usize,
 }
 
-/// The table of a card that loads, or the number by which it is refused. The
-/// letters and marks are read where the layout puts them; the moves are asked
-/// of the proved step.
-pub fn table(card: &[u8]) -> Result<Table, u64> {
-    const CONTENTS: usize = 12;
-    let (m, n) = match proved::load(card) {
-        Loaded::Card { letters, states } => (letters, states),
-        Loaded::Refused(number) => return Err(number),
-    };
-    let letters = card[CONTENTS..CONTENTS + m].to_vec();
-    let marks = card[CONTENTS + m..CONTENTS + m + n].to_vec();
-    let row = |state| letters.iter().map(|&letter| target(card, state, letter)).collect::<Result<_, _>>();
-    let moves = (0..n).map(row).collect::<Result<_, _>>()?;
-    Ok(Table { letters, marks, moves })
+impl Table {
+    /// The table of a file's card.
+    pub fn read(path: &Path) -> Result<Table, Failure> {
+        let bytes = bytes(path)?;
+        Table::of(&bytes).map_err(|number| refused(path, &bytes, number))
+    }
+
+    /// The table of a card that loads, or the number by which it is refused. The
+    /// letters and marks are read where the layout puts them; the moves are asked
+    /// of the proved step.
+    pub fn of(card: &[u8]) -> Result<Table, u64> {
+        const CONTENTS: usize = 12;
+        let (m, n) = match proved::load(card) {
+            Loaded::Card { letters, states } => (letters, states),
+            Loaded::Refused(number) => return Err(number),
+        };
+        let letters = card[CONTENTS..CONTENTS + m].to_vec();
+        let marks = card[CONTENTS + m..CONTENTS + m + n].to_vec();
+        let row = |state| letters.iter().map(|&letter| target(card, state, letter)).collect::<Result<_, _>>();
+        let moves = (0..n).map(row).collect::<Result<_, _>>()?;
+        Ok(Table { letters, marks, moves, bytes: card.len() })
+    }
+
+    /// The arrows of a picture: letters with the same two ends share one.
+    pub fn arrows(&self) -> BTreeMap<(usize, usize), Vec<u8>> {
+        let mut arrows: BTreeMap<_, Vec<u8>> = BTreeMap::new();
+        for (state, row) in self.moves.iter().enumerate() {
+            for (&next, &letter) in row.iter().zip(&self.letters) {
+                arrows.entry((state, next)).or_default().push(letter);
+            }
+        }
+        arrows
+    }
+
+    /// The hopeless state, of which a card has one at most.
+    pub fn hopeless(&self) -> Option<usize> {
+        self.marks.iter().position(|&mark| mark == HOPELESS)
+    }
+
+    /// The state that a picture leaves out: the hopeless one of a card that is not
+    /// small, since nearly every state has an arrow to it.
+    pub fn left_out(&self, all: bool) -> Option<usize> {
+        const SMALL: usize = 8;
+        self.hopeless().filter(|_| !all && self.marks.len() >= SMALL)
+    }
+
+    /// What belongs on the card's envelope.
+    pub fn envelope(&self) -> String {
+        let letters = spaced(&self.letters);
+        format!("letters {} ({letters})\nstates  {}\nbytes   {}\n", self.letters.len(), self.marks.len(), self.bytes)
+    }
 }
 
 fn target(card: &[u8], state: usize, letter: u8) -> Result<usize, u64> {
@@ -40,8 +120,8 @@ pub fn spaced(letters: &[u8]) -> String {
     letters.iter().map(|&letter| (letter as char).to_string()).collect::<Vec<_>>().join(" ")
 }
 
-/// Letters as ranges: a-c e.
-pub fn ranges(letters: &[u8]) -> String {
+/// Letters on an arrow: neighbours of the alphabet as a range, as in a-c e.
+pub fn label(letters: &[u8]) -> String {
     let mut parts: Vec<(u8, u8)> = Vec::new();
     for &letter in letters {
         match parts.last_mut() {
@@ -51,7 +131,6 @@ pub fn ranges(letters: &[u8]) -> String {
     }
     let part = |&(first, last): &(u8, u8)| match last - first {
         0 => format!("{}", first as char),
-        1 => format!("{} {}", first as char, last as char),
         _ => format!("{}-{}", first as char, last as char),
     };
     parts.iter().map(part).collect::<Vec<_>>().join(" ")
@@ -66,17 +145,24 @@ mod tests {
 
     #[test]
     fn the_first_paper_card_is_taken_apart() {
-        let table = table(&FIRST_CARD).ok().expect("it loads");
+        let table = Table::of(&FIRST_CARD).ok().expect("it loads");
         assert_eq!(table.letters, b"ab");
         assert_eq!(table.marks, [1, 1, 2]);
         assert_eq!(table.moves, [[1, 2], [1, 0], [2, 2]]);
-        assert_eq!(super::table(b"x").err(), Some(21));
+        assert_eq!(table.envelope(), "letters 2 (a b)\nstates  3\nbytes   23\n");
+        assert_eq!(Table::of(b"x").err(), Some(21));
     }
 
     #[test]
-    fn ranges_shorten_neighbours() {
-        assert_eq!(ranges(b"abce"), "a-c e");
-        assert_eq!(ranges(b"ab"), "a b");
-        assert_eq!(ranges(b"az"), "a z");
+    fn labels_are_written_one_way() {
+        assert_eq!(label(b"abce"), "a-c e");
+        assert_eq!(label(b"ab"), "a-b");
+        assert_eq!(label(b"az"), "a z");
+    }
+
+    #[test]
+    fn a_book_given_as_a_card_is_told() {
+        let Failure::Refused(message) = refused(Path::new("x.book"), b":ab\n>a\n", 21) else { panic!() };
+        assert!(message.contains("as a book does"), "{message}");
     }
 }

@@ -1,54 +1,114 @@
 //! `pier compare`: did a season change anything? It proposes no plan.
 
+use crate::arguments::Arguments;
 use crate::card::{self, Table};
-use crate::{count, files, read_card, refused_card, Arguments, Done, Status};
+use crate::command::Command;
+use crate::plans::{self, Plans};
+use crate::proved::Judged;
+use crate::words::count;
+use crate::{files, reply, Done, Failure, Status};
+use std::path::Path;
 
-pub const HELP: &str = "\
-usage: pier compare OLD NEW
-
+pub const COMMAND: Command = Command {
+    name: "compare",
+    about: "did the season change anything?",
+    files: &["OLD", "NEW", "[PLANS]"],
+    output: None,
+    choices: &[],
+    more: "\
 Tells whether two cards are the same bytes, with letters, states and bytes of
-each. Cards are smallest and numbered in one way, so two cards with the same
-letters are the same bytes exactly when their books allow the same plans.
-Status: 0 the same, 1 different or a card refused, 2 wrong usage or a file that
-can't be read.
-";
+each, and which letters came and went. Cards are smallest and numbered in one
+way, so two cards with the same letters are the same bytes exactly when their
+books allow the same plans. With PLANS, one a line, it lists those whose reply
+changed, and how many; the status is then 1 where one did. It proposes no plan.
+",
+    run,
+};
 
 pub fn run(arguments: &Arguments) -> Done {
-    let mut cards = Vec::new();
-    for path in &arguments.files {
-        let bytes = read_card(path)?;
-        match card::table(&bytes) {
-            Ok(table) => cards.push((path, bytes, table)),
-            Err(number) => {
-                files::complain(&refused_card(path, number));
-                return Ok(Status::Refused);
-            }
-        }
+    if arguments.files.iter().filter(|path| files::is_dash(path)).count() > 1 {
+        return Err(Failure::Usage("only one of the files can be standard input".into()));
     }
+    let mut cards = Vec::new();
     let mut text = String::new();
-    for (path, bytes, table) in &cards {
+    for path in &arguments.files[..2] {
+        let bytes = card::bytes(path)?;
+        let table = Table::of(&bytes).map_err(|number| card::refused(path, &bytes, number))?;
         text += &format!(
-            "{}: {} ({}), {}, {}
-",
+            "{}: {} ({}), {}, {}\n",
             files::shown(path),
             count(table.letters.len(), "letter"),
             card::spaced(&table.letters),
             count(table.marks.len(), "state"),
             count(bytes.len(), "byte")
         );
+        cards.push((bytes, table));
     }
-    let same = cards[0].1 == cards[1].1;
-    text += verdict(same, &cards[0].2, &cards[1].2);
+    let [(old, old_table), (new, new_table)] = &cards[..] else { unreachable!("two cards") };
+    text += &verdict(old == new, &old_table.letters, &new_table.letters);
     files::print(text.as_bytes())?;
+    let same = match arguments.files.get(2) {
+        None => old == new,
+        Some(path) => changed(old, new, path)? == 0,
+    };
     Ok(if same { Status::Fine } else { Status::Refused })
 }
 
-fn verdict(same: bool, old: &Table, new: &Table) -> &'static str {
-    match (same, old.letters == new.letters) {
-        (true, _) => "same: nothing changed, every plan gets the same reply\n",
-        (false, true) => "different: the letters are the same, and some plan is judged differently\n",
-        (false, false) => "different: the letters have changed\n",
+fn verdict(same: bool, old: &[u8], new: &[u8]) -> String {
+    if same {
+        return "same: nothing changed, every plan gets the same reply\n".into();
     }
+    if old == new {
+        return "different: the letters are the same, and some plan is judged differently\n".into();
+    }
+    let missing = |from: &[u8], known: &[u8]| {
+        let missing: Vec<u8> = from.iter().copied().filter(|letter| !known.contains(letter)).collect();
+        if missing.is_empty() {
+            "none".into()
+        } else {
+            card::spaced(&missing)
+        }
+    };
+    format!("different: letters that came: {}; letters that went: {}\n", missing(new, old), missing(old, new))
+}
+
+/// Lists the plans whose reply changed, and counts them.
+fn changed(old: &[u8], new: &[u8], path: &Path) -> Result<usize, Failure> {
+    let mut plans = Plans::open(path)?;
+    let (mut old_room, mut new_room) = (plans::room(), plans::room());
+    let (mut all, mut changed) = (0, 0);
+    let mut out = Vec::new();
+    while let Some(mut rest) = plans.next()? {
+        while !rest.is_empty() {
+            let (judged, before) = plans::judge(old, rest, &mut old_room)?;
+            let (_, after) = plans::judge(new, rest, &mut new_room)?;
+            for (plan, (before, after)) in plans::lines(judged).zip(before.zip(after)) {
+                all += 1;
+                changed += usize::from(push_change(&mut out, plan, before, after));
+            }
+            files::print(&out)?;
+            out.clear();
+            rest = &rest[judged.len()..];
+        }
+    }
+    let text =
+        format!("{changed} of {} changed {} reply\n", count(all, "plan"), if changed == 1 { "its" } else { "their" });
+    files::print(text.as_bytes()).map(|()| changed)
+}
+
+/// The plan and its two replies, where these are not the same words.
+fn push_change(out: &mut Vec<u8>, plan: &[u8], before: Judged, after: Judged) -> bool {
+    let words = [before, after].map(|judged| {
+        let mut words = Vec::new();
+        reply::push(&mut words, judged);
+        words
+    });
+    if words[0] != words[1] {
+        for part in [reply::shown(plan), b"\t", &words[0], b" -> ", &words[1], b"\n"] {
+            out.extend_from_slice(part);
+        }
+    }
+    words[0] != words[1]
 }
 
 #[cfg(test)]
@@ -57,9 +117,18 @@ mod tests {
 
     #[test]
     fn the_three_answers() {
-        let table = |letters: &[u8]| Table { letters: letters.to_vec(), marks: vec![1], moves: vec![vec![0]] };
-        assert!(verdict(true, &table(b"a"), &table(b"a")).starts_with("same"));
-        assert!(verdict(false, &table(b"a"), &table(b"a")).contains("judged differently"));
-        assert!(verdict(false, &table(b"a"), &table(b"b")).contains("letters have changed"));
+        assert!(verdict(true, b"a", b"a").starts_with("same"));
+        assert!(verdict(false, b"a", b"a").contains("judged differently"));
+        assert_eq!(verdict(false, b"abc", b"bd"), "different: letters that came: d; letters that went: a c\n");
+        assert_eq!(verdict(false, b"a", b"ab"), "different: letters that came: b; letters that went: none\n");
+    }
+
+    #[test]
+    fn a_change_is_one_of_words() {
+        let mut out = Vec::new();
+        let foreign = |before| Judged::UnknownLetter { before };
+        assert!(!push_change(&mut out, b"ab", foreign(0), foreign(1)));
+        assert!(push_change(&mut out, b"", Judged::Allowed, Judged::Hopeless(0)));
+        assert_eq!(out, b"(empty)\tallowed -> hopeless 0\n");
     }
 }

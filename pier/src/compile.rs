@@ -1,59 +1,72 @@
 //! `pier compile`: a book becomes a card, or a refusal in words.
 
+use crate::arguments::Arguments;
+use crate::card::Table;
+use crate::command::Command;
 use crate::proved::{self, Compiled, LONGEST_BOOK};
-use crate::{card, files, hint, refusal, Arguments, Done, Failure, Status};
+use crate::{files, hint, note, refusal, Done, Failure, Status};
 use std::path::Path;
 
-pub const HELP: &str = "\
-usage: pier compile BOOK -o CARD
-
+pub const COMMAND: Command = Command {
+    name: "compile",
+    about: "turn a port's book into a card",
+    files: &["BOOK"],
+    output: Some("CARD"),
+    choices: &[],
+    more: "\
 Turns a port's book into a card and prints its envelope: letters, states, bytes,
 and the peak (the most sets that one stage made, of 512 that it may make).
 A book that is refused leaves CARD as it was; the message has the number, the
 trade word, the line, and what to look at. CARD is written whole or not at all.
-Status: 0 compiled, 1 refused, 2 wrong usage or a file that can't be used.
-";
+Notes on standard error tell of slips that compile.
+",
+    run,
+};
+
+/// The most sets that a stage may make.
+const MOST_SETS: usize = 512;
+
+/// An accepted book, and what it became.
+pub struct Made {
+    pub text: Vec<u8>,
+    pub card: Vec<u8>,
+    pub table: Table,
+    pub peak: u64,
+}
 
 pub fn run(arguments: &Arguments) -> Done {
     let book = &arguments.files[0];
     let output = arguments.output()?;
+    let made = compile(book)?;
+    let envelope = envelope(&made);
+    if files::is_dash(output) {
+        files::print(&made.card)?;
+        files::complain(&envelope);
+    } else {
+        files::write(output, &made.card)?;
+        files::print(envelope.as_bytes())?;
+    }
+    files::complain(&note::notes(book, &made));
+    Ok(Status::Fine)
+}
+
+/// The card of a book's file, or the refusal in words.
+pub fn compile(book: &Path) -> Result<Made, Failure> {
     let text = files::read(book, LONGEST_BOOK + 1)?;
-    let compiled = proved::compile(&text)
-        .ok_or_else(|| Failure::Trouble("this pier was built over a library without a compiler".into()))?;
-    match compiled {
-        Compiled::Refused { number, line } => {
-            files::complain(&refused(book, &text, number, line as usize));
-            Ok(Status::Refused)
-        }
-        Compiled::Card { bytes, peak } => {
-            let envelope = envelope(&bytes, peak)?;
-            if files::is_dash(output) {
-                files::print(&bytes)?;
-                files::complain(&envelope);
-            } else {
-                files::write(output, &bytes)?;
-                files::print(envelope.as_bytes())?;
-            }
-            Ok(Status::Fine)
+    match proved::compile(&text) {
+        None => Err(Failure::Trouble("this pier was built over a library without a compiler".into())),
+        Some(Compiled::Refused { number, line }) => Err(Failure::Refused(refused(book, &text, number, line as usize))),
+        Some(Compiled::Card { bytes, peak }) => {
+            let table = Table::of(&bytes).map_err(|number| {
+                Failure::Trouble(format!("the new card is refused by {number}: please report this"))
+            })?;
+            Ok(Made { text, card: bytes, table, peak })
         }
     }
 }
 
-fn envelope(bytes: &[u8], peak: u64) -> Result<String, Failure> {
-    let table = card::table(bytes)
-        .map_err(|number| Failure::Trouble(format!("the new card is refused by {number}: please report this")))?;
-    let end = if table.marks[0] == card::HOPELESS {
-        "note: this book allows no plan at all, not even the empty one\n"
-    } else {
-        ""
-    };
-    Ok(format!(
-        "letters {} ({})\nstates  {}\nbytes   {}\npeak    {peak} of 512\n{end}",
-        table.letters.len(),
-        card::spaced(&table.letters),
-        table.marks.len(),
-        bytes.len(),
-    ))
+fn envelope(made: &Made) -> String {
+    format!("{}peak    {} of {MOST_SETS}\n", made.table.envelope(), made.peak)
 }
 
 /// The message: where, the number and its word, the line, what to look at.
@@ -62,7 +75,7 @@ fn refused(book: &Path, text: &[u8], number: u64, line: usize) -> String {
     let place = if line == 0 { String::new() } else { format!(", line {line}") };
     let mut message = format!("{}: refused {number} ({}){place}: {}\n", files::shown(book), entry.word, entry.when);
     let hint = hint::hint(text, number, line);
-    if let Some((bytes, _)) = hint::line_of(text, line) {
+    if let Some((bytes, _)) = hint::line_of(text, line).filter(|_| !hint::is_card(text)) {
         message += &hint::picture(line, bytes, hint.as_ref().and_then(|hint| hint.column));
     }
     if let Some(hint) = hint {
@@ -87,11 +100,5 @@ x.book: refused 6 (stranger), line 2: a letter that line 1 lacks, or a name not 
 ";
         assert_eq!(message, expected);
         assert!(refused(Path::new("x"), b":ab\n", 10, 0).starts_with("x: refused 10 (no rule): the book"));
-    }
-
-    #[test]
-    fn the_envelope_names_letters_states_bytes_and_peak() {
-        let text = envelope(&card::FIRST_CARD, 12).ok().expect("it loads");
-        assert_eq!(text, "letters 2 (a b)\nstates  3\nbytes   23\npeak    12 of 512\n");
     }
 }

@@ -4,6 +4,7 @@ use crate::Failure;
 use std::ffi::OsString;
 use std::fs::{self, File, OpenOptions};
 use std::io::{self, ErrorKind, Read, Write};
+use std::os::unix::fs::MetadataExt;
 use std::path::{Path, PathBuf};
 
 /// Is `-` given for standard input or output?
@@ -30,6 +31,37 @@ pub fn read(path: &Path, most: usize) -> Result<Vec<u8>, Failure> {
     };
     done.map_err(|error| trouble("read", path, &error))?;
     Ok(bytes)
+}
+
+/// Refuses an output that is one of the inputs, under this name or another.
+pub fn refuse_input_as_output(inputs: &[PathBuf], output: &Path) -> Result<(), Failure> {
+    let Some(written) = identity(output, "/dev/stdout") else { return Ok(()) };
+    match inputs.iter().find(|input| identity(input, "/dev/stdin") == Some(written)) {
+        None => Ok(()),
+        Some(input) if input == output => {
+            Err(Failure::Trouble(format!("{} can't be input and output both; nothing is written", shown(input))))
+        }
+        Some(input) => Err(Failure::Trouble(format!(
+            "{} and {} are the same file, which can't be input and output both; nothing is written",
+            shown(input),
+            output.display()
+        ))),
+    }
+}
+
+/// A plain file's device and number; `dash` is where `-` leads.
+fn identity(path: &Path, dash: &str) -> Option<(u64, u64)> {
+    let found = fs::metadata(if is_dash(path) { Path::new(dash) } else { path }).ok()?;
+    found.is_file().then(|| (found.dev(), found.ino()))
+}
+
+/// Refuses an output whose name has none of these endings.
+pub fn require_ending(output: &Path, endings: &[&str]) -> Result<(), Failure> {
+    if is_dash(output) || output.extension().is_some_and(|found| endings.iter().any(|&ending| found == ending)) {
+        return Ok(());
+    }
+    let known = endings.iter().map(|ending| format!(".{ending}")).collect::<Vec<_>>().join(" or ");
+    Err(Failure::Trouble(format!("{} doesn't end in {known}, the kinds that are written", output.display())))
 }
 
 /// The bytes appear under this name whole or not at all: they are written
@@ -59,6 +91,15 @@ fn name_beside(path: &Path) -> Option<PathBuf> {
     Some(path.with_file_name(name))
 }
 
+/// Writes a file, and says so; `-` is standard output.
+pub fn deliver(output: &Path, bytes: &[u8]) -> Result<(), Failure> {
+    if is_dash(output) {
+        return print(bytes);
+    }
+    write(output, bytes)?;
+    print(format!("wrote {}\n", output.display()).as_bytes())
+}
+
 pub fn trouble(what: &str, path: &Path, error: &io::Error) -> Failure {
     Failure::Trouble(format!("can't {what} {}: {error}", shown(path)))
 }
@@ -69,7 +110,7 @@ pub fn print(bytes: &[u8]) -> Result<(), Failure> {
     printed(out.write_all(bytes).and_then(|()| out.flush()))
 }
 
-pub fn printed(done: io::Result<()>) -> Result<(), Failure> {
+fn printed(done: io::Result<()>) -> Result<(), Failure> {
     done.map_err(|error| match error.kind() {
         ErrorKind::BrokenPipe => Failure::Closed,
         _ => Failure::Trouble(format!("can't write to standard output: {error}")),
@@ -97,6 +138,24 @@ mod tests {
         assert!(write(&folder.join("missing").join("card"), b"x").is_err());
         assert_eq!(fs::read_dir(&folder).unwrap().count(), 1);
         assert!(read(&path, 2).is_ok_and(|bytes| bytes == b"tw"));
+        let (hard, soft) = (folder.join("hard"), folder.join("soft"));
+        fs::hard_link(&path, &hard).unwrap();
+        std::os::unix::fs::symlink(&path, &soft).unwrap();
+        let inputs = [folder.join("missing"), path.clone()];
+        for output in [&path, &hard, &soft] {
+            assert!(refuse_input_as_output(&inputs, output).is_err());
+        }
+        assert!(refuse_input_as_output(&inputs, &folder.join("other")).is_ok());
+        assert!(refuse_input_as_output(&inputs, &folder).is_ok());
         fs::remove_dir_all(&folder).unwrap();
+    }
+
+    #[test]
+    fn endings() {
+        for (name, known) in
+            [("x.svg", true), ("x.dot", true), ("-", true), ("x.png", false), ("svg", false), ("x", false)]
+        {
+            assert_eq!(require_ending(Path::new(name), &["svg", "dot"]).is_ok(), known, "{name}");
+        }
     }
 }

@@ -1,11 +1,18 @@
 //! Where to look in a refused line. The number and the line are the proved
 //! compiler's; this is only a guess at the byte, and not proved.
 
+use crate::stray;
+
 /// A place in the line, counted from 0, and what is wrong there.
 #[derive(Clone, PartialEq, Eq, Debug)]
 pub struct Hint {
     pub column: Option<usize>,
     pub text: String,
+}
+
+/// Does a card begin so? Its letters stand at byte 12.
+pub fn is_card(text: &[u8]) -> bool {
+    text.starts_with(&[12, 0])
 }
 
 fn at(column: usize, text: impl Into<String>) -> Option<Hint> {
@@ -33,6 +40,9 @@ pub fn hint(text: &[u8], number: u64, line: usize) -> Option<Hint> {
     }
     let (bytes, ended) = line_of(text, line)?;
     match number {
+        5 if line == 1 && is_card(text) => {
+            whole("these bytes begin as a card does; pier judge, show, draw, page, compare and check take cards")
+        }
         3 => at(fifth_bracket(bytes)?, "the fifth open bracket"),
         4 => at(positions(bytes, b'_').nth(4)?, "the fifth _"),
         5 if bytes.contains(&b'\r') => at(
@@ -61,6 +71,9 @@ fn fifth_bracket(bytes: &[u8]) -> Option<usize> {
 }
 
 fn first_line(bytes: &[u8]) -> Option<Hint> {
+    if let Some(words) = bytes.first().and_then(|_| stray::character(bytes, 0)) {
+        return at(0, words);
+    }
     if bytes.first() != Some(&b':') {
         return whole("line 1 is : and the port's letters, as in :ab");
     }
@@ -68,7 +81,9 @@ fn first_line(bytes: &[u8]) -> Option<Hint> {
         return whole("line 1 names no letter: write 1 to 26 of them behind the :, as in :ab");
     }
     if let Some(column) = bytes.iter().skip(1).position(|byte| !byte.is_ascii_lowercase()) {
-        return at(column + 1, "line 1 holds only letters a to z behind the :, and no spaces");
+        let column = column + 1;
+        let what = stray::character(bytes, column).map_or(String::new(), |words| format!("{words}; "));
+        return at(column, format!("{what}line 1 holds only letters a to z behind the :, and no spaces"));
     }
     let column = bytes.windows(2).skip(1).position(|pair| pair[0] >= pair[1])?;
     at(column + 2, "the letters of line 1 stand in the order of the alphabet, each once")
@@ -79,19 +94,26 @@ fn later_line(bytes: &[u8]) -> Option<Hint> {
         None => return whole("an empty line: take it out (a book has no blank lines)"),
         Some(b' ') => return at(0, "a line may not begin with a space"),
         Some(b'=' | b'>') => {}
+        Some(b'\t') => return at(0, "a tab: a line may not begin with a space or a tab"),
         Some(_) => {
             return at(0, "a line below line 1 begins with = (a definition) or > (a rule); there are no comments")
         }
     }
-    if let Some(column) = bytes.iter().position(|&byte| !is_sign(byte)) {
-        return at(column, "a byte that the language does not know");
+    if let Some(column) = bytes.iter().position(|&byte| !stray::is_sign(byte)) {
+        return at(column, stray::words(bytes, column));
     }
     if let Some(column) = bytes.iter().skip(1).position(|byte| b":=>".contains(byte)) {
         return at(column + 1, "this sign stands only at the beginning of a line");
     }
     if bytes[0] == b'=' {
-        if !name_of(bytes).is_some_and(|(_, name)| name.is_ascii_uppercase()) {
-            return whole("a definition is = and one capital letter, then what it means, as in =A ab");
+        match name_of(bytes) {
+            Some((_, b'A'..=b'Z')) => {}
+            Some((column, name @ b'a'..=b'z')) => {
+                let capital = name.to_ascii_uppercase() as char;
+                return at(column, format!("a name is one capital letter: write ={capital}, then what it means"));
+            }
+            Some((column, _)) => return at(column, "a definition is = and one capital letter, then what it means"),
+            None => return whole("a definition is = and one capital letter, then what it means, as in =A ab"),
         }
         if let Some(column) = bytes.iter().position(|byte| b"/_".contains(byte)) {
             return at(column, "a definition has no contexts; only a rule has");
@@ -115,10 +137,6 @@ fn gap(bytes: &[u8]) -> Option<Hint> {
         }
     }
     at(bytes.len(), "something is missing at the end (the empty plan is written @)")
-}
-
-fn is_sign(byte: u8) -> bool {
-    byte.is_ascii_alphabetic() || b" :=>/_|&-!*+?.@()".contains(&byte)
 }
 
 fn unbalanced(bytes: &[u8]) -> Option<Hint> {
@@ -184,7 +202,8 @@ fn stranger(text: &[u8], bytes: &[u8], line: usize) -> Option<Hint> {
     if sign.is_ascii_lowercase() {
         return at(column, format!("{sign} is not among the letters of line 1"));
     }
-    at(column, format!("{sign} is not defined on a line above"))
+    let joined = if column == skipped + 1 && skipped > 0 { "; a name is one capital letter alone" } else { "" };
+    at(column, format!("{sign} is not defined on a line above{joined}"))
 }
 
 fn taken(text: &[u8], bytes: &[u8], line: usize) -> Option<Hint> {
@@ -233,7 +252,7 @@ mod tests {
 
     #[test]
     fn each_common_error_is_named_at_its_place() {
-        let cases: [(&str, u64, usize, Option<usize>, &str); 22] = [
+        let cases: [(&str, u64, usize, Option<usize>, &str); 31] = [
             ("", 5, 1, None, "empty"),
             (":ab\n>(((((a)))))\n", 3, 2, Some(5), "fifth open"),
             (":ab\n>a/a_a/a_a/a_a/a_a/a_a\n", 4, 2, Some(20), "fifth _"),
@@ -246,15 +265,24 @@ mod tests {
             (":ab\n\n>a\n", 5, 2, None, "empty line"),
             (":ab\n >a\n", 5, 2, Some(0), "begin with a space"),
             (":ab\n# a\n", 5, 2, Some(0), "no comments"),
-            (":ab\n>a1\n", 5, 2, Some(2), "does not know"),
+            (":ab\n>a1\n", 5, 2, Some(2), "a digit"),
+            ("\u{FEFF}:ab\n>a\n", 5, 1, Some(0), "byte-order mark"),
+            (":a\tb\n>a\n", 5, 1, Some(2), "a tab"),
+            (":ab\n\t>a\n", 5, 2, Some(0), "begin with a space or a tab"),
+            (":ab\n>a\t/ a _ b\n", 5, 2, Some(2), "a tab"),
+            (":ab\n>.*\u{2013}a\n", 5, 2, Some(3), "long dash"),
+            (":ab\n>[ab]\n", 5, 2, Some(1), "round"),
+            (":ab\n=N1 ab\n", 5, 2, Some(2), "behind a name"),
+            ("\u{C}\0\u{2}\0\n", 5, 1, None, "as a card does"),
             (":ab\n>a>b\n", 5, 2, Some(2), "beginning"),
-            (":ab\n=ab\n", 5, 2, None, "capital"),
+            (":ab\n=n ab\n", 5, 2, Some(1), "write =N"),
             (":ab\n=A a_b\n", 5, 2, Some(4), "no contexts"),
             (":ab\n>(a\n", 5, 2, Some(1), "not closed"),
             (":ab\n>a)\n", 5, 2, Some(2), "not opened"),
             (":ab\n>a/b\n", 5, 2, None, "lacks its _"),
             (":ab\n>a|\n", 5, 2, Some(3), "at the end"),
             (":ab\n=C aD\n", 6, 2, Some(4), "D is not defined"),
+            (":ab\n=CD a\n", 6, 2, Some(2), "one capital letter alone"),
             (":ab\n=A a\n=A b\n", 7, 3, Some(1), "line 2"),
         ];
         for (text, number, line, column, words) in cases {

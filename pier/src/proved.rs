@@ -57,14 +57,45 @@ pub fn step(card: &[u8], state: usize, letter: u8) -> Stepped {
     }
 }
 
-pub fn judge(card: &[u8], plan: &[u8]) -> Judged {
+/// A reply's numbers: refusal or 0, verdict, place.
+pub const REPLY: usize = 3;
+
+fn judged(reply: [u64; REPLY]) -> Judged {
+    match reply {
+        [0, 1, _] => Judged::Allowed,
+        [0, 0, _] => Judged::Unfinished,
+        [0, _, place] => Judged::Hopeless(place),
+        [27, _, before] => Judged::UnknownLetter { before },
+        [number, ..] => Judged::Refused(number),
+    }
+}
+
+/// The replies of one call.
+pub struct Replies<'a>(std::slice::ChunksExact<'a, u64>);
+
+impl Iterator for Replies<'_> {
+    type Item = Judged;
+
+    fn next(&mut self) -> Option<Judged> {
+        self.0.next().map(|reply| judged([reply[0], reply[1], reply[2]]))
+    }
+
+    fn size_hint(&self) -> (usize, Option<usize>) {
+        self.0.size_hint()
+    }
+}
+
+impl ExactSizeIterator for Replies<'_> {}
+
+/// Judges the plans of `plans`, one a line, as far as there is room for replies:
+/// the bytes of those that were judged, and the replies; or the card's refusal.
+pub fn judge_lines<'a>(card: &[u8], plans: &'a [u8], replies: &'a mut [u64]) -> Result<(&'a [u8], Replies<'a>), u64> {
     let mut out = [0; 3];
-    match (entries::judge(card, plan, &mut out), out) {
-        (0, [1, ..]) => Judged::Allowed,
-        (0, [0, ..]) => Judged::Unfinished,
-        (0, [_, place, _]) => Judged::Hopeless(place),
-        (27, [_, before, _]) => Judged::UnknownLetter { before },
-        (number, _) => Judged::Refused(number),
+    match (entries::judge_lines(card, plans, replies, &mut out), out) {
+        (0, [judged, bytes, _]) => {
+            Ok((&plans[..bytes as usize], Replies(replies[..REPLY * judged as usize].chunks_exact(REPLY))))
+        }
+        (number, _) => Err(number),
     }
 }
 
@@ -82,16 +113,27 @@ pub fn compile(text: &[u8]) -> Option<Compiled> {
     })
 }
 
+/// Judges one plan without a line end.
+#[cfg(test)]
+pub fn judge(card: &[u8], plan: &[u8]) -> Judged {
+    let line = [plan, b"\n"].concat();
+    let mut replies = [0; REPLY];
+    let (_, mut judged) = judge_lines(card, &line, &mut replies).expect("a card");
+    judged.next().expect("a reply")
+}
+
 #[cfg(not(feature = "reference"))]
 mod entries {
     extern "C" {
         fn pier_load(card: *const u8, card_length: usize, out: &mut [u64; 3]) -> u64;
         fn pier_step(card: *const u8, card_length: usize, state: usize, letter: u8, out: &mut [u64; 3]) -> u64;
-        fn pier_judge(
+        fn pier_judge_lines(
             card: *const u8,
             card_length: usize,
-            plan: *const u8,
-            plan_length: usize,
+            plans: *const u8,
+            plans_length: usize,
+            replies: *mut u64,
+            replies_length: usize,
             out: &mut [u64; 3],
         ) -> u64;
         #[cfg(feature = "compile")]
@@ -132,8 +174,18 @@ mod entries {
         unsafe { pier_step(card.as_ptr(), card.len(), state, letter, out) }
     }
 
-    pub fn judge(card: &[u8], plan: &[u8], out: &mut [u64; 3]) -> u64 {
-        unsafe { pier_judge(card.as_ptr(), card.len(), plan.as_ptr(), plan.len(), out) }
+    pub fn judge_lines(card: &[u8], plans: &[u8], replies: &mut [u64], out: &mut [u64; 3]) -> u64 {
+        unsafe {
+            pier_judge_lines(
+                card.as_ptr(),
+                card.len(),
+                plans.as_ptr(),
+                plans.len(),
+                replies.as_mut_ptr(),
+                replies.len(),
+                out,
+            )
+        }
     }
 
     #[cfg(not(feature = "compile"))]
@@ -205,14 +257,22 @@ mod entries {
         }
     }
 
-    pub fn judge(card: &[u8], plan: &[u8], out: &mut [u64; 3]) -> u64 {
-        match board::judge(card, plan) {
-            Ok(Verdict::Allowed) => put(out, 0, [1, 0, 0]),
-            Ok(Verdict::Unfinished) => put(out, 0, [0; 3]),
-            Ok(Verdict::Hopeless(place)) => put(out, 0, [2, place as u64, 0]),
-            Err(Refused::Card(number)) => put(out, number.into(), [0; 3]),
-            Err(Refused::ForeignLetter { before }) => put(out, 27, [0, before as u64, 0]),
+    pub fn judge_lines(card: &[u8], plans: &[u8], replies: &mut [u64], out: &mut [u64; 3]) -> u64 {
+        if let Err(number) = board::load(card) {
+            return put(out, number.into(), [0; 3]);
         }
+        *out = [0; 3];
+        for (line, reply) in plans.split_inclusive(|&byte| byte == b'\n').zip(replies.chunks_exact_mut(super::REPLY)) {
+            reply.copy_from_slice(&match board::judge(card, line.strip_suffix(b"\n").unwrap_or(line)) {
+                Ok(Verdict::Allowed) => [0, 1, 0],
+                Ok(Verdict::Unfinished) => [0, 0, 0],
+                Ok(Verdict::Hopeless(place)) => [0, 2, place as u64],
+                Err(Refused::Card(number)) => [number.into(), 0, 0],
+                Err(Refused::ForeignLetter { before }) => [27, 0, before as u64],
+            });
+            *out = [out[0] + 1, out[1] + line.len() as u64, 0];
+        }
+        0
     }
 
     pub fn compile(text: &[u8], card: &mut [u8], out: &mut [u64; 3]) -> Option<u64> {

@@ -22,7 +22,7 @@ const TABLE: [Refusal; 19] = [
         "over 4 signs _ in the line",
         "write the alternatives of one side with |, if the other side is the same",
     ),
-    entry(5, "spoiled line", "the line is not of its form", "see \"The form of a line\" in docs/GUIDE.md"),
+    entry(5, "spoiled line", "the line is not of its form", "see \"The form of a line\" in pier guide"),
     entry(
         6,
         "stranger",
@@ -30,12 +30,12 @@ const TABLE: [Refusal; 19] = [
         "add the letter to line 1, or define the name on a line above",
     ),
     entry(7, "taken", "the name is defined above", "take another name"),
-    entry(8, "crowded", "a stage needs over 512 sets", "see \"Staying below the limits\" in docs/GUIDE.md"),
+    entry(8, "crowded", "a stage needs over 512 sets", "see \"Staying below the limits\" in pier guide"),
     entry(
         9,
         "oversize",
         "the smallest machine of a stage has over 120 states",
-        "see \"Staying below the limits\" in docs/GUIDE.md",
+        "see \"Staying below the limits\" in pier guide",
     ),
     entry(10, "no rule", "the book has no rule", "add a line that begins with >"),
     entry(

@@ -1,52 +1,39 @@
 //! `pier show`: a card's envelope and its table of moves.
 
+use crate::arguments::Arguments;
 use crate::card::{self, Table};
-use crate::{files, read_card, refused_card, Arguments, Done, Status};
+use crate::command::Command;
+use crate::{files, Done, Status};
 
-pub const HELP: &str = "\
-usage: pier show CARD
-
+pub const COMMAND: Command = Command {
+    name: "show",
+    about: "print a card's envelope and moves",
+    files: &["CARD"],
+    output: None,
+    choices: &[],
+    more: "\
 Prints a card's envelope and its table: a line for each state, with what its
 mark means and the next state for each letter. A plan starts in state 0.
   may end     the plan so far is allowed
   on the way  not allowed yet, but some continuation is
   hopeless    no continuation is allowed
-Status: 0 shown, 1 the card is refused, 2 wrong usage or a file that can't be read.
-";
+",
+    run,
+};
 
 pub fn run(arguments: &Arguments) -> Done {
-    let path = &arguments.files[0];
-    let card = read_card(path)?;
-    match card::table(&card) {
-        Ok(table) => files::print(text(&table, card.len()).as_bytes()).map(|()| Status::Fine),
-        Err(number) => {
-            files::complain(&refused_card(path, number));
-            Ok(Status::Refused)
-        }
-    }
+    let table = Table::read(&arguments.files[0])?;
+    files::print(text(&table).as_bytes()).map(|()| Status::Fine)
 }
 
-fn mark(byte: u8) -> &'static str {
-    match byte {
-        card::PLAN_MAY_END => "may end",
-        card::HOPELESS => "hopeless",
-        _ => "on the way",
-    }
-}
-
-fn text(table: &Table, bytes: usize) -> String {
-    let mut text = format!(
-        "letters {} ({})\nstates  {}\nbytes   {bytes}\n\nstate mark      ",
-        table.letters.len(),
-        card::spaced(&table.letters),
-        table.marks.len()
-    );
+fn text(table: &Table) -> String {
+    let mut text = table.envelope() + "\nstate mark      ";
     for &letter in &table.letters {
         text += &format!(" {:>3}", letter as char);
     }
     text.push('\n');
     for (state, row) in table.moves.iter().enumerate() {
-        text += &format!("{state:>5} {:<10}", mark(table.marks[state]));
+        text += &format!("{state:>5} {:<10}", card::mark(table.marks[state]));
         for next in row {
             text += &format!(" {next:>3}");
         }
@@ -61,7 +48,7 @@ mod tests {
 
     #[test]
     fn the_first_paper_card() {
-        let table = card::table(&card::FIRST_CARD).ok().expect("it loads");
+        let table = Table::of(&card::FIRST_CARD).ok().expect("it loads");
         let expected = "\
 letters 2 (a b)
 states  3
@@ -72,6 +59,6 @@ state mark         a   b
     1 may end      1   0
     2 hopeless     2   2
 ";
-        assert_eq!(text(&table, 23), expected);
+        assert_eq!(text(&table), expected);
     }
 }

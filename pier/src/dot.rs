@@ -1,0 +1,52 @@
+//! A card's picture as text for Graphviz.
+
+use crate::card::{self, Table};
+
+/// Arrows to the hopeless state are pale.
+pub fn text(table: &Table, caption: &str, all: bool) -> String {
+    let left_out = table.left_out(all);
+    let caption: String = caption.chars().filter(|c| !c.is_control() && !"\"\\".contains(*c)).collect();
+    let mut text = format!("digraph card {{\n  rankdir=LR;\n  label=\"{caption}\";\n");
+    text += "  node [fontname=\"sans-serif\"];\n  edge [fontname=\"sans-serif\"];\n";
+    text += "  start [shape=point, style=invis];\n  start -> 0;\n";
+    for (state, &mark) in table.marks.iter().enumerate().filter(|&(state, _)| Some(state) != left_out) {
+        text += &match mark {
+            card::PLAN_MAY_END => format!("  {state} [shape=doublecircle];\n"),
+            card::HOPELESS => {
+                format!("  {state} [shape=box, style=filled, fillcolor=grey, label=\"{state} hopeless\"];\n")
+            }
+            _ => format!("  {state} [shape=circle];\n"),
+        };
+    }
+    for ((state, next), letters) in table.arrows() {
+        if left_out.is_some_and(|hidden| next == hidden) {
+            continue;
+        }
+        let pale = if table.marks[next] == card::HOPELESS { ", color=grey60, fontcolor=grey40" } else { "" };
+        text += &format!("  {state} -> {next} [label=\"{}\"{pale}];\n", card::label(&letters));
+    }
+    text + "}\n"
+}
+
+#[cfg(test)]
+mod tests {
+    use super::*;
+
+    #[test]
+    fn the_first_paper_card() {
+        let table = Table::of(&card::FIRST_CARD).ok().expect("it loads");
+        let text = text(&table, "a\"b", false);
+        for part in [
+            "label=\"ab\"",
+            "start -> 0;",
+            "0 [shape=doublecircle]",
+            "2 [shape=box, style=filled",
+            "0 -> 1 [label=\"a\"];",
+            "0 -> 2 [label=\"b\", color=grey60, fontcolor=grey40];",
+            "1 -> 0 [label=\"b\"];",
+            "2 -> 2 [label=\"a-b\"",
+        ] {
+            assert!(text.contains(part), "{part} in {text}");
+        }
+    }
+}

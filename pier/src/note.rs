@@ -1,0 +1,180 @@
+//! Notes for slips that compile: a side that describes a whole stretch of the
+//! day, a book that allows every plan, or none. They are guesses, not proved.
+
+use crate::compile::Made;
+use crate::{card, files, hint};
+use std::path::Path;
+
+/// The notes on an accepted book, a line each.
+pub fn notes(book: &Path, made: &Made) -> String {
+    let mut notes = sides(&made.text);
+    notes.extend(match made.table.marks[..] {
+        [card::HOPELESS] => Some("this book allows no plan at all, not even the empty one".into()),
+        [card::PLAN_MAY_END] => Some("this book allows every plan: its rules rule out nothing".to_string()),
+        _ => None,
+    });
+    notes.iter().map(|note| format!("{}: note: {note}\n", files::shown(book))).collect()
+}
+
+/// What of an expression matters here. `open`: some alternative has at one of its
+/// ends a part such as `.*`, `!(..)` or `@`, which tells that its writer thought
+/// of the rest of the day. `wild`: it holds such a part or a `.` somewhere.
+#[derive(Clone, Copy, Default)]
+struct Shape {
+    open: bool,
+    wild: bool,
+}
+
+/// The definitions so far, by capital letter.
+type Names = [Shape; 26];
+
+/// A note for each side that is closed at both ends.
+fn sides(text: &[u8]) -> Vec<String> {
+    let mut names = Names::default();
+    let mut notes = Vec::new();
+    for line in 2.. {
+        let Some((bytes, _)) = hint::line_of(text, line) else { break };
+        let bytes: Vec<u8> = bytes.iter().copied().filter(|&byte| byte != b' ').collect();
+        match bytes[..] {
+            [b'=', name, ref meaning @ ..] => names[usize::from(name - b'A')] = choice(&mut Cursor(meaning), &names),
+            [b'>', ref rule @ ..] => {
+                for context in rule.split(|&byte| byte == b'/').skip(1) {
+                    let sides = context.split(|&byte| byte == b'_').zip([Side::Left, Side::Right]);
+                    let closed = sides.filter(|(side, _)| !choice(&mut Cursor(side), &names).open);
+                    notes.extend(closed.map(|(side, which)| which.note(line, side)));
+                }
+            }
+            _ => {}
+        }
+    }
+    notes
+}
+
+#[derive(Clone, Copy)]
+enum Side {
+    Left,
+    Right,
+}
+
+impl Side {
+    fn note(self, line: usize, side: &[u8]) -> String {
+        let text = String::from_utf8_lossy(side);
+        let part = if side.iter().any(|byte| b"|&-".contains(byte)) { format!("({text})") } else { text.to_string() };
+        let (which, place, wider) = match self {
+            Side::Left => ("left", "before", format!(".*{part}")),
+            Side::Right => ("right", "behind", format!("{part}.*")),
+        };
+        format!(
+            "line {line}: the {which} side {text} describes the whole rest of the day {place} the pattern; \
+             write {wider} if more may stand there"
+        )
+    }
+}
+
+/// The bytes that are still to read. The book was accepted, so they are of its form.
+struct Cursor<'a>(&'a [u8]);
+
+impl Cursor<'_> {
+    /// Takes the next byte, if it is one of these.
+    fn take(&mut self, signs: &[u8]) -> Option<u8> {
+        let (&first, rest) = self.0.split_first()?;
+        signs.contains(&first).then(|| {
+            self.0 = rest;
+            first
+        })
+    }
+}
+
+fn either(a: Shape, b: Shape) -> Shape {
+    Shape { open: a.open || b.open, wild: a.wild || b.wild }
+}
+
+fn choice(cursor: &mut Cursor, names: &Names) -> Shape {
+    let mut shape = chain(cursor, names);
+    while cursor.take(b"|&-").is_some() {
+        shape = either(shape, chain(cursor, names));
+    }
+    shape
+}
+
+fn chain(cursor: &mut Cursor, names: &Names) -> Shape {
+    let first = item(cursor, names);
+    let (mut last, mut wild) = (first, first.wild);
+    while cursor.0.first().is_some_and(|next| !b"|&-)".contains(next)) {
+        last = item(cursor, names);
+        wild |= last.wild;
+    }
+    Shape { open: first.open || last.open, wild }
+}
+
+fn item(cursor: &mut Cursor, names: &Names) -> Shape {
+    let mut not = false;
+    while cursor.take(b"!").is_some() {
+        not = true;
+    }
+    let mut shape = atom(cursor, names);
+    while let Some(sign) = cursor.take(b"*+?") {
+        shape.open |= shape.wild && sign != b'?';
+    }
+    either(shape, Shape { open: not, wild: not })
+}
+
+fn atom(cursor: &mut Cursor, names: &Names) -> Shape {
+    let Some((&first, rest)) = cursor.0.split_first() else { return Shape::default() };
+    cursor.0 = rest;
+    match first {
+        b'(' => {
+            let shape = choice(cursor, names);
+            cursor.take(b")");
+            shape
+        }
+        b'A'..=b'Z' => names[usize::from(first - b'A')],
+        b'@' => Shape { open: true, wild: true },
+        _ => Shape { open: false, wild: first == b'.' },
+    }
+}
+
+#[cfg(test)]
+mod tests {
+    use super::*;
+
+    fn of(rule: &str) -> Vec<String> {
+        sides(format!(":abc\n=A ab\n=B .*a\n=C (b|c)*\n{rule}\n").as_bytes())
+    }
+
+    #[test]
+    fn closed_sides_are_noted() {
+        for (rule, side) in [
+            (">b / a _ .*", "the left side a "),
+            (">b / .*a _ c", "the right side c "),
+            (">b / .* _ a|bc", "write (a|bc).* if"),
+            (">b / A _ .*", "the left side A "),
+            (">b / C _ .*", "write .*C if"),
+            (">b / .* _ .* / .* _ a", "the right side a "),
+            (">b / .. _ .*", "the left side .. "),
+        ] {
+            let notes = of(rule);
+            assert!(
+                notes.len() == 1 && notes[0].starts_with("line 5: ") && notes[0].contains(side),
+                "{rule} {notes:?}"
+            );
+        }
+        assert_eq!(of(">b / a _ c").len(), 2);
+    }
+
+    #[test]
+    fn open_sides_are_not() {
+        for rule in [
+            ">b",
+            ">b / .*a _ c.*",
+            ">b / a.* _ .*c",
+            ">b / @ _ @",
+            ">b / B _ .+",
+            ">b / C|.*aC _ .*",
+            ">b / !(.*a.*) _ .*a!(b)",
+            ">b / (...)* _ (.*a)",
+        ] {
+            assert!(of(rule).is_empty(), "{rule} {:?}", of(rule));
+        }
+    }
+}

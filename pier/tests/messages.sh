@@ -1,0 +1,42 @@
+# Messages: what a refused book or card is, and slips that compile.
+
+refused "a byte-order mark" "a byte-order mark" '\357\273\277:ab\n>b\n'
+refused "a tab" "a tab: write spaces" ':ab\n>b\t/ a _ .*\n'
+refused "a tab in front" "begin with a space or a tab" ':ab\n\t>b\n'
+refused "a long dash" "a long dash: write -" ':ab\n>.*\342\200\223a\n'
+refused "a longer dash" "a long dash: write -" ':ab\n>.*\342\200\224a\n'
+refused "a square bracket" "[ is no sign of the language: brackets are round" ':ab\n>[ab]\n'
+refused "a curly bracket" "{ is no sign of the language: brackets are round" ':ab\n>a{2}\n'
+refused "a digit behind a name" "a name is one capital letter and nothing more" ':ab\n=N1 ab\n>b\n'
+refused "a digit" "a digit: events are the letters" ':ab\n>a2\n'
+refused "a small name" "write =N" ':ab\n=n ab\n>b\n'
+check "with an arrow at it" "  2 | =n ab
+       ^" "$(sed -n 2,3p err)"
+pier compile ramp.book -o ramp.card >/dev/null
+status 1 pier compile ramp.card -o x.card
+has "a card given as a book" "these bytes begin as a card does" "$(cat err)"
+check "whose bytes are not shown" 0 "$(grep -c '|' err)"
+status 1 pier judge ramp.book ramp.plans
+has "a book given as a card" "it begins with :, as a book does" "$(cat err)"
+: >none.card
+status 1 pier check none.card
+has "an empty card" "the file is empty" "$(cat err)"
+
+# noted WORDS BOOK: it compiles, with one note that has these words; none for ''.
+noted() {
+    printf "$2" | pier compile - -o x.card >out 2>err
+    check "compiled: $2" 0 $?
+    check "notes on: $2" "$([ -n "$1" ] && echo 1 || echo 0)" "$(grep -c 'note:' err)"
+    has "note on: $2" "$1" "$(cat err)"
+}
+noted "line 2: the left side a describes the whole rest of the day before the pattern; write .*a" ':ab\n>b / a _ .*\n'
+noted "line 2: the right side a describes the whole rest of the day behind the pattern; write a.*" ':ab\n>b / .* _ a\n'
+noted "" ':ab\n>b / .*a _ .*\n'
+noted "" ':ab\n>b / a.* _ @\n'
+noted "this book allows every plan" ':ab\n>b / .* _ .*\n'
+noted "" ':ab\n>a\n>b\n'
+for book in *.book; do
+    check "no note on $book" "" "$(pier compile "$book" -o x.card 2>&1 >/dev/null)"
+done
+printf ':ab\n>b / a _ .*\n' | pier compile - -o x.card >out 2>/dev/null
+check "the envelope alone on standard output" 4 "$(wc -l <out)"
