@@ -9,7 +9,7 @@ returns : tie.Need-returns
 returns c = no-bytes (c .before .before .args .text .now) (omega arith)
 
 returns-2 : tie.Need-returns-2
-returns-2 c = headed (c .before .before .before .before .before .before .before .before .args .text .now) _ (c .before .before .before .before .before .line-end .ensures) (omega arith) _ _ (c .before .before .before .read-head .ensures) (c .before .-m .given .1) (c .before .before .before .before .before .before .before .before .pre)
+returns-2 c = headed (c .before .before .before .before .before .before .before .before .args .text .now) _ (c .before .before .before .before .before .line-end .ensures) (omega arith) _ _ (c .before .before .before .read-head .ensures) (c .before .-m .given .1) (c .before .before .before .before .before .before .before .before .pre .1)
 
 returns-3 : tie.Need-returns-3
 returns-3 c = head-stops (c .before .before .before .before .before .before .before .before .args .text .now) _ (c .before .before .before .before .before .line-end .ensures) (omega arith) _ _ (c .before .before .before .read-head .ensures) (c .before .n .given .1)

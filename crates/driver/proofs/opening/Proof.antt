@@ -13,6 +13,9 @@ returns c = too-long (c .before .before .args .text .now) _ (omega arith)
 returns-2 : tie.Need-returns-2
 returns-2 c = too-short (c .before .before .before .before .args .text .now) _ (omega arith) (sym (c .before .long-enough .ensures) ∙ not-true _ (c .if2 .taken))
 
+first-line-requires : tie.Need-first-line-requires
+first-line-requires c κs = ((c .before .before .before .before .pre), omega arith)
+
 returns-3 : tie.Need-returns-3
 returns-3 c = opens (c .before .before .before .before .before .args .text .now) _ _ (omega arith) (sym (c .before .before .long-enough .ensures) ∙ not-false _ (c .before .if2 .left)) (c .first-line .ensures)
 
@@ -23,5 +26,5 @@ opening-spec =
     returns
     (λ c κs. search needs)
     returns-2
-    (λ c κs. search needs)
+    first-line-requires
     returns-3)
