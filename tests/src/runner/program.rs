@@ -136,6 +136,7 @@ impl Program {
         thread::spawn(move || {
             let mut bytes = vec![0; length];
             let _ = send.send(standard_output.read_exact(&mut bytes).map(|()| bytes));
+            let _ = standard_output.read_to_end(&mut Vec::new());
         });
         let bytes = receive.recv_timeout(Duration::from_secs(10));
         drop(standard_input);
