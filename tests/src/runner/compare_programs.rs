@@ -263,9 +263,10 @@ impl Compiler<'_> {
             let book = b":ab\n>b / .*a _ .*\n";
             for text in [&book[..], b":ab\n", b""] {
                 let found = self.program.run_until_read_fails(&self.place, text);
-                tally.check(found.as_ref().is_ok_and(|said| said.output.is_empty() && said.complaint.ends_with(b"\n")), || {
-                    format!("compiling program, a read that fails behind {}: {found:?}", shown(text))
-                });
+                tally.check(
+                    found.as_ref().is_ok_and(|said| said.output.is_empty() && said.complaint.ends_with(b"\n")),
+                    || format!("compiling program, a read that fails behind {}: {found:?}", shown(text)),
+                );
             }
             let found = self.program.run_unwritable(&self.place, book);
             tally.check(found.as_ref().is_ok_and(|said| said.complaint.ends_with(b"\n")), || {

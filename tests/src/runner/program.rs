@@ -128,7 +128,8 @@ impl Program {
 
     /// The first bytes of the output, read while the input is still open.
     pub fn first_bytes(&self, place: &WorkingDirectory, input: &[u8], length: usize) -> Result<Vec<u8>, String> {
-        let mut child = self.command(place, Stdio::piped(), Stdio::piped()).spawn().map_err(|error| error.to_string())?;
+        let mut child =
+            self.command(place, Stdio::piped(), Stdio::piped()).spawn().map_err(|error| error.to_string())?;
         let mut standard_input = child.stdin.take().expect("a pipe");
         let mut standard_output = child.stdout.take().expect("a pipe");
         standard_input.write_all(input).map_err(|error| error.to_string())?;
