@@ -8,7 +8,7 @@ use std::io::{self, ErrorKind, IsTerminal, Read};
 use std::path::{Path, PathBuf};
 
 /// How much is read at once. A line that is longer makes the room grow.
-const PIECE: usize = 1 << 22;
+const PIECE: usize = 1 << 20;
 /// How many plans one call judges at most: a piece, where they have 7 letters on
 /// average.
 const CALL: usize = PIECE / 8;
