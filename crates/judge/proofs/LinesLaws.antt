@@ -46,8 +46,17 @@ module _ (c s : List ℕ) (j₀ : Judging) (o₀ : Bool) where
   module _ (from : ℕ) (j : Judging) (o : Bool) (out : List ℕ) (at : ℕ) (x : Upto c s j₀ o₀ from j o out at) where
     -- the letters can be counted
     pub upto-fits : (n e : ℕ) → Counted c (state j₀ o₀) n → length s ≤ n → LineEnd s from e → j .number ≡ 0 → j .run .letters + length (lineOf s from e) < 2 ^ 64
-    upto-fits n e w h l z = omega (arith, w .fits, line-length s from e l, l .most, l .low, letters-few c _ j (x .judges (w .bytes) (w .since .judges)) z,
-        begun-few (w .bytes) (take from s), length-take from s, x .inside)
+    upto-fits n e w h l z = omega (
+      arith,
+      w .fits,
+      line-length s from e l,
+      l .most,
+      l .low,
+      letters-few c _ j (x .judges (w .bytes) (w .since .judges)) z,
+      begun-few (w .bytes) (take from s),
+      length-take from s,
+      x .inside,
+    )
 
     pub upto-tests : (n : ℕ) → Counted c (state j₀ o₀) n → Tests c j
     upto-tests n w = x .judges (w .bytes) (w .since .judges) .tests

@@ -44,7 +44,10 @@ fn start(card: &[u8]) -> State
     ensures { λ r. ⌜ Since (now (card .entry)) [] r ⌝ }
 {
     let judging = plan::begin(card);
-    State { judging, open: false }
+    State {
+        judging,
+        open: false,
+    }
 }
 
 // Takes in bytes while there is room for one answer more.
@@ -103,7 +106,13 @@ fn finish(card: &[u8], state: State, out: &mut [u8]) -> usize
 }
 
 // Takes in all bytes of a read, and writes their answers.
-fn answer_all(card: &[u8], columns: &[u8; 256], state: State, bytes: &[u8], out: &mut [u8]) -> Answered
+fn answer_all(
+    card: &[u8],
+    columns: &[u8; 256],
+    state: State,
+    bytes: &[u8],
+    out: &mut [u8],
+) -> Answered
     requires { ⌜ Columns (now card) (now columns) × Counted (now card) state (length (now bytes)) × (longest ≤ length (now out)) ⌝ }
     ensures { λ r. ⌜ Wrote (now (card .entry)) state (now (bytes .entry)) r ⌝ }
 {
@@ -115,11 +124,17 @@ fn answer_all(card: &[u8], columns: &[u8; 256], state: State, bytes: &[u8], out:
         let used = fed.used;
         let at = fed.at;
         if !io::write_all(STDOUT_FILENO, &out[..at]) {
-            return Answered { state, written: false };
+            return Answered {
+                state,
+                written: false,
+            };
         }
         from += used;
     }
-    Answered { state, written: true }
+    Answered {
+        state,
+        written: true,
+    }
 }
 
 fn tell_read() {

@@ -63,7 +63,15 @@ fn put_answer(replies: &mut [u64], at: usize, answer: run::Answer)
 }
 
 // The answer to the plan that begins at `from` and ends at `end`.
-fn judge_line(card: &[u8], m: usize, n: usize, table: &[u8; 256], plans: &[u8], from: usize, end: usize) -> run::Answer
+fn judge_line(
+    card: &[u8],
+    m: usize,
+    n: usize,
+    table: &[u8; 256],
+    plans: &[u8],
+    from: usize,
+    end: usize,
+) -> run::Answer
     requires { ⌜ Ready (now card) m n × ColumnTable (lettersOf narrow (now card)) (now table) × (from ≤ end) × (end ≤ length (now plans)) ⌝ }
     ensures { λ r. ⌜ replyOf r ≡ judge narrow (now (card .entry)) (lineOf (now (plans .entry)) from end) ⌝ }
 {
@@ -73,7 +81,14 @@ fn judge_line(card: &[u8], m: usize, n: usize, table: &[u8; 256], plans: &[u8], 
 }
 
 // The plans on a card that was tested.
-fn judge_each(card: &[u8], m: usize, n: usize, table: &[u8; 256], plans: &[u8], replies: &mut [u64]) -> Many
+fn judge_each(
+    card: &[u8],
+    m: usize,
+    n: usize,
+    table: &[u8; 256],
+    plans: &[u8],
+    replies: &mut [u64],
+) -> Many
     requires { ⌜ Ready (now card) m n × ColumnTable (lettersOf narrow (now card)) (now table) ⌝ }
     ensures { λ r. ⌜ JudgesLines (now (card .entry)) (now (plans .entry)) (now (replies .entry)) (now (replies .exit)) r ⌝ }
 {

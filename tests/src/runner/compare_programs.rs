@@ -48,6 +48,30 @@ impl Judge<'_> {
         tally.group("programs: judging, inputs", |tally| self.inputs(tally));
         tally.group("programs: judging, cards", |tally| self.cards(tally));
         tally.group("programs: judging, long inputs", |tally| self.long_inputs(tally));
+        tally.group("programs: judging, reads and writes that fail", |tally| self.failures(tally));
+        tally.group("programs: judging, answers before it waits", |tally| {
+            self.place.set_board(Some(examples::FIRST_CARD));
+            let input = b"ab\nabb\nb";
+            let due = verdicts(Some(examples::FIRST_CARD), b"ab\nabb\n");
+            let found = self.program.first_bytes(&self.place, input, due.len());
+            tally.same("two plans and one under way", &Ok(text_of(due)), &found.map(text_of));
+        });
+    }
+
+    /// A read that fails is not the end: the plan under way has no verdict.
+    fn failures(&self, tally: &mut Tally) {
+        self.place.set_board(Some(examples::FIRST_CARD));
+        for (input, ended) in [(&b"ab\nabb"[..], &b"ab\n"[..]), (b"ab\n", b"ab\n"), (b"b", b""), (b"", b"")] {
+            let found = self.program.run_until_read_fails(&self.place, input);
+            let due = verdicts(Some(examples::FIRST_CARD), ended);
+            tally.check(found.as_ref().is_ok_and(|said| said.output == due && said.complaint.ends_with(b"\n")), || {
+                format!("judging program, a read that fails behind {}: {found:?}", shown(input))
+            });
+        }
+        let found = self.program.run_unwritable(&self.place, b"ab\n");
+        tally.check(found.as_ref().is_ok_and(|said| said.complaint.ends_with(b"\n")), || {
+            format!("judging program, a write that fails: {found:?}")
+        });
     }
 
     fn inputs(&self, tally: &mut Tally) {
@@ -234,6 +258,20 @@ impl Compiler<'_> {
             }
             self.compare(tally, &b"\n".repeat(100_000), Handing::AtOnce);
             self.compare(tally, &vec![b' '; 10_000_000], Handing::AtOnce);
+        });
+        tally.group("programs: compiling, reads and writes that fail", |tally| {
+            let book = b":ab\n>b / .*a _ .*\n";
+            for text in [&book[..], b":ab\n", b""] {
+                let found = self.program.run_until_read_fails(&self.place, text);
+                tally.check(
+                    found.as_ref().is_ok_and(|said| said.output.is_empty() && said.complaint.ends_with(b"\n")),
+                    || format!("compiling program, a read that fails behind {}: {found:?}", shown(text)),
+                );
+            }
+            let found = self.program.run_unwritable(&self.place, book);
+            tally.check(found.as_ref().is_ok_and(|said| said.complaint.ends_with(b"\n")), || {
+                format!("compiling program, a write that fails: {found:?}")
+            });
         });
         tally.group("programs: compiling, input in pieces", |tally| {
             for size in [1, 2, 3, 5] {

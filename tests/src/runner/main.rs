@@ -9,6 +9,7 @@ mod board_examples;
 mod by_format;
 mod compare_board;
 mod compare_compile;
+mod compare_lines;
 mod compare_programs;
 mod effort;
 mod entry;
@@ -125,6 +126,9 @@ fn run(tally: &mut Tally, options: &Options, effort: Effort) {
                 }
             }
             None => tally.skip("board", "no static library is linked"),
+        }
+        if let Some(product) = product::judge_lines() {
+            compare_lines::run(tally, product, effort);
         }
     }
     if wanted("compile") {

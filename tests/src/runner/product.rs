@@ -38,6 +38,31 @@ mod board {
         ) -> u64;
     }
 
+    extern "C" {
+        fn pier_judge_lines(
+            card: *const u8,
+            card_length: usize,
+            lines: *const u8,
+            lines_length: usize,
+            replies: *mut u64,
+            replies_length: usize,
+            out: *mut [u64; 3],
+        ) -> u64;
+    }
+
+    /// The number and `out`; and the replies, of which so many were lent, with
+    /// some behind them that must stay as they are.
+    pub fn judge_lines(card: &[u8], lines: &[u8], replies: &mut [u64], lent: usize) -> Option<[u64; 4]> {
+        let (card_length, lines_length) = (card.len(), lines.len());
+        let replies = replies[..].as_mut_ptr();
+        match answer(|out| unsafe {
+            pier_judge_lines(card.as_ptr(), card_length, lines.as_ptr(), lines_length, replies, lent, out)
+        }) {
+            (numbers, false) => Some(numbers),
+            (_, true) => None,
+        }
+    }
+
     pub struct Board;
 
     impl BoardEntry for Board {
@@ -215,6 +240,17 @@ mod compile {
 pub fn board() -> Option<Box<dyn BoardEntry>> {
     #[cfg(feature = "product-board")]
     return Some(Box::new(board::Board));
+    #[cfg(not(feature = "product-board"))]
+    None
+}
+
+/// Many plans at once: card, lines, replies, how many of them are lent.
+pub type JudgeLines = fn(&[u8], &[u8], &mut [u64], usize) -> Option<[u64; 4]>;
+
+/// The library's board for many plans, where it is linked.
+pub fn judge_lines() -> Option<JudgeLines> {
+    #[cfg(feature = "product-board")]
+    return Some(board::judge_lines);
     #[cfg(not(feature = "product-board"))]
     None
 }

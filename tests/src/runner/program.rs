@@ -2,6 +2,8 @@
 
 use std::fs;
 use std::io::{Read, Write};
+use std::os::fd::OwnedFd;
+use std::os::unix::net::UnixStream;
 use std::path::{Path, PathBuf};
 use std::process::{Child, Command, Stdio};
 use std::sync::atomic::{AtomicUsize, Ordering};
@@ -93,6 +95,69 @@ impl Program {
             let output = reader.join().expect("the reader ends").map_err(|error| error.to_string())?;
             ended.map(|()| output)
         })
+    }
+}
+
+/// What a program wrote to standard output and to standard error.
+#[derive(PartialEq, Eq, Debug)]
+pub struct Said {
+    pub output: Vec<u8>,
+    pub complaint: Vec<u8>,
+}
+
+impl Program {
+    /// Standard input fails behind these bytes: it hasn't ended, and a read
+    /// that would have to wait is an error.
+    pub fn run_until_read_fails(&self, place: &WorkingDirectory, input: &[u8]) -> Result<Said, String> {
+        let (mut ours, theirs) = UnixStream::pair().map_err(|error| error.to_string())?;
+        theirs.set_nonblocking(true).map_err(|error| error.to_string())?;
+        ours.write_all(input).map_err(|error| error.to_string())?;
+        let said = self.said(place, Stdio::from(OwnedFd::from(theirs)), Stdio::piped());
+        drop(ours);
+        said
+    }
+
+    /// Standard output is a device that is full.
+    pub fn run_unwritable(&self, place: &WorkingDirectory, input: &[u8]) -> Result<Said, String> {
+        let full = fs::OpenOptions::new().write(true).open("/dev/full").map_err(|error| error.to_string())?;
+        let (mut ours, theirs) = UnixStream::pair().map_err(|error| error.to_string())?;
+        ours.write_all(input).map_err(|error| error.to_string())?;
+        drop(ours);
+        self.said(place, Stdio::from(OwnedFd::from(theirs)), Stdio::from(full))
+    }
+
+    /// The first bytes of the output, read while the input is still open.
+    pub fn first_bytes(&self, place: &WorkingDirectory, input: &[u8], length: usize) -> Result<Vec<u8>, String> {
+        let mut child =
+            self.command(place, Stdio::piped(), Stdio::piped()).spawn().map_err(|error| error.to_string())?;
+        let mut standard_input = child.stdin.take().expect("a pipe");
+        let mut standard_output = child.stdout.take().expect("a pipe");
+        standard_input.write_all(input).map_err(|error| error.to_string())?;
+        let (send, receive) = std::sync::mpsc::channel();
+        thread::spawn(move || {
+            let mut bytes = vec![0; length];
+            let _ = send.send(standard_output.read_exact(&mut bytes).map(|()| bytes));
+            let _ = standard_output.read_to_end(&mut Vec::new());
+        });
+        let bytes = receive.recv_timeout(Duration::from_secs(10));
+        drop(standard_input);
+        let ended = wait(&mut child);
+        let bytes = bytes.map_err(|_| "no reply while the input is open".to_string())?;
+        ended.and_then(|()| bytes.map_err(|error| error.to_string()))
+    }
+
+    fn command(&self, place: &WorkingDirectory, input: Stdio, output: Stdio) -> Command {
+        let mut command = Command::new(&self.path);
+        command.args(&self.arguments).current_dir(&place.path).stdin(input).stdout(output).stderr(Stdio::piped());
+        command
+    }
+
+    /// For short outputs, which a pipe holds.
+    fn said(&self, place: &WorkingDirectory, input: Stdio, output: Stdio) -> Result<Said, String> {
+        let mut child = self.command(place, input, output).spawn().map_err(|error| error.to_string())?;
+        wait(&mut child)?;
+        let all = child.wait_with_output().map_err(|error| error.to_string())?;
+        Ok(Said { output: all.stdout, complaint: all.stderr })
     }
 }
 

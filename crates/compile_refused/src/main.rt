@@ -1,0 +1,6 @@
+// The compiling program on a refused book.
+use libc::STDIN_FILENO;
+
+fn main() {
+    compiling::run(STDIN_FILENO);
+}

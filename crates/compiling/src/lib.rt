@@ -1,0 +1,79 @@
+// The compiling program: the book from an input; its card, or the line `refused N line L`, to standard output.
+ghost use Prim.Native.Nat.{_≤_};
+ghost use lib.ListN.{length};
+ghost use Rattle.compiling.specs.Shown.{longest, Shows, Prints};
+use driver::Compiled;
+use libc::STDERR_FILENO;
+use libc::STDOUT_FILENO;
+
+// The bytes to be written for an answer, in front of `card`, where the card stands already. How many they are.
+fn show(answer: Compiled, card: &mut [u8]) -> usize
+    requires { ⌜ longest ≤ length (now card) ⌝ }
+    ensures { λ r. ⌜ Shows answer (now (card .entry)) (now (card .exit)) r ⌝ }
+{
+    match answer {
+        Compiled::Card(length, _) => {
+            if card.len() < length {
+                return card.len();
+            }
+            length
+        }
+        Compiled::Refused(number, line) => {
+            let a = stream::put(card, 0, b"refused ");
+            let b = stream::put_number(card, a, number as usize);
+            let c = stream::put(card, b, b" line ");
+            let d = stream::put_number(card, c, line);
+            stream::put(card, d, b"\n")
+        }
+    }
+}
+
+// Compiles a text with buffers of its own.
+fn compile(text: &[u8], card: &mut [u8; 3278]) -> usize
+    ensures { λ r. ⌜ Prints (now (text .entry)) (now (card .entry)) (now (card .exit)) r ⌝ }
+{
+    let mut low = [0u8; 43706];
+    let mut high = [0u8; 43706];
+    let mut registers = [0u8; 10086];
+    let mut stack = [0u8; 63878];
+    let mut rows = [0u8; 62464];
+    let mut table = [0u16; 14336];
+    let mut work = [0u16; 6720];
+    let mut code = [0u8; 32832];
+    let answer = driver::compile(
+        text,
+        card,
+        &mut low[..],
+        &mut high[..],
+        &mut registers[..],
+        &mut stack[..],
+        &mut rows[..],
+        &mut table[..],
+        &mut work[..],
+        &mut code[..],
+    );
+    show(answer, card)
+}
+
+// The longest card has 3,278 bytes.
+fn print(text: &[u8]) {
+    let mut card = [0u8; 3278];
+    let n = compile(text, &mut card);
+    if !io::write_all(STDOUT_FILENO, &card[..n]) {
+        io::write_all(
+            STDERR_FILENO,
+            b"compile: standard output cannot be written\n",
+        );
+    }
+}
+
+// A text is read one byte past the longest one, so that a longer one is refused. A read that fails is not the end of the text.
+pub fn run(input: i32) {
+    let mut text = [0u8; 16385];
+    match stream::read_all(input, &mut text[..]) {
+        stream::Input::Whole(size) => print(&text[..size]),
+        stream::Input::Failed => {
+            io::write_all(STDERR_FILENO, b"compile: standard input cannot be read\n");
+        }
+    }
+}
