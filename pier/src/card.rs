@@ -140,12 +140,17 @@ pub fn label(letters: &[u8]) -> String {
 pub const FIRST_CARD: [u8; 23] = [0x0C, 0, 2, 0, 0x0E, 0, 3, 0, 0x11, 0, 6, 0, 0x61, 0x62, 1, 1, 2, 1, 2, 1, 0, 2, 2];
 
 #[cfg(test)]
+pub fn first() -> Table {
+    Table::of(&FIRST_CARD).expect("it loads")
+}
+
+#[cfg(test)]
 mod tests {
     use super::*;
 
     #[test]
     fn the_first_paper_card_is_taken_apart() {
-        let table = Table::of(&FIRST_CARD).ok().expect("it loads");
+        let table = first();
         assert_eq!(table.letters, b"ab");
         assert_eq!(table.marks, [1, 1, 2]);
         assert_eq!(table.moves, [[1, 2], [1, 0], [2, 2]]);

@@ -34,7 +34,7 @@ mod tests {
 
     #[test]
     fn the_first_paper_card() {
-        let table = Table::of(&card::FIRST_CARD).ok().expect("it loads");
+        let table = card::first();
         let text = text(&table, "a\"b", false);
         for part in [
             "label=\"ab\"",

@@ -80,7 +80,6 @@ fn answer(out: &mut Vec<u8>, bytes: &[u8], replies: Replies, explain: bool, tall
         } else {
             tally.note(judged, || plans::lines(bytes).nth(place).unwrap_or_default());
         }
-        reply::push(out, judged);
-        out.push(b'\n');
+        reply::push_line(out, judged);
     }
 }

@@ -79,11 +79,11 @@ fn sweep(columns: &mut [Vec<usize>], arrows: &BTreeMap<(usize, usize), Vec<u8>>)
 #[cfg(test)]
 mod tests {
     use super::*;
-    use crate::card::FIRST_CARD;
+    use crate::card;
 
     #[test]
     fn every_state_has_a_place_and_a_move_leads_one_column_on() {
-        let table = Table::of(&FIRST_CARD).ok().expect("it loads");
+        let table = card::first();
         let layout = Layout::of(&table, false);
         assert_eq!(layout.columns, [[0], [1]]);
         assert_eq!(layout.below, Some(2));

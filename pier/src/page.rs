@@ -99,7 +99,7 @@ mod tests {
 
     #[test]
     fn every_place_is_filled_and_nothing_is_loaded() {
-        let table = Table::of(&card::FIRST_CARD).ok().expect("it loads");
+        let table = card::first();
         let page = page(&table, "a<{{card}}");
         assert!(!page.contains("{{"), "{page}");
         assert!(page.contains("<title>a&lt;{ {card}}</title>"));

@@ -4,8 +4,10 @@ use crate::proved::Judged;
 use crate::refusal;
 use crate::words::count;
 
-pub const ALLOWED: &str = "allowed";
-pub const UNFINISHED: &str = "unfinished";
+const ALLOWED_LINE: &str = "allowed\n";
+const UNFINISHED_LINE: &str = "unfinished\n";
+pub const ALLOWED: &str = ALLOWED_LINE.trim_ascii_end();
+pub const UNFINISHED: &str = UNFINISHED_LINE.trim_ascii_end();
 pub const HOPELESS: &str = "hopeless";
 pub const REFUSED: &str = "refused";
 
@@ -23,6 +25,19 @@ pub fn push(out: &mut Vec<u8>, judged: Judged) {
         None => {}
         Some(number @ 0..=9) => out.extend_from_slice(&[b' ', b'0' + number as u8]),
         Some(number) => out.extend_from_slice(format!(" {number}").as_bytes()),
+    }
+}
+
+/// The same with a line end; of a million replies most are one of two lines.
+#[inline]
+pub fn push_line(out: &mut Vec<u8>, judged: Judged) {
+    match judged {
+        Judged::Allowed => out.extend_from_slice(ALLOWED_LINE.as_bytes()),
+        Judged::Unfinished => out.extend_from_slice(UNFINISHED_LINE.as_bytes()),
+        _ => {
+            push(out, judged);
+            out.push(b'\n');
+        }
     }
 }
 
@@ -65,6 +80,7 @@ impl Tally {
     const MANY: usize = 10;
 
     /// Counts a reply; the plan is asked for where it must be told in words.
+    #[inline]
     pub fn note<'a>(&mut self, judged: Judged, plan: impl FnOnce() -> &'a [u8]) {
         self.plans += 1;
         let what = match judged {

@@ -48,7 +48,7 @@ mod tests {
 
     #[test]
     fn the_first_paper_card() {
-        let table = Table::of(&card::FIRST_CARD).ok().expect("it loads");
+        let table = card::first();
         let expected = "\
 letters 2 (a b)
 states  3

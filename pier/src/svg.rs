@@ -128,7 +128,7 @@ mod tests {
 
     #[test]
     fn the_first_paper_card() {
-        let table = Table::of(&card::FIRST_CARD).ok().expect("it loads");
+        let table = card::first();
         let text = text(&table, "a<b", false);
         for part in ["<svg xmlns", "id=\"state0\"", "id=\"state2\"><rect", ">2 hopeless<", ">a-b<", ">a&lt;b<"] {
             assert!(text.contains(part), "{part} in {text}");

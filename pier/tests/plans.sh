@@ -31,11 +31,11 @@ for number in 9 10; do
     head -n $number many.plans | pier judge ramp.card >/dev/null 2>err
     check "$number plans are counted from 10 on" $((number / 10)) "$(grep -c "^$number plans:" err)"
 done
-long=$(yes cw | head -n 1500000 | tr -d '\n')
+long=$(yes cwcwcw | head -n 900000 | tr -d '\n')
 printf 'du\nd%su\nd' "$long" | pier judge ramp.card >replies
 check "a plan longer than a piece" "allowed allowed unfinished" "$(tr '\n' ' ' <replies | sed 's/ $//')"
-yes '' | head -n 300000 | pier judge ramp.card 2>/dev/null | sort | uniq -c | sed 's/^ *//' >counted
-check "more plans than a call takes" "300000 allowed" "$(cat counted)"
+yes '' | head -n 600000 | pier judge ramp.card 2>/dev/null | sort | uniq -c | sed 's/^ *//' >counted
+check "more plans than a call takes" "600000 allowed" "$(cat counted)"
 
 # The status, and --strict.
 printf 'du\nd\n' >unfinished.plans
