@@ -36,10 +36,9 @@ pub record Shows (a : Compiled) (card out : List ℕ) (r : ℕ) : Type 0 where
   pub within : r ≤ length out
   pub is : take r out ≡ shown a card
 
--- What is written for a text is what is shown for the compiler's answer, with some lent lengths, and the card buffer behind it.
+-- What is written for a text is what is shown for the compiler's answer, with buffers of the documented lengths, and the card buffer behind it.
 pub record Prints (text old out : List ℕ) (r : ℕ) : Type 0 where
-  pub lent : List ℕ
   pub answer : Compiled
   pub card : List ℕ
-  pub answers : Answers (outcome narrow documented text lent (length old)) old card answer
+  pub answers : Answers (outcome narrow documented text documented (length old)) old card answer
   pub shows : Shows answer card out r

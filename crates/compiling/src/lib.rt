@@ -19,8 +19,9 @@ fn show(answer: Compiled, card: &mut [u8]) -> usize
             length
         }
         Compiled::Refused(number, line) => {
+            let n = number as usize;
             let a = stream::put(card, 0, b"refused ");
-            let b = stream::put_number(card, a, number as usize);
+            let b = stream::put_number(card, a, n);
             let c = stream::put(card, b, b" line ");
             let d = stream::put_number(card, c, line);
             stream::put(card, d, b"\n")
