@@ -1,8 +1,8 @@
 // The stage loop: the sets that an operation on two machines reaches, as rows of bytes in a lent buffer, counted, with their transitions laid out as
 // a table. These are parts: callers give closed tables and buffers that are long enough.
-pub use sets::Shape;
 use repeats::columns;
 use rows::chains;
+pub use sets::Shape;
 pub use turns::Explored;
 ghost use mathlib.Core.Path.{_≡_};
 ghost use Prim.Native.Nat.{_+_, _*_, _<_, _≤_};

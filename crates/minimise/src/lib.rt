@@ -2,7 +2,6 @@
 mod number;
 
 use classes::refine::refine;
-
 ghost use Rattle.automata.specs.Table.{tableMachine};
 ghost use Rattle.minimise.specs.Minimised.{Fitting, Minimised};
 

@@ -1,6 +1,6 @@
 // Whether a row's states lead by a column where they lead by the column before: then both lead to one row. In a book of listed words most columns do so.
-use sets::Shape;
 use rows::number;
+use sets::Shape;
 ghost use mathlib.Core.Bool.{true};
 ghost use mathlib.Core.Path.{_≡_};
 ghost use Prim.Native.Nat.{ℕ, _+_, _*_, _-_, _<_};

@@ -1,10 +1,10 @@
 // One transition of a stage laid out: it repeats an earlier one, or the row that it leads to is made, looked up, and put behind the others where it is new.
 // These are parts: callers give closed tables and buffers that are long enough.
 use flags::table;
-use sets::Shape;
 use rows::chains;
 use rows::number;
 use rows::pair;
+use sets::Shape;
 ghost use mathlib.Core.Path.{_≡_};
 ghost use Prim.Native.Nat.{_+_, _*_, _<_, _≤_};
 ghost use Rattle.rows.specs.Rows.{rowAt};
