@@ -15,8 +15,8 @@ ghost use Rattle.automata.specs.Partition.{classes};
 ghost use Rattle.automata.specs.Table.{tableMachine, ClosedTable};
 ghost use Rattle.classes.specs.Refine.{Says, Compared, SameClass, classOf, next, FirstOther, sideOf, Parted, Sized, Begun, Under, Leads, Placing, Rounded, Refining, Turned};
 
-// Rounds before the distances are looked at.
-const FIRST_ROUNDS: usize = 8;
+// Rounds before the distances are looked at. No stage of the books in bench/books takes more than 22.
+const FIRST_ROUNDS: usize = 24;
 
 // Whether column c leads states p and q to one class.
 fn agree(
