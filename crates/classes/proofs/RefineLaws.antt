@@ -291,11 +291,6 @@ turned-way base n k t v c R h = record {
   way = λ _. (record { led = R .led; coarse = R .coarse; told = R .told; counted = zero-le }, h);
 }
 
--- more rounds than states are enough
-pub turned-all : (base n k : ℕ) (t v : List ℕ) (most : ℕ) (r : Bool) → n < most → Turned base n k t v most r → take n v ≡ classes k (tableMachine base n k t)
-turned-all base n k t v most true h T = T .done refl
-turned-all base n k t v most false h T = absurd (omega (arith, T .way refl .1))
-
 -- no more classes than states
 pub refine-many : (base n k : ℕ) (t v : List ℕ) (c : ℕ) → Refining base n k t v c → c ≤ n
 refine-many base n k t v c R = omega (arith, R .counted, leaders-le (classOf (take n v)) n)

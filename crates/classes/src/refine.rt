@@ -201,9 +201,12 @@ pub fn refine(table: &[u16], base: usize, n: usize, k: usize, work: &mut [u16])
     ensures { λ _. ⌜ take n (now (work .exit)) ≡ classes k (tableMachine base n k (now (table .entry))) ⌝ }
 {
     part(table, n, work);
-    if rounds(table, base, n, k, work, FIRST_ROUNDS) {
-        return;
+    let mut most = FIRST_ROUNDS;
+    loop {
+        if rounds(table, base, n, k, work, most) {
+            return;
+        }
+        spread(table, base, n, k, work);
+        most = n + 1;
     }
-    spread(table, base, n, k, work);
-    rounds(table, base, n, k, work, n + 1);
 }
