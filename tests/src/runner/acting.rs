@@ -21,6 +21,9 @@ pub const JUDGING: &[&str] = &[
     "no line end behind the last verdict",
     "stops at byte 26",
     "crashes on a foreign letter",
+    "a failed read is the end",
+    "answers at the end only",
+    "a failed write is not told",
 ];
 
 /// The faults of a compiling program; the first is none.
@@ -34,17 +37,45 @@ pub const COMPILING: &[&str] = &[
     "prints the card in hexadecimal",
     "says nothing",
     "crashes on a long book",
+    "a failed read is the end",
+    "a failed write is not told",
 ];
 
+/// While the input is no longer than this, what is ready is written before
+/// each read.
+const SHORT: usize = 64;
+
 pub fn judge(fault: &str) {
-    let mut card = std::fs::read("board.bin").ok();
-    let mut input = read_input(fault);
-    match fault {
-        "a plan behind the last line end" if input.ends_with(b"\n") => input.push(b'\n'),
-        "no plan without a line end" => {
-            let kept = input.iter().rposition(|&byte| byte == b'\n').map_or(0, |place| place + 1);
-            input.truncate(kept);
+    let card = std::fs::read("board.bin").ok();
+    let mut input = Vec::new();
+    let mut written = 0;
+    let mut answer = |input: &[u8], whole: bool| {
+        let output = answers(fault, card.clone(), input.to_vec(), whole);
+        write_output(fault, &output[written..]);
+        written = output.len();
+    };
+    let read = read_pieces(fault, &mut input, |so_far| {
+        if so_far.len() <= SHORT && fault != "answers at the end only" {
+            answer(ended(so_far), false);
         }
+    });
+    if read {
+        answer(&input, true)
+    } else {
+        answer(ended(&input), false)
+    }
+}
+
+/// The input up to its last line end.
+fn ended(input: &[u8]) -> &[u8] {
+    &input[..input.iter().rposition(|&byte| byte == b'\n').map_or(0, |place| place + 1)]
+}
+
+/// What is printed for an input, the whole one or as far as it came.
+fn answers(fault: &str, mut card: Option<Vec<u8>>, mut input: Vec<u8>, whole: bool) -> Vec<u8> {
+    match fault {
+        "a plan behind the last line end" if whole && input.ends_with(b"\n") => input.push(b'\n'),
+        "no plan without a line end" => input.truncate(ended(&input).len()),
         "strips carriage returns" => input.retain(|&byte| byte != b'\r'),
         "strips spaces" => input.retain(|&byte| byte != b' '),
         "reads 3,278 bytes of the card" => {
@@ -75,11 +106,14 @@ pub fn judge(fault: &str) {
         "crashes on a foreign letter" if text.contains("refused 27") => std::process::abort(),
         _ => {}
     }
-    write_output(&output);
+    output
 }
 
 pub fn compile(fault: &str) {
-    let mut input = read_input(fault);
+    let mut input = Vec::new();
+    if !read_pieces(fault, &mut input, |_| {}) {
+        return;
+    }
     if fault == "reads 16,384 bytes" {
         input.truncate(16_384);
     }
@@ -98,22 +132,35 @@ pub fn compile(fault: &str) {
         "crashes on a long book" if input.len() > 16_384 => std::process::abort(),
         _ => {}
     }
-    write_output(&output);
+    write_output(fault, &output);
 }
 
-fn read_input(fault: &str) -> Vec<u8> {
-    let mut input = Vec::new();
-    let mut standard_input = std::io::stdin();
-    if fault == "one reading of the input" {
-        let mut buffer = vec![0; 16_385];
-        let length = standard_input.read(&mut buffer).unwrap_or(0);
-        buffer.truncate(length);
-        return buffer;
+/// Reads to the end, calling `before` before each read; false where a read
+/// failed, which is told.
+fn read_pieces(fault: &str, input: &mut Vec<u8>, mut before: impl FnMut(&[u8])) -> bool {
+    let mut buffer = vec![0; 65_536];
+    loop {
+        before(input);
+        match std::io::stdin().read(&mut buffer) {
+            Ok(0) => return true,
+            Ok(length) => input.extend(&buffer[..length]),
+            Err(_) if fault == "a failed read is the end" => return true,
+            Err(error) => {
+                eprintln!("the input can't be read: {error}");
+                return false;
+            }
+        }
+        if fault == "one reading of the input" {
+            input.truncate(16_385);
+            return true;
+        }
     }
-    standard_input.read_to_end(&mut input).expect("the input can be read");
-    input
 }
 
-fn write_output(output: &[u8]) {
-    std::io::stdout().write_all(output).expect("the output can be written");
+fn write_output(fault: &str, output: &[u8]) {
+    let mut standard_output = std::io::stdout();
+    let written = standard_output.write_all(output).and_then(|()| standard_output.flush());
+    if let (Err(error), true) = (written, fault != "a failed write is not told") {
+        eprintln!("the output can't be written: {error}");
+    }
 }
