@@ -18,8 +18,17 @@ Inv-loop a b s rows₀ row₀ members₀ table₀ k w twins heads₀ sum h count
 abbrev μ-loop : tie.MeasureT-loop
 μ-loop a b s rows₀ row₀ members₀ table₀ k w twins heads₀ sum h count₀ state₀ column₀ q₀ held₀ rows row members table heads count state column q held = s .limit * s .k - q
 
+twins-requires : tie.Need-twins-requires Inv-loop μ-loop
+twins-requires c κs = (c .before .before .before .before .before .before .before .pre .0 .fits, refl)
+
+start-row-requires : tie.Need-start-row-requires Inv-loop μ-loop
+start-row-requires c κs = (c .before .before .before .before .before .before .before .before .before .pre .0 .fits, c .before .before .before .before .before .before .before .before .before .pre .0 .room .rowLong)
+
 append-requires : tie.Need-append-requires Inv-loop μ-loop
 append-requires c κs = (c .before .before .before .before .start-row .kept .1 .1 .1 .0 ∙ c .before .before .before .before .before .before .before .before .before .before .before .before .before .before .pre .0 .room .rowLong, first-room (c .before .before .before .before .before .before .before .before .before .before .before .before .before .before .pre .0 .room))
+
+chain-requires : tie.Need-chain-requires Inv-loop μ-loop
+chain-requires c κs = ((omega (arith, c .before .before .before .before .before .before .before .before .before .before .before .before .before .before .before .before .before .before .before .before .pre .0 .room .some, c .before .before .before .before .before .before .before .before .before .before .before .before .before .before .before .before .before .before .before .before .pre .0 .room .tableLong), omega arith), (c .before .before .hash .ensures .1, refl))
 
 loop-holds : tie.Need-loop-holds Inv-loop μ-loop
 loop-holds c =
@@ -39,6 +48,9 @@ list-requires c κs =
     let l = c .before .before .before .loop in
     (c .before .before .before .before .before .before .before .before .before .before .before .before .before .before .before .before .before .before .before .before .before .before .before .before .before .before .before .pre .0 .fits .width, (run-source (a .s) (a .a .now) (a .b .now) (l .rows) (l .row) (l .table) (l .heads) (l .count) (l .state) (l .column) (l .q) (l .inv .0) (c .before .before .loop-test .taken), (listing-kept (c .before .before .before .before .before .before .before .before .before .before .before .before .before .before .before .before .before .before .before .before .before .before .before .before .before .before .before .pre .1) (l .members) (l .inv .4), l .inv .5)))
 
+twin-requires : tie.Need-twin-requires Inv-loop μ-loop
+twin-requires c κs = c .before .before .before .before .before .before .before .before .before .before .before .before .before .before .before .before .before .before .before .before .before .before .before .twins2 .ensures .small
+
 advance-requires : tie.Need-advance-requires Inv-loop μ-loop
 advance-requires c κs =
     let a = c .before .before .before .before .before .before .before .before .before .before .before .before .before .before .before .before .before .before .before .before .before .before .before .before .before .before .before .before .before .before .before .before .before .before .before .before .before .args in
@@ -51,6 +63,12 @@ same-length c = c .before .before .before .before .before .before .before .befor
 same-length-2 : tie.Need-same-length-2 Inv-loop μ-loop
 same-length-2 c = c .before .before .before .before .before .before .before .before .advance .kept .1 .1 .1 .1 .0 ∙ c .before .before .before .before .before .before .before .before .before .before .before .before .before .before .before .before .before .before .before .before .before .before .loop .inv .2 ∙ c .before .before .before .before .before .before .before .before .before .before .before .before .before .before .before .before .before .before .before .before .before .before .before .before .before .before .before .before .before .before .before .before .before .before .before .before .start-row .kept .1 .1 .1 .0
 
+same-length-3 : tie.Need-same-length-3 Inv-loop μ-loop
+same-length-3 c = c .before .before .before .before .before .before .before .before .before .before .before .before .before .before .before .before .before .before .list .kept .1 .1 .1 .1 .1 .0 ∙ c .before .before .before .before .before .before .before .before .before .before .before .before .before .before .before .before .before .before .before .before .before .before .loop .inv .4
+
+same-length-4 : tie.Need-same-length-4 Inv-loop μ-loop
+same-length-4 c = c .before .before .before .before .before .before .before .before .advance .kept .1 .1 .1 .1 .1 .0 ∙ c .before .before .before .before .before .before .before .before .before .before .before .before .before .before .before .before .before .before .before .before .before .before .loop .inv .3 ∙ c .before .before .before .before .before .before .before .before .before .before .before .before .before .before .before .before .before .before .before .before .before .before .before .before .before .chain .kept .0
+
 returns : tie.Need-returns Inv-loop μ-loop
 returns c = let a = c .before .before .before .before .before .before .before .before .before .before .before .before .before .before .before .before .before .before .before .before .before .before .before .before .before .before .before .before .before .before .before .before .before .before .before .before .before .before .before .before .before .before .before .before .before .before .args in let l = c .before .before .before .before .before .before .before .before .before .before .before .before .before .before .before .before .before .before .before .before .before .before .loop in run-many (a .s) (a .a .now) (a .b .now) (l .rows) (l .row) (l .table) (l .heads) (l .count) (l .state) (l .column) (l .q) (l .inv .0) (c .before .before .before .before .before .before .before .before .before .before .before .before .before .before .before .before .before .before .before .before .before .loop-test .taken) (c .before .before .before .before .before .before .before .before .advance .last .1 .1 .1 .0) (c .before .before .before .before .before .before .before .before .advance .last .1 .1 .1 .1 .0) (c .before .before .before .before .before .before .before .before .advance .last .1 .1 .1 .1 .1 .0) (c .before .before .before .before .before .before .before .before .advance .last .1 .1 .1 .1 .1 .1 .0) (c .before .before .before .before .before .before .before .before .advance .kept .1 .1 .1 .0) (c .before .before .before .before .before .before .before .before .advance .kept .1 .1 .1 .1 .0) (c .before .before .before .before .before .before .before .before .advance .kept .1 .1 .1 .1 .1 .0) (c .before .before .before .before .before .before .before .before .advance .result) (c .before .before .before .before .before .before .before .before .advance .ensures .0) (c .enum-told .given .1)
 
@@ -59,6 +77,9 @@ add-q c = let a = c .before .before .before .before .before .before .before .bef
 
 add-column : tie.Need-add-column Inv-loop μ-loop
 add-column c = omega (arith, c .before .before .before .before .before .before .before .before .before .before .before .before .before .before .before .before .before .before .before .before .before .before .before .loop .inv .0 .column, (c .before .before .before .before .before .before .before .before .before .before .before .before .before .before .before .before .before .before .before .before .before .before .before .before .before .before .before .before .before .before .before .before .before .before .before .before .before .before .before .before .before .before .before .before .before .before .before .good))
+
+add-state : tie.Need-add-state Inv-loop μ-loop
+add-state c = let i = c .before .before .before .before .before .before .before .before .before .before .before .before .before .before .before .before .before .before .before .before .before .before .before .before .loop .inv .0 in omega (arith, i .state, i .partial .within, i .room .small)
 
 loop-less : tie.Need-loop-less Inv-loop μ-loop
 loop-less c = let a = c .before .before .before .before .before .before .before .before .before .before .before .before .before .before .before .before .before .before .before .before .before .before .before .before .before .before .before .before .before .before .before .before .before .before .before .before .before .before .before .before .before .before .before .before .before .before .before .before .args in let l = c .before .before .before .before .before .before .before .before .before .before .before .before .before .before .before .before .before .before .before .before .before .before .before .before .loop in run-less (a .s) (a .a .now) (a .b .now) (l .rows) (l .row) (l .table) (l .heads) (l .count) (l .state) (l .column) (l .q) (l .inv .0) (c .before .before .before .before .before .before .before .before .before .before .before .before .before .before .before .before .before .before .before .before .before .before .before .loop-test .taken)
@@ -93,6 +114,18 @@ loop-again-2 c =
 flag-rows-requires : tie.Need-flag-rows-requires Inv-loop μ-loop
 flag-rows-requires c κs = let a = c .before .before .before .before .before .before .before .before .before .before .before .before .before .before .before .before .before .before .before .before .before .before .before .before .before .before .before .args in let l = c .before .before .before .loop in run-flagging (a .s) (a .a .now) (a .b .now) (l .rows) (l .row) (l .table) (l .heads) (l .count) (l .state) (l .column) (l .q) (l .inv .0) (c .before .before .loop-test .left)
 
+same-length-5 : tie.Need-same-length-5 Inv-loop μ-loop
+same-length-5 c = c .before .before .before .before .before .before .loop .inv .1 ∙ c .before .before .before .before .before .before .before .before .before .before .before .before .before .before .before .append .kept .0
+
+same-length-6 : tie.Need-same-length-6 Inv-loop μ-loop
+same-length-6 c = c .before .before .before .before .before .before .loop .inv .2 ∙ c .before .before .before .before .before .before .before .before .before .before .before .before .before .before .before .before .before .before .before .before .start-row .kept .1 .1 .1 .0
+
+same-length-7 : tie.Need-same-length-7 Inv-loop μ-loop
+same-length-7 c = c .before .before .before .before .before .before .loop .inv .4
+
+same-length-8 : tie.Need-same-length-8 Inv-loop μ-loop
+same-length-8 c = c .before .before .flag-rows .kept .1 .1 .1 .1 .0 ∙ c .before .before .before .before .before .before .loop .inv .3 ∙ c .before .before .before .before .before .before .before .before .before .chain .kept .0
+
 returns-2 : tie.Need-returns-2 Inv-loop μ-loop
 returns-2 c = let a = c .before .before .before .before .before .before .before .before .before .before .before .before .before .before .before .before .before .before .before .before .before .before .before .before .before .before .before .before .before .before .args in let l = c .before .before .before .before .before .before .loop in run-done (a .s) (a .a .now) (a .b .now) (l .rows) (l .row) (l .table) (l .heads) (l .count) (l .state) (l .column) (l .q) (l .inv .0) (c .before .before .before .before .before .loop-test .left) _ (c .before .before .flag-rows .kept .1 .1 .1 .1 .0) (c .before .before .flag-rows .ensures)
 
@@ -102,32 +135,32 @@ explore-spec =
     (tie.spec
     Inv-loop
     μ-loop
-    (λ c κs. search needs)
-    (λ c κs. search needs)
+    twins-requires
+    start-row-requires
     append-requires
     (λ c κs. search needs)
-    (λ c κs. search needs)
+    chain-requires
     loop-holds
     list-requires
-    (λ c κs. search needs)
+    twin-requires
     advance-requires
     (λ c. search needs)
     (λ c. search needs)
     same-length
     same-length-2
-    (λ c. search needs)
-    (λ c. search needs)
+    same-length-3
+    same-length-4
     returns
     add-q
     add-column
-    (λ c. search needs)
+    add-state
     loop-less
     loop-again
     loop-less-2
     loop-again-2
     flag-rows-requires
-    (λ c. search needs)
-    (λ c. search needs)
-    (λ c. search needs)
-    (λ c. search needs)
+    same-length-5
+    same-length-6
+    same-length-7
+    same-length-8
     returns-2)
