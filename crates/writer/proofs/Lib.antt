@@ -1,8 +1,2 @@
 -- Laws that the proofs of several functions cite.
-pub mod LaidLaws
-pub mod ArrivalLaws
-pub mod NumberLaws
-pub mod RestrictLaws
-pub mod MarkLaws
-pub mod MoveLaws
 pub mod WriteLaws

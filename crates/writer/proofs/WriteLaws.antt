@@ -16,13 +16,13 @@ use Rattle.card.specs.Number.{bytesOf-length}
 use Rattle.card.specs.Layout.{contents, encode}
 use Rattle.card.specs.LayoutLaws.{contents-length}
 use Rattle.card.specs.Same.{cardOf}
-use Rattle.writer.specs.Arrival.{keptMachine, Arranged}
-use Rattle.writer.specs.Laid.{Laid}
-use Rattle.writer.specs.Parts.{markBytes, moveBytes}
+use Rattle.numbering.specs.Arrival.{keptMachine, Arranged}
+use Rattle.sections.specs.Laid.{Laid}
+use Rattle.sections.specs.Parts.{markBytes, moveBytes}
 use Rattle.writer.specs.Written.{Written, keptCard}
 use Rattle.writer.specs.declared.Wrote.the-variants.{Length, TooShort}
-use Rattle.writer.proofs.LaidLaws.{laid-join, laid-whole}
-use Rattle.writer.proofs.RestrictLaws.{restrict-count}
+use Rattle.sections.proofs.LaidLaws.{laid-join, laid-whole}
+use Rattle.sections.proofs.RestrictLaws.{restrict-count}
 
 module _ (n : ℕ) (ls t o u : List ℕ) (count : ℕ) (R : Arranged n (length ls) t o u count) where
   abbrev m : ℕ

@@ -1,25 +1,16 @@
 -- What the card writer is given and what it answers.
 use mathlib.Core.Path.{_≡_}
 use mathlib.Core.List.{List, _++_}
-use Prim.Native.Nat.{ℕ, suc, _≤_}
+use Prim.Native.Nat.{ℕ}
 use lib.ListN.{length, drop}
 use lib.Dec.{ltb}
 use Rattle.automata.specs.Booleans.{choose}
 use Rattle.automata.specs.Format.{narrow}
-use Rattle.automata.specs.Machine.{Canonical}
-use Rattle.automata.specs.Restrict.{Unmarked}
-use Rattle.automata.specs.Table.{ClosedTable}
 use Rattle.card.specs.Same.{cardOf}
-use Rattle.writer.specs.Arrival.{keptMachine}
+use Rattle.numbering.specs.Arrival.{keptMachine}
+pub use Rattle.sections.specs.Kept.{Kept}
 use Rattle.writer.specs.declared.Wrote.{Wrote}
 use Rattle.writer.specs.declared.Wrote.the-variants.{Length, TooShort}
-
--- A kept machine over m letters and the mark: smallest, numbered by first arrival, and with no accepted word that has the mark.
-pub record Kept (n m : ℕ) (t : List ℕ) : Type 0 where
-  pub closed : ClosedTable 120 n (suc m) t
-  pub letters-most : m ≤ 26
-  pub canonical : Canonical (suc m) (keptMachine n m t)
-  pub unmarked : Unmarked m (keptMachine n m t)
 
 -- The card's length, or "buffer shorter than the card".
 abbrev pub answer : List ℕ → ℕ → Wrote

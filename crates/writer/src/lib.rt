@@ -1,10 +1,7 @@
 // The card writer: from the kept machine over letters and mark to the card's bytes. Parts for the compiler: they have requires, and are no entries.
-mod contents;
-mod marks;
-mod moves;
-mod numbering;
-
-ghost use mathlib.Core.Path.{_≡_};
+use sections::contents;
+use sections::marks;
+use sections::moves;
 ghost use lib.ListN.{length};
 ghost use Rattle.writer.specs.Written.{Kept, Written, keptCard};
 
@@ -32,11 +29,4 @@ pub fn write(slot: &[u8], n: usize, letters: &[u8], card: &mut [u8]) -> Wrote
     marks::put_marks(slot, n, m, count, &order, card);
     moves::put_moves(slot, n, m, count, &order, &number, card);
     Wrote::Length(length)
-}
-
-// A byte as a number of the machine's own width.
-fn wide(b: u8) -> usize
-    ensures { λ r. ⌜ r ≡ b ⌝ }
-{
-    b as usize
 }

@@ -1,0 +1,2 @@
+-- Definitions that the numbering's contracts cite.
+pub mod Arrival
