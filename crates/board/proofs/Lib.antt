@@ -1,5 +1,2 @@
 -- Laws that the proofs of several functions cite.
-pub mod RowLaws
-pub mod LiveLaws
-pub mod LoadLaws
 pub mod EntryLaws

@@ -1,9 +1,5 @@
 // The board: it knows a card's layout and nothing else, and is lent no work buffer. Its entries ask nothing of the caller: they answer every row of
 // bytes, state, letter and plan.
-mod live;
-mod loading;
-mod numbering;
-
 ghost use mathlib.Core.Path.{_≡_};
 ghost use Rattle.automata.specs.Format.{narrow};
 ghost use Rattle.card.specs.Answer.{load as loadOf};

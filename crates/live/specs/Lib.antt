@@ -1,0 +1,2 @@
+-- Definitions that the contracts of test 25 cite.
+pub mod LiveSweeps
