@@ -13,7 +13,9 @@ use Rattle.automata.specs.Basics.{LtCases, lt-cases}
 use Rattle.automata.specs.Machine.{Machine, automaton}
 use Rattle.automata.specs.Refinement.{SameSignature}
 use Rattle.automata.specs.Table.{tableMachine, ClosedTable}
-use Rattle.classes.specs.Refine.{Says, Target, Compared, SameClass, classOf, next, link, Led, leaders, Together, Placed, Latest, Linked, Under, Leads, Placing}
+use Rattle.entries.specs.Entries.{Target, classOf}
+use Rattle.spread.specs.Classes.{next, Led, leaders}
+use Rattle.classes.specs.Refine.{Says, Compared, SameClass, link, Together, Placed, Latest, Linked, Under, Leads, Placing}
 
 -- ---- comparing two states
 

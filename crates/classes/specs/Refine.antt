@@ -8,27 +8,18 @@ use Prim.Native.Nat.{ℕ, zero, suc, _+_, _≤_, _<_}
 use lib.ListN.{length, getD, take}
 use lib.Dec.{eqb}
 use Rattle.automata.specs.Machine.{Machine, automaton}
-use Rattle.automata.specs.Refinement.{SameSignature, Coarse}
-use Rattle.automata.specs.Partition.{bit, classes}
-use Rattle.automata.specs.Table.{flagOf, tableMachine, ClosedTable}
+use Rattle.automata.specs.Refinement.{SameSignature}
+use Rattle.automata.specs.Partition.{classes}
+use Rattle.automata.specs.Table.{tableMachine, ClosedTable}
+use Rattle.entries.specs.Entries.{classOf, flagBit}
+use Rattle.spread.specs.Classes.{next, Led, Told, leaders, Sized, Refining}
 
 -- An answer says whether P holds.
 pub record Says (r : Bool) (P : Type 0) : Type 0 where
   pub yes : r ≡ true → P
   pub no : r ≡ false → P → ⊥
 
--- r is the state that column c of the table leads to from state p.
-pub record Target (base n k : ℕ) (t : List ℕ) (p c r : ℕ) : Type 0 where
-  pub step : r ≡ automaton (tableMachine base n k t) .step p c
-  pub inside : r < n
-
--- The three arrays of n entries: the class of a state, its class after the round, and the links.
-abbrev pub classOf : List ℕ → ℕ → ℕ
-classOf cls p = getD cls p zero
-
-abbrev pub next : ℕ → List ℕ → ℕ → ℕ
-next n w p = getD w (n + p) zero
-
+-- The third array: the links.
 abbrev pub link : ℕ → List ℕ → ℕ → ℕ
 link n w p = getD w (n + (n + p)) zero
 
@@ -42,20 +33,6 @@ pub record Compared (base n k p q : ℕ) (t w : List ℕ) : Type 0 where
 -- Column c leads p and q to one class.
 pub record SameClass (M : Machine) (f : ℕ → ℕ) (p q c : ℕ) : Type 0 where
   pub step : f (automaton M .step p c) ≡ f (automaton M .step q c)
-
--- A class goes by a state of it, its leader, and no state of it comes before the leader.
-pub record Led (n : ℕ) (f : ℕ → ℕ) : Type 0 where
-  pub low : (p : ℕ) → p < n → f p ≤ p
-  pub again : (p : ℕ) → p < n → f (f p) ≡ f p
-
--- States of one class answer alike.
-abbrev pub Told : ℕ → Machine → (ℕ → ℕ) → Type 0
-Told n M f = (p q : ℕ) → p < n → q < n → f p ≡ f q → automaton M .accepting p ≡ automaton M .accepting q
-
--- how many states below m lead a class
-unfoldable pub leaders : (ℕ → ℕ) → ℕ → ℕ
-leaders g zero = zero
-leaders g (suc m) = let r = leaders g m in cond (eqb (g m) m) (suc r) r
 
 -- A round keeps p and q together: they are in one class, and it sees the same of both.
 pub record Together (k : ℕ) (M : Machine) (f : ℕ → ℕ) (p q : ℕ) : Type 0 where
@@ -90,10 +67,6 @@ pub record Partial (k n : ℕ) (M : Machine) (cls w : List ℕ) (m : ℕ) : Type
 
 -- ---- the classes to begin with
 
--- a state's flag as 0 or 1
-abbrev pub flagBit : List ℕ → ℕ → ℕ
-flagBit t p = bit (flagOf (getD t p 0))
-
 -- r is the first of the n states that does not answer as state 0 does, or n.
 pub record FirstOther (n : ℕ) (t : List ℕ) (r : ℕ) : Type 0 where
   pub within : r ≤ n
@@ -109,19 +82,6 @@ pub record Parted (n : ℕ) (t w : List ℕ) : Type 0 where
   pub other : ℕ
   pub first : FirstOther n t other
   pub class : (p : ℕ) → p < n → getD w p 0 ≡ sideOf t other p
-
--- The table, and a list with room for the three arrays.
-pub record Sized (base n k : ℕ) (t w : List ℕ) : Type 0 where
-  pub closed : ClosedTable base n k t
-  pub room : n + (n + n) ≤ length w
-  pub few : n < 65536
-
--- Classes on the way, so many of them at least: each goes by its first state, equivalent states share one, and states that share one answer alike.
-pub record Refining (base n k : ℕ) (t w : List ℕ) (count : ℕ) : Type 0 where
-  pub led : Led n (classOf (take n w))
-  pub coarse : Coarse k (tableMachine base n k t) (classOf (take n w))
-  pub told : Told n (tableMachine base n k t) (classOf (take n w))
-  pub counted : count ≤ leaders (classOf (take n w)) n
 
 -- Some rounds, so many at most: the classes of equivalent states; or classes on the way, and there are more states than rounds.
 pub record Turned (base n k : ℕ) (t w : List ℕ) (most : ℕ) (r : Bool) : Type 0 where

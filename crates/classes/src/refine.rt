@@ -1,11 +1,11 @@
 // Partition refinement over a table (Moore's algorithm, with a split by distances where it drags on): each state's class, rounds that part the classes, until a round parts none. A class goes by its first
 // state, its leader. In a round a state is compared only with the leaders that its old class has so far, which are linked. The work list holds three arrays of
 // n entries: the classes, the classes after the round, the links.
-use crate::change::spread;
-use crate::entries::at;
-use crate::entries::flag;
-use crate::entries::put;
-use crate::entries::target;
+use entries::at;
+use entries::flag;
+use entries::put;
+use entries::target;
+use spread::spread;
 ghost use mathlib.Core.Path.{_≡_};
 ghost use Prim.Native.Nat.{ℕ, _+_, _≤_, _<_};
 ghost use lib.ListN.{length, getD, take};
@@ -13,7 +13,9 @@ ghost use Rattle.automata.specs.Machine.{automaton};
 ghost use Rattle.automata.specs.Refinement.{SameSignature};
 ghost use Rattle.automata.specs.Partition.{classes};
 ghost use Rattle.automata.specs.Table.{tableMachine, ClosedTable};
-ghost use Rattle.classes.specs.Refine.{Says, Compared, SameClass, classOf, next, FirstOther, sideOf, Parted, Sized, Begun, Under, Leads, Placing, Rounded, Refining, Turned};
+ghost use Rattle.entries.specs.Entries.{classOf};
+ghost use Rattle.spread.specs.Classes.{next, Sized, Refining};
+ghost use Rattle.classes.specs.Refine.{Says, Compared, SameClass, FirstOther, sideOf, Parted, Begun, Under, Leads, Placing, Rounded, Turned};
 
 // Rounds before the distances are looked at. No stage of the books in bench/books takes more than 22.
 const FIRST_ROUNDS: usize = 24;

@@ -5,7 +5,7 @@ use Prim.Native.Nat.{_+_, _-_, _≤_}
 use native.Mathlib.Omega.{arith}
 use lib.ListN.{take}
 use Rattle.automata.specs.Table.{tableMachine}
-use Rattle.classes.specs.Refine.{classOf}
+use Rattle.entries.specs.Entries.{classOf}
 use Rattle.classes.proofs.RoundLaws.{SameBelow, row-long, alike-start, alike-parts, alike-more, alike-last, alike-end}
 use Rattle.classes.proofs.refine.alike.Statement.{statement}
 use Rattle.classes.proofs.refine.alike.Tie as tie

@@ -3,7 +3,8 @@ use Prim.Native.Nat.{_<_}
 use native.Mathlib.Omega.{arith}
 use lib.ListN.{take}
 use Rattle.automata.specs.Table.{tableMachine}
-use Rattle.classes.specs.Refine.{classOf, next}
+use Rattle.entries.specs.Entries.{classOf}
+use Rattle.spread.specs.Classes.{next}
 use Rattle.classes.proofs.RoundLaws.{Searching, class-low, class-same, leader-start, leader-first, leader-found, leader-end, leader-next}
 use Rattle.classes.proofs.refine.leader.Statement.{statement}
 use Rattle.classes.proofs.refine.leader.Tie as tie

@@ -1,0 +1,72 @@
+-- How far a change is: of each state the fewest letters that are read before one which changes its answer, as an array of numbers that the moves confirm.
+-- Equivalent states are equally far from a change.
+use mathlib.Core.Path.{_≡_}
+use mathlib.Core.Bool.{Bool, true, false}
+use mathlib.Core.Logic.{_⊎_}
+use mathlib.Core.List.{List}
+use Prim.Native.Nat.{ℕ, suc, _≤_, _<_}
+use lib.ListN.{length, getD}
+use lib.Dec.{eqb}
+use Rattle.automata.specs.Booleans.{choose}
+use Rattle.automata.specs.Machine.{automaton}
+use Rattle.automata.specs.Refinement.{Coarse}
+use Rattle.automata.specs.Table.{tableMachine}
+use Rattle.entries.specs.Entries.{flagBit}
+use Rattle.spread.specs.Classes.{next, Sized}
+
+-- From a state that answers a by a move to one that answers b and has the number f: nothing is read before the change where the answers differ.
+unfoldable pub behind : ℕ → ℕ → ℕ → ℕ
+behind a b f = choose (eqb a b) (λ _. suc f) (λ _. 0)
+
+-- The same for column c of state p; the numbers stand in the second array.
+abbrev pub after : ℕ → ℕ → ℕ → List ℕ → List ℕ → ℕ → ℕ → ℕ
+after base n k t w p c =
+    let s = automaton (tableMachine base n k t) .step p c in
+    behind (flagBit t p) (flagBit t s) (next n w s)
+
+-- r is the least of what is known behind the first m columns of state p, n - 1 at most.
+pub record Nearest (base n k : ℕ) (t w : List ℕ) (p m r : ℕ) : Type 0 where
+  pub most : r < n
+  pub low : (c : ℕ) → c < m → r ≤ after base n k t w p c
+  pub met : (suc r ≡ n) ⊎ ((c : ℕ) × (c < m) × (after base n k t w p c ≡ r))
+
+-- Each number is n - 1, or a move shows no farther a change.
+pub record Backed (base n k : ℕ) (t w : List ℕ) : Type 0 where
+  pub most : (p : ℕ) → p < n → next n w p < n
+  pub back : (p : ℕ) → p < n → (suc (next n w p) ≡ n) ⊎ ((c : ℕ) × (c < k) × (after base n k t w p c ≤ next n w p))
+
+-- No move of the states below m shows a nearer change.
+pub record Closed (base n k : ℕ) (t w : List ℕ) (m : ℕ) : Type 0 where
+  pub near : (p c : ℕ) → p < m → c < k → next n w p ≤ after base n k t w p c
+
+-- Equivalent states have the same number.
+abbrev pub Alike : ℕ → ℕ → ℕ → List ℕ → List ℕ → Type 0
+Alike base n k t w = Coarse k (tableMachine base n k t) (next n w)
+
+-- A table, its arrays, and numbers that are backed.
+pub record Measured (base n k : ℕ) (t w : List ℕ) : Type 0 where
+  pub sized : Sized base n k t w
+  pub backed : Backed base n k t w
+
+-- The classes are as they were.
+pub record SameClasses (n : ℕ) (w w′ : List ℕ) : Type 0 where
+  pub long : length w′ ≡ length w
+  pub classes : (p : ℕ) → p < n → getD w′ p 0 ≡ getD w p 0
+
+-- State p's number was lowered, or nothing changed and no move of p shows a nearer change.
+pub record Lowered (base n k : ℕ) (t w w′ : List ℕ) (p : ℕ) (r : Bool) : Type 0 where
+  pub backed : Backed base n k t w′
+  pub kept : SameClasses n w w′
+  pub no : r ≡ false → (w′ ≡ w) × ((c : ℕ) → c < k → next n w p ≤ after base n k t w p c)
+
+-- A sweep keeps the numbers backed; where it lowers none, they are closed.
+pub record Swept (base n k : ℕ) (t w w′ : List ℕ) (m : ℕ) (changed : Bool) : Type 0 where
+  pub backed : Backed base n k t w′
+  pub kept : SameClasses n w w′
+  pub closed : changed ≡ false → Closed base n k t w′ m
+
+-- The numbers are settled, or say nothing.
+pub record Settling (base n k : ℕ) (t w w′ : List ℕ) (r : Bool) : Type 0 where
+  pub kept : SameClasses n w w′
+  pub most : (p : ℕ) → p < n → next n w′ p < n
+  pub alike : r ≡ true → Alike base n k t w′

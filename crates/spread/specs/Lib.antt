@@ -1,0 +1,3 @@
+pub mod Classes
+pub mod Change
+pub mod Gather
