@@ -1,43 +1,39 @@
--- How far a change is: of each state the fewest letters that are read before one which changes its answer, as an array of numbers that the moves confirm.
--- Equivalent states are equally far from a change.
+-- How far a change is from the states of a table: the second array has of each state the fewest letters that are read before one which changes its answer.
 use mathlib.Core.Path.{_≡_}
 use mathlib.Core.Bool.{Bool, true, false}
-use mathlib.Core.Logic.{_⊎_}
 use mathlib.Core.List.{List}
 use Prim.Native.Nat.{ℕ, suc, _≤_, _<_}
 use lib.ListN.{length, getD}
-use lib.Dec.{eqb}
-use Rattle.automata.specs.Booleans.{choose}
 use Rattle.automata.specs.Machine.{automaton}
 use Rattle.automata.specs.Refinement.{Coarse}
 use Rattle.automata.specs.Table.{tableMachine}
+use Rattle.distance.specs.Distance as distance
 use Rattle.entries.specs.Entries.{flagBit}
 use Rattle.spread.specs.Classes.{next, Sized}
 
--- From a state that answers a by a move to one that answers b and has the number f: nothing is read before the change where the answers differ.
-unfoldable pub behind : ℕ → ℕ → ℕ → ℕ
-behind a b f = choose (eqb a b) (λ _. suc f) (λ _. 0)
+-- How far a change is from state p: these letters, and the one that changes its answer.
+abbrev pub far : ℕ → List ℕ → ℕ → ℕ
+far n w p = suc (next n w p)
 
--- The same for column c of state p; the numbers stand in the second array.
+-- Where column c leads from state p.
+abbrev pub leads : ℕ → ℕ → ℕ → List ℕ → ℕ → ℕ → ℕ
+leads base n k t p c = automaton (tableMachine base n k t) .step p c
+
+-- What is known behind column c of state p.
 abbrev pub after : ℕ → ℕ → ℕ → List ℕ → List ℕ → ℕ → ℕ → ℕ
-after base n k t w p c =
-    let s = automaton (tableMachine base n k t) .step p c in
-    behind (flagBit t p) (flagBit t s) (next n w s)
+after base n k t w p c = distance.after (flagBit t) (leads base n k t) (far n w) p c
 
 -- r is the least of what is known behind the first m columns of state p, n - 1 at most.
 pub record Nearest (base n k : ℕ) (t w : List ℕ) (p m r : ℕ) : Type 0 where
-  pub most : r < n
-  pub low : (c : ℕ) → c < m → r ≤ after base n k t w p c
-  pub met : (suc r ≡ n) ⊎ ((c : ℕ) × (c < m) × (after base n k t w p c ≡ r))
+  pub least : distance.Nearest n (after base n k t w p) m r
 
 -- Each number is n - 1, or a move shows no farther a change.
 pub record Backed (base n k : ℕ) (t w : List ℕ) : Type 0 where
-  pub most : (p : ℕ) → p < n → next n w p < n
-  pub back : (p : ℕ) → p < n → (suc (next n w p) ≡ n) ⊎ ((c : ℕ) × (c < k) × (after base n k t w p c ≤ next n w p))
+  pub numbers : distance.Backed n n k (flagBit t) (leads base n k t) (far n w)
 
 -- No move of the states below m shows a nearer change.
 pub record Closed (base n k : ℕ) (t w : List ℕ) (m : ℕ) : Type 0 where
-  pub near : (p c : ℕ) → p < m → c < k → next n w p ≤ after base n k t w p c
+  pub numbers : distance.Closed k (flagBit t) (leads base n k t) (far n w) m
 
 -- Equivalent states have the same number.
 abbrev pub Alike : ℕ → ℕ → ℕ → List ℕ → List ℕ → Type 0
@@ -57,7 +53,7 @@ pub record SameClasses (n : ℕ) (w w′ : List ℕ) : Type 0 where
 pub record Lowered (base n k : ℕ) (t w w′ : List ℕ) (p : ℕ) (r : Bool) : Type 0 where
   pub backed : Backed base n k t w′
   pub kept : SameClasses n w w′
-  pub no : r ≡ false → (w′ ≡ w) × ((c : ℕ) → c < k → next n w p ≤ after base n k t w p c)
+  pub no : r ≡ false → (w′ ≡ w) × ((c : ℕ) → c < k → far n w p ≤ suc (after base n k t w p c))
 
 -- A sweep keeps the numbers backed; where it lowers none, they are closed.
 pub record Swept (base n k : ℕ) (t w w′ : List ℕ) (m : ℕ) (changed : Bool) : Type 0 where

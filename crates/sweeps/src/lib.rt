@@ -7,8 +7,9 @@ ghost use mathlib.Core.Logic.{_⊎_};
 ghost use mathlib.Core.Path.{_≡_};
 ghost use Prim.Native.Nat.{ℕ, _+_, _*_, _≤_, _<_};
 ghost use lib.ListN.{length, getD, replicate};
+ghost use Rattle.distance.specs.Distance.{behind as behindOf};
 ghost use Rattle.moves.specs.Holds.{Table};
-ghost use Rattle.sweeps.specs.Change.{AcceptKeys, behind as behindOf, Nearest, Lowered, Backed, Swept, Alike};
+ghost use Rattle.sweeps.specs.Change.{AcceptKeys, Nearest, Lowered, Backed, Swept, Alike};
 
 // So many pairs of sweeps at most.
 const PAIRS: usize = 8;
@@ -85,7 +86,7 @@ fn descend(marks: &[u8], moves: &[u8], m: usize, keys: &[u8; 120], far: &mut [u8
 fn ascend(marks: &[u8], moves: &[u8], m: usize, keys: &[u8; 120], far: &mut [u8; 120]) -> bool
     requires { ⌜ Table 120 m (now marks) (now moves) ⌝ }
     requires { ⌜ Backed m (length (now marks)) (now moves) (now keys) (now far) ⌝ }
-    ensures { λ r. ⌜ Swept m (length (now (marks .entry))) (now (moves .entry)) (now (keys .entry)) (now (far .exit)) r ⌝ }
+    ensures { λ r. ⌜ Swept m (length (now (marks .entry))) (now (moves .entry)) (now (keys .entry)) (now (far .exit)) (length (now (marks .entry))) r ⌝ }
 {
     let mut changed = false;
     let mut p = 0;

@@ -5,13 +5,14 @@ use native.Mathlib.Nat.{zero-mul}
 use native.Mathlib.Omega.{arith}
 use lib.ListN.{length}
 use borrow.Author.Needs.{needs}
-use Rattle.sweeps.proofs.ChangeLaws.{AscendUpto, ascend-start, ascend-yes, ascend-no, ascend-done, lowered-room}
+use Rattle.sweeps.specs.Change.{Swept}
+use Rattle.sweeps.proofs.ChangeLaws.{ascend-start, ascend-yes, ascend-no, ascend-done, lowered-room}
 use Rattle.moves.specs.TableLaws.{row-on, row-room, below-most}
 use Rattle.sweeps.proofs.ascend.Statement.{statement}
 use Rattle.sweeps.proofs.ascend.Tie as tie
 
 abbrev Inv-loop : tie.InvT-loop
-Inv-loop marks moves m keys far₀ changed₀ p₀ at₀ far changed p at = (p ≤ length marks) × (at ≡ p * m) × AscendUpto m (length marks) moves keys far p changed
+Inv-loop marks moves m keys far₀ changed₀ p₀ at₀ far changed p at = (p ≤ length marks) × (at ≡ p * m) × Swept m (length marks) moves keys far p changed
 
 abbrev μ-loop : tie.MeasureT-loop
 μ-loop marks moves m keys far₀ changed₀ p₀ at₀ far changed p at = length marks - p

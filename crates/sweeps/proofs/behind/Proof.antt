@@ -1,6 +1,6 @@
 -- `behind` meets its contract.
 use mathlib.Core.Path.{sym}
-use Rattle.sweeps.proofs.ChangeLaws.{behind-same, behind-other}
+use Rattle.distance.specs.DistanceLaws.{behind-same, behind-other}
 use Rattle.sweeps.proofs.behind.Statement.{statement}
 use Rattle.sweeps.proofs.behind.Tie as tie
 

@@ -6,7 +6,7 @@ use Rattle.sweeps.proofs.lower.Statement.{statement}
 use Rattle.sweeps.proofs.lower.Tie as tie
 
 add-y : tie.Need-add-y
-add-y c = omega (arith, c .nearest .ensures .most)
+add-y c = omega (arith, c .nearest .ensures .least .most)
 
 returns : tie.Need-returns
 returns c = lowered-yes _ _ _ _ _ _ _ (c .before .before .nearest .ensures) (c .before .before .before .before .before .before .pre .0 .3) (c .if1 .taken)

@@ -2,12 +2,13 @@
 use Prim.Native.Nat.{_+_, _≤_, _-_}
 use native.Mathlib.Omega.{arith}
 use borrow.Author.Needs.{needs}
-use Rattle.sweeps.proofs.ChangeLaws.{NearUpto, near-start, near-next, near-done}
+use Rattle.sweeps.specs.Change.{Nearest}
+use Rattle.sweeps.proofs.ChangeLaws.{near-start, near-next, near-done}
 use Rattle.sweeps.proofs.nearest.Statement.{statement}
 use Rattle.sweeps.proofs.nearest.Tie as tie
 
 abbrev Inv-loop : tie.InvT-loop
-Inv-loop moves at m side keys far best₀ i₀ best i = (i ≤ m) × NearUpto moves at i side keys far best
+Inv-loop moves at m side keys far best₀ i₀ best i = (i ≤ m) × Nearest moves at i side keys far best
 
 abbrev μ-loop : tie.MeasureT-loop
 μ-loop moves at m side keys far best₀ i₀ best i = m - i

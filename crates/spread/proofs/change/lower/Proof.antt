@@ -19,7 +19,7 @@ add-put : tie.Need-add-put
 add-put c = omega (arith, c .before .before .before .before .before .before .before .before .pre .0 .sized .few, c .before .before .before .before .before .before .before .before .pre .1)
 
 put-requires : tie.Need-put-requires
-put-requires c κs = (omega (arith, c .before .before .before .before .before .before .before .before .pre .0 .sized .room, c .before .before .before .before .before .before .before .before .pre .1), omega (arith, c .before .before .before .before .before .before .before .before .pre .0 .sized .few, c .before .before .before .before .nearest .ensures .most))
+put-requires c κs = (omega (arith, c .before .before .before .before .before .before .before .before .pre .0 .sized .room, c .before .before .before .before .before .before .before .before .pre .1), omega (arith, c .before .before .before .before .before .before .before .before .pre .0 .sized .few, c .before .before .before .before .nearest .ensures .least .most))
 
 same-length : tie.Need-same-length
 same-length c = search needs

@@ -39,7 +39,7 @@ at-requires : tie.Need-at-requires Inv-loop μ-loop
 at-requires c κs = omega (arith, c .before .before .target .ensures .inside, c .before .before .before .before .before .before .before .before .pre .0 .sized .room)
 
 add-x : tie.Need-add-x Inv-loop μ-loop
-add-x c = omega (arith, c .at .ensures, c .before .before .before .before .before .before .before .before .before .pre .0 .backed .most _ (c .before .before .before .target .ensures .inside), c .before .before .before .before .before .before .before .before .before .pre .0 .sized .few)
+add-x c = omega (arith, c .at .ensures, c .before .before .before .before .before .before .before .before .before .pre .0 .backed .numbers .most _ (c .before .before .before .target .ensures .inside), c .before .before .before .before .before .before .before .before .before .pre .0 .sized .few)
 
 loop-again : tie.Need-loop-again Inv-loop μ-loop
 loop-again c = (omega arith, near-next _ _ _ _ _ _ _ _ _ _ _ _ _ _ (c .before .before .before .before .target .ensures) (c .before .before .before .flag2 .ensures) (c .before .before .before .before .before .before .before .flag .ensures) (c .before .before .if1 .left) (c .before .at .ensures) refl (c .before .before .before .before .before .before .loop .inv .1) (c .least .ensures))
