@@ -1,3 +1,3 @@
 -- What the proofs of several functions use.
-pub mod RoundLaws
+pub mod PlaceLaws
 pub mod RefineLaws

@@ -3,12 +3,12 @@ use mathlib.Core.Path.{_≡_, refl, sym, ap, _∙_}
 use mathlib.Core.Bool.{Bool, true, false, cond, true≢false, false≢true}
 use mathlib.Core.Logic.{_⊎_, inl, inr, _≢_}
 use mathlib.Core.List.{List, [], _∷_}
-use Prim.Native.Nat.{ℕ, zero, suc, _+_, _-_, _≤_, _<_, zero-le}
+use Prim.Native.Nat.{ℕ, zero, suc, _+_, _≤_, _<_, zero-le}
 use native.Mathlib.Nat.{le-refl, not-suc-le-zero}
 use native.Mathlib.Numerals.{add-one}
 use native.Mathlib.Omega.{arith}
-use lib.ListN.{length, getD, take, set}
-use lib.Seq.{getD-take, getD-set-same, getD-set-other, length-take-le, ext-getD}
+use lib.ListN.{length, getD, take}
+use lib.Seq.{getD-take, length-take-le, ext-getD}
 use lib.Dec.{eqb}
 use Rattle.automata.specs.Booleans.{bool-cases}
 use Rattle.automata.specs.Basics.{LtCases, SameCases, lt-cases, same-cases, nat-test}
@@ -18,10 +18,11 @@ use Rattle.automata.specs.Refinement.{SameSignature, Coarse, Settled, settled-e
 use Rattle.automata.specs.Table.{flagOf, tableMachine, table-size, table-formed, table-accepting}
 use borrow.Author.Tests.{eq-eqb, ne-eqb}
 use Rattle.entries.specs.Entries.{classOf, flagBit}
-use Rattle.spread.specs.Classes.{next, Led, Told, leaders, Sized, Refining}
-use Rattle.classes.specs.Refine.{FirstOther, sideOf, Parted, Placed, Partial, Turned, Begun, Under, Placing, Rounded}
+use Rattle.entries.specs.Classes.{next, Led, leaders, Sized, Refining}
+use Rattle.leaders.specs.Round.{Placed, Partial, Under}
+use Rattle.classes.specs.Refine.{FirstOther, sideOf, Parted, Turned, Begun, Placing, Rounded}
 use Rattle.entries.proofs.EntryLaws.{bit-same}
-use Rattle.classes.proofs.RoundLaws.{together-sym, together-trans}
+use Rattle.leaders.proofs.RoundLaws.{together-sym, together-trans}
 
 -- ---- a whole round
 

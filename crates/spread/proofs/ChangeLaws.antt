@@ -13,7 +13,7 @@ use Rattle.automata.specs.Partition.{bit}
 use Rattle.automata.specs.Table.{tableMachine, ClosedTable, table-size, table-accepting, table-formed}
 use Rattle.distance.specs.DistanceLaws as laws
 use Rattle.entries.specs.Entries.{flagBit, Target}
-use Rattle.spread.specs.Classes.{next, Sized}
+use Rattle.entries.specs.Classes.{next, Sized}
 use Rattle.spread.specs.Change.{far, leads, after, Nearest, Backed, Closed, Alike, Measured, SameClasses, Lowered, Swept, Settling}
 
 -- ---- the least of some columns

@@ -3,18 +3,17 @@ use mathlib.Core.Path.{_≡_, refl, sym, ap, _∙_}
 use mathlib.Core.Bool.{Bool, true, false, not, true≢false}
 use mathlib.Core.Logic.{_⊎_, inl, inr, _≢_}
 use mathlib.Core.List.{List, []}
-use Prim.Native.Nat.{ℕ, zero, suc, _+_, _-_, _≤_, _<_, zero-le}
-use native.Mathlib.Nat.{le-refl, not-suc-le-zero}
+use Prim.Native.Nat.{ℕ, suc, _+_, _-_, _≤_, _<_, zero-le}
+use native.Mathlib.Nat.{not-suc-le-zero}
 use native.Mathlib.Omega.{arith}
 use lib.ListN.{length, getD, take, set, length-set}
 use lib.Seq.{getD-set-same, getD-set-other, getD-take, length-take-le, ext-getD}
-use lib.Dec.{eqb}
 use Rattle.automata.specs.Basics.{LtCases, lt-cases, SameCases, same-cases, nat-test}
-use Rattle.automata.specs.Machine.{Machine, size, automaton, Equivalent}
+use Rattle.automata.specs.Machine.{size, automaton}
 use Rattle.automata.specs.Partition.{bit}
 use Rattle.automata.specs.Table.{flagOf, tableMachine, ClosedTable, table-size, table-accepting}
 use Rattle.entries.specs.Entries.{classOf, flagBit}
-use Rattle.spread.specs.Classes.{next, Sized, Refining}
+use Rattle.entries.specs.Classes.{next, Sized, Refining}
 use Rattle.spread.specs.Change.{Alike, SameClasses, Settling}
 use Rattle.spread.specs.Gather.{firstOf, On, Gathered, Gathering, joined, Numbered}
 use Rattle.entries.proofs.EntryLaws.{bit-same}

@@ -9,7 +9,7 @@ use Rattle.automata.specs.Refinement.{Coarse}
 use Rattle.automata.specs.Table.{tableMachine}
 use Rattle.distance.specs.Distance as distance
 use Rattle.entries.specs.Entries.{flagBit}
-use Rattle.spread.specs.Classes.{next, Sized}
+use Rattle.entries.specs.Classes.{next, Sized}
 
 -- How far a change is from state p: these letters, and the one that changes its answer.
 abbrev pub far : ℕ → List ℕ → ℕ → ℕ

@@ -7,7 +7,7 @@ use lib.ListN.{length, getD, set}
 use lib.Dec.{eqb}
 use Rattle.automata.specs.Booleans.{choose}
 use Rattle.entries.specs.Entries.{flagBit}
-use Rattle.spread.specs.Classes.{next}
+use Rattle.entries.specs.Classes.{next}
 
 -- The first state with a number, plus 1, or 0: the third array, by the number.
 abbrev pub firstOf : ℕ → List ℕ → ℕ → ℕ

@@ -9,7 +9,7 @@ ghost use mathlib.Core.Logic.{_⊎_};
 ghost use mathlib.Core.Path.{_≡_};
 ghost use Prim.Native.Nat.{ℕ, suc, _+_, _≤_, _<_};
 ghost use lib.ListN.{length};
-ghost use Rattle.spread.specs.Classes.{next, Sized};
+ghost use Rattle.entries.specs.Classes.{next, Sized};
 ghost use Rattle.spread.specs.Change.{Nearest, Measured, Lowered, Swept, Settling, SameClasses, Backed};
 
 // How many pairs of sweeps are tried.

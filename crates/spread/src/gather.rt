@@ -5,7 +5,7 @@ use entries::put;
 ghost use mathlib.Core.Path.{_≡_};
 ghost use Prim.Native.Nat.{ℕ, _+_, _≤_, _<_};
 ghost use lib.ListN.{length, getD};
-ghost use Rattle.spread.specs.Classes.{next};
+ghost use Rattle.entries.specs.Classes.{next};
 ghost use Rattle.spread.specs.Gather.{Numbered, Gathered, firstOf, joined};
 
 // No state has a number yet.

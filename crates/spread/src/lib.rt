@@ -2,7 +2,7 @@
 mod change;
 mod gather;
 
-ghost use Rattle.spread.specs.Classes.{Sized, Refining};
+ghost use Rattle.entries.specs.Classes.{Sized, Refining};
 
 // Classes by answer and number, in place of those that some rounds found; where the numbers do not settle, the classes stay.
 pub fn spread(table: &[u16], base: usize, n: usize, k: usize, work: &mut [u16])

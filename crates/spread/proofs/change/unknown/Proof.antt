@@ -5,7 +5,7 @@ use Prim.Native.Nat.{ℕ, suc, _+_, _-_, _≤_, _<_}
 use native.Mathlib.Omega.{arith}
 use native.Mathlib.Nat.{not-suc-le-zero}
 use lib.ListN.{length}
-use Rattle.spread.specs.Classes.{next}
+use Rattle.entries.specs.Classes.{next}
 use Rattle.spread.specs.Change.{SameClasses}
 use Rattle.spread.proofs.ChangeLaws.{same-classes-refl, unknown-more, unknown-kept}
 use Rattle.spread.proofs.change.unknown.Statement.{statement}

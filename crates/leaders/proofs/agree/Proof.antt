@@ -1,8 +1,8 @@
 -- `agree` meets its contract.
 use borrow.Author.Needs.{needs}
-use Rattle.classes.proofs.RoundLaws.{agree-no, agree-yes}
-use Rattle.classes.proofs.refine.agree.Statement.{statement}
-use Rattle.classes.proofs.refine.agree.Tie as tie
+use Rattle.leaders.proofs.RoundLaws.{agree-no, agree-yes}
+use Rattle.leaders.proofs.agree.Statement.{statement}
+use Rattle.leaders.proofs.agree.Tie as tie
 
 returns : tie.Need-returns
 returns c = agree-no (c .before .before .before .before .before .before .before .pre .0) _ _ _ _ _ (c .before .before .before .before .target .ensures) (c .before .before .before .target2 .ensures) (c .before .before .at .ensures) (c .before .at2 .ensures) (c .if1 .taken)

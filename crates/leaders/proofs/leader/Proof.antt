@@ -4,10 +4,10 @@ use native.Mathlib.Omega.{arith}
 use lib.ListN.{take}
 use Rattle.automata.specs.Table.{tableMachine}
 use Rattle.entries.specs.Entries.{classOf}
-use Rattle.spread.specs.Classes.{next}
-use Rattle.classes.proofs.RoundLaws.{Searching, class-low, class-same, leader-start, leader-first, leader-found, leader-end, leader-next}
-use Rattle.classes.proofs.refine.leader.Statement.{statement}
-use Rattle.classes.proofs.refine.leader.Tie as tie
+use Rattle.entries.specs.Classes.{next}
+use Rattle.leaders.proofs.RoundLaws.{Searching, class-low, class-same, leader-start, leader-first, leader-found, leader-end, leader-next}
+use Rattle.leaders.proofs.leader.Statement.{statement}
+use Rattle.leaders.proofs.leader.Tie as tie
 
 abbrev Inv-loop : tie.InvT-loop
 Inv-loop table base n k work p c r₀ r = Searching k (tableMachine base n k table) (classOf (take n work)) (next n work) p r

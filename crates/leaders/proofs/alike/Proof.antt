@@ -6,9 +6,9 @@ use native.Mathlib.Omega.{arith}
 use lib.ListN.{take}
 use Rattle.automata.specs.Table.{tableMachine}
 use Rattle.entries.specs.Entries.{classOf}
-use Rattle.classes.proofs.RoundLaws.{SameBelow, row-long, alike-start, alike-parts, alike-more, alike-last, alike-end}
-use Rattle.classes.proofs.refine.alike.Statement.{statement}
-use Rattle.classes.proofs.refine.alike.Tie as tie
+use Rattle.leaders.proofs.RoundLaws.{SameBelow, row-long, alike-start, alike-parts, alike-more, alike-last, alike-end}
+use Rattle.leaders.proofs.alike.Statement.{statement}
+use Rattle.leaders.proofs.alike.Tie as tie
 
 abbrev Inv-loop : tie.InvT-loop
 Inv-loop table base n k work p q c₀ c = (c ≤ k) × SameBelow k (tableMachine base n k table) (classOf (take n work)) p q c
