@@ -1,6 +1,3 @@
 -- What the proofs of several functions use.
-pub mod EntryLaws
-pub mod RoundLaws
+pub mod PlaceLaws
 pub mod RefineLaws
-pub mod ChangeLaws
-pub mod SpreadLaws

@@ -3,12 +3,12 @@ use mathlib.Core.Path.{_≡_, refl, sym, ap, _∙_}
 use mathlib.Core.Bool.{Bool, true, false, cond, true≢false, false≢true}
 use mathlib.Core.Logic.{_⊎_, inl, inr, _≢_}
 use mathlib.Core.List.{List, [], _∷_}
-use Prim.Native.Nat.{ℕ, zero, suc, _+_, _-_, _≤_, _<_, zero-le}
+use Prim.Native.Nat.{ℕ, zero, suc, _+_, _≤_, _<_, zero-le}
 use native.Mathlib.Nat.{le-refl, not-suc-le-zero}
 use native.Mathlib.Numerals.{add-one}
 use native.Mathlib.Omega.{arith}
-use lib.ListN.{length, getD, take, set}
-use lib.Seq.{getD-take, getD-set-same, getD-set-other, length-take-le, ext-getD}
+use lib.ListN.{length, getD, take}
+use lib.Seq.{getD-take, length-take-le, ext-getD}
 use lib.Dec.{eqb}
 use Rattle.automata.specs.Booleans.{bool-cases}
 use Rattle.automata.specs.Basics.{LtCases, SameCases, lt-cases, same-cases, nat-test}
@@ -17,9 +17,12 @@ use Rattle.automata.specs.Partition.{bit, classes, classes-whole, classes-low, 
 use Rattle.automata.specs.Refinement.{SameSignature, Coarse, Settled, settled-equivalent}
 use Rattle.automata.specs.Table.{flagOf, tableMachine, table-size, table-formed, table-accepting}
 use borrow.Author.Tests.{eq-eqb, ne-eqb}
-use Rattle.classes.specs.Refine.{classOf, next, flagBit, FirstOther, sideOf, Parted, Led, Told, leaders, Placed, Partial, Sized, Refining, Turned, Begun, Under, Placing, Rounded}
-use Rattle.classes.proofs.EntryLaws.{bit-same}
-use Rattle.classes.proofs.RoundLaws.{together-sym, together-trans}
+use Rattle.entries.specs.Entries.{classOf, flagBit}
+use Rattle.entries.specs.Classes.{next, Led, leaders, Sized, Refining}
+use Rattle.leaders.specs.Round.{Placed, Partial, Under}
+use Rattle.classes.specs.Refine.{FirstOther, sideOf, Parted, Turned, Begun, Placing, Rounded}
+use Rattle.entries.proofs.EntryLaws.{bit-same}
+use Rattle.leaders.proofs.RoundLaws.{together-sym, together-trans}
 
 -- ---- a whole round
 
@@ -294,16 +297,3 @@ turned-way base n k t v c R h = record {
 -- no more classes than states
 pub refine-many : (base n k : ℕ) (t v : List ℕ) (c : ℕ) → Refining base n k t v c → c ≤ n
 refine-many base n k t v c R = omega (arith, R .counted, leaders-le (classOf (take n v)) n)
-
--- ---- arrays that are filled from the front
-
-pub filled-more : (w w′ : List ℕ) (i v : ℕ) (g : ℕ → ℕ) → w′ ≡ set w i v → i < length w → ((p : ℕ) → p < i → getD w p 0 ≡ g p) → v ≡ g i
-    → (p : ℕ) → p < i + 1 → getD w′ p 0 ≡ g p
-filled-more w w′ i v g s h f e p b = rw s (go (lt-cases p i))
-  where
-    go : LtCases p i → getD (set w i v) p 0 ≡ g p
-    go (inl x) = getD-set-other w i p v 0 (omega (arith, x .0)) ∙ f p (x .0)
-    go (inr x) = let z : p ≡ i = omega arith in rw z (getD-set-same w i v 0 h ∙ e)
-
-pub filled-past : (w w′ : List ℕ) (i v n : ℕ) (g : ℕ → ℕ) → w′ ≡ set w i v → i < n → ((q : ℕ) → n ≤ q → getD w q 0 ≡ g q) → (q : ℕ) → n ≤ q → getD w′ q 0 ≡ g q
-filled-past w w′ i v n g s h f q b = rw s (getD-set-other w i q v 0 (omega arith) ∙ f q b)

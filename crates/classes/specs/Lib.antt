@@ -1,2 +1,1 @@
 pub mod Refine
-pub mod Change

@@ -1,98 +1,16 @@
--- Partition refinement over a table, as code keeps it in one list of numbers: the class of each state (a state of it, its leader), the class after the round,
--- and the leaders of each class linked from the latest to the first. What holds of these arrays when the states below m have been placed in a round.
+-- Partition refinement over a table: the classes to begin with, one state placed, a whole round, and some rounds.
 use mathlib.Core.Path.{_≡_}
 use mathlib.Core.Bool.{Bool, true, false, cond}
 use mathlib.Core.Logic.{_≢_}
 use mathlib.Core.List.{List}
-use Prim.Native.Nat.{ℕ, zero, suc, _+_, _≤_, _<_}
-use lib.ListN.{length, getD, take}
+use Prim.Native.Nat.{ℕ, suc, _+_, _≤_, _<_}
+use lib.ListN.{getD, take}
 use lib.Dec.{eqb}
-use Rattle.automata.specs.Machine.{Machine, automaton}
-use Rattle.automata.specs.Refinement.{SameSignature, Coarse}
-use Rattle.automata.specs.Partition.{bit, classes}
-use Rattle.automata.specs.Table.{flagOf, tableMachine, ClosedTable}
-
--- An answer says whether P holds.
-pub record Says (r : Bool) (P : Type 0) : Type 0 where
-  pub yes : r ≡ true → P
-  pub no : r ≡ false → P → ⊥
-
--- r is the state that column c of the table leads to from state p.
-pub record Target (base n k : ℕ) (t : List ℕ) (p c r : ℕ) : Type 0 where
-  pub step : r ≡ automaton (tableMachine base n k t) .step p c
-  pub inside : r < n
-
--- The three arrays of n entries: the class of a state, its class after the round, and the links.
-abbrev pub classOf : List ℕ → ℕ → ℕ
-classOf cls p = getD cls p zero
-
-abbrev pub next : ℕ → List ℕ → ℕ → ℕ
-next n w p = getD w (n + p) zero
-
-abbrev pub link : ℕ → List ℕ → ℕ → ℕ
-link n w p = getD w (n + (n + p)) zero
-
--- Two states of a table are to be compared by the classes that their columns lead to.
-pub record Compared (base n k p q : ℕ) (t w : List ℕ) : Type 0 where
-  pub closed : ClosedTable base n k t
-  pub room : n ≤ length w
-  pub one : p < n
-  pub other : q < n
-
--- Column c leads p and q to one class.
-pub record SameClass (M : Machine) (f : ℕ → ℕ) (p q c : ℕ) : Type 0 where
-  pub step : f (automaton M .step p c) ≡ f (automaton M .step q c)
-
--- A class goes by a state of it, its leader, and no state of it comes before the leader.
-pub record Led (n : ℕ) (f : ℕ → ℕ) : Type 0 where
-  pub low : (p : ℕ) → p < n → f p ≤ p
-  pub again : (p : ℕ) → p < n → f (f p) ≡ f p
-
--- States of one class answer alike.
-abbrev pub Told : ℕ → Machine → (ℕ → ℕ) → Type 0
-Told n M f = (p q : ℕ) → p < n → q < n → f p ≡ f q → automaton M .accepting p ≡ automaton M .accepting q
-
--- how many states below m lead a class
-unfoldable pub leaders : (ℕ → ℕ) → ℕ → ℕ
-leaders g zero = zero
-leaders g (suc m) = let r = leaders g m in cond (eqb (g m) m) (suc r) r
-
--- A round keeps p and q together: they are in one class, and it sees the same of both.
-pub record Together (k : ℕ) (M : Machine) (f : ℕ → ℕ) (p q : ℕ) : Type 0 where
-  pub class : f p ≡ f q
-  pub signature : SameSignature k M f p q
-
--- The states below m are placed: each goes with the first that the round keeps together with it.
-pub record Placed (k : ℕ) (M : Machine) (f g : ℕ → ℕ) (m : ℕ) : Type 0 where
-  pub low : (p : ℕ) → p < m → g p ≤ p
-  pub again : (p : ℕ) → p < m → g (g p) ≡ g p
-  pub sound : (p : ℕ) → p < m → Together k M f (g p) p
-  pub whole : (p q : ℕ) → p < m → q < m → Together k M f p q → g p ≡ g q
-
--- s is the latest leader below b that was in class c
-pub record Latest (f g : ℕ → ℕ) (c s b : ℕ) : Type 0 where
-  pub below : s < b
-  pub class : f s ≡ c
-  pub leads : g s ≡ s
-  pub none : (q : ℕ) → s < q → q < b → g q ≡ q → f q ≡ c → ⊥
-
--- The leader of an old class is linked to the latest leader in it, each later one to the one before it.
-pub record Linked (f g l : ℕ → ℕ) (m : ℕ) : Type 0 where
-  pub head : (p : ℕ) → p < m → f p ≡ p → Latest f g p (l p) m
-  pub inner : (p : ℕ) → p < m → g p ≡ p → f p ≢ p → Latest f g (f p) (l p) p
-
--- the arrays of w when the states below m are placed
-pub record Partial (k n : ℕ) (M : Machine) (cls w : List ℕ) (m : ℕ) : Type 0 where
-  pub kept : take n w ≡ cls
-  pub led : Led n (classOf cls)
-  pub placed : Placed k M (classOf cls) (next n w) m
-  pub linked : Linked (classOf cls) (next n w) (link n w) m
-
--- ---- the classes to begin with
-
--- a state's flag as 0 or 1
-abbrev pub flagBit : List ℕ → ℕ → ℕ
-flagBit t p = bit (flagOf (getD t p 0))
+use Rattle.automata.specs.Partition.{classes}
+use Rattle.automata.specs.Table.{tableMachine}
+use Rattle.entries.specs.Entries.{classOf, flagBit}
+use Rattle.entries.specs.Classes.{next, Led, Told, leaders, Sized, Refining}
+use Rattle.leaders.specs.Round.{Placed, Partial}
 
 -- r is the first of the n states that does not answer as state 0 does, or n.
 pub record FirstOther (n : ℕ) (t : List ℕ) (r : ℕ) : Type 0 where
@@ -110,19 +28,6 @@ pub record Parted (n : ℕ) (t w : List ℕ) : Type 0 where
   pub first : FirstOther n t other
   pub class : (p : ℕ) → p < n → getD w p 0 ≡ sideOf t other p
 
--- The table, and a list with room for the three arrays.
-pub record Sized (base n k : ℕ) (t w : List ℕ) : Type 0 where
-  pub closed : ClosedTable base n k t
-  pub room : n + (n + n) ≤ length w
-  pub few : n < 65536
-
--- Classes on the way, so many of them at least: each goes by its first state, equivalent states share one, and states that share one answer alike.
-pub record Refining (base n k : ℕ) (t w : List ℕ) (count : ℕ) : Type 0 where
-  pub led : Led n (classOf (take n w))
-  pub coarse : Coarse k (tableMachine base n k t) (classOf (take n w))
-  pub told : Told n (tableMachine base n k t) (classOf (take n w))
-  pub counted : count ≤ leaders (classOf (take n w)) n
-
 -- Some rounds, so many at most: the classes of equivalent states; or classes on the way, and there are more states than rounds.
 pub record Turned (base n k : ℕ) (t w : List ℕ) (most : ℕ) (r : Bool) : Type 0 where
   pub done : r ≡ true → take n w ≡ classes k (tableMachine base n k t)
@@ -133,22 +38,6 @@ pub record Begun (base n k : ℕ) (t w : List ℕ) : Type 0 where
   pub sized : Sized base n k t w
   pub led : Led n (classOf (take n w))
   pub told : Told n (tableMachine base n k t) (classOf (take n w))
-
--- These, and a state that is not yet placed, but all before it are.
-pub record Under (base n k p : ℕ) (t w : List ℕ) : Type 0 where
-  pub closed : ClosedTable base n k t
-  pub room : n + (n + n) ≤ length w
-  pub few : n < 65536
-  pub inside : p < n
-  pub told : Told n (tableMachine base n k t) (classOf (take n w))
-  pub partial : Partial k n (tableMachine base n k t) (take n w) w p
-
--- r is the leader that p goes with: an earlier one, or p itself where the round keeps no earlier leader together with p
-pub record Leads (k : ℕ) (M : Machine) (f g : ℕ → ℕ) (p r : ℕ) : Type 0 where
-  pub low : r ≤ p
-  pub sound : Together k M f r p
-  pub leads : r < p → g r ≡ r
-  pub none : r ≡ p → (s : ℕ) → s < p → g s ≡ s → Together k M f s p → ⊥
 
 -- State p is placed, and r counts it where it leads.
 pub record Placing (base n k p : ℕ) (t w w′ : List ℕ) (r : ℕ) : Type 0 where

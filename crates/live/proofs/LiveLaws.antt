@@ -15,8 +15,8 @@ use Rattle.automata.specs.Live.{Within, live, live-word, live-within, live-dead
 use Rattle.card.specs.Mark.{Mark, markBy, marks-only, marks-getD, is-accepting, is-dead, is-live}
 use Rattle.automata.specs.Basics.{LtCases, lt-cases, nat-test}
 use Rattle.automata.specs.Machine.{Machine, size, automaton}
-use Rattle.partition.specs.Holds.{Table, Holds}
-use Rattle.partition.proofs.TableLaws.{move-inside}
+use Rattle.moves.specs.Holds.{Table, Holds}
+use Rattle.moves.specs.TableLaws.{move-inside}
 use Rattle.live.specs.LiveSweeps.{flagAfter, Leads, Visited, Sweep, FlagsOf, LiveExactly, MarksExactly}
 
 eqb-turn : (a b : ℕ) → eqb a b ≡ eqb b a

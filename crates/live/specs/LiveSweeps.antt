@@ -9,7 +9,7 @@ use lib.Dec.{eqb}
 use Rattle.automata.specs.Machine.{Machine}
 use Rattle.automata.specs.Live.{live}
 use Rattle.card.specs.Mark.{Mark}
-use Rattle.partition.specs.Holds.{Holds}
+use Rattle.moves.specs.Holds.{Holds}
 
 -- the flag of the state that move i of the row at `at` leads to
 abbrev pub flagAfter : List ℕ → ℕ → List Bool → ℕ → Bool

@@ -26,7 +26,7 @@ use Rattle.card.specs.Counts.{Counted}
 use Rattle.card.specs.Load.{loadTest, CardInside, CardMarked, CardNumbered, CardReduced, marksTest, bad-contents, bad-alphabet, transition-out-of-range, not-numbered, loaded}
 use Rattle.card.specs.Answer.{holds, rejected, load, load-holds, load-rejected}
 use Rattle.card.specs.LoadLaws.{tested-only, inside-true, marks-hold, marks-true, reduced-holds}
-use Rattle.partition.specs.Holds.{Table, Holds}
+use Rattle.moves.specs.Holds.{Table, Holds}
 use Rattle.loading.specs.Inside.{InsideExactly}
 use Rattle.loading.specs.Rows.{NumberedExactly}
 use Rattle.live.specs.LiveSweeps.{MarksExactly}

@@ -11,7 +11,7 @@ use lib.ListN.{length, getD}
 use Rattle.automata.specs.Basics.{LtCases, lt-cases}
 use Rattle.automata.specs.Machine.{Machine, size}
 use Rattle.automata.specs.Numbering.{across, seen, Arrival, arrival-sound, arrival-whole}
-use Rattle.partition.specs.Holds.{Holds}
+use Rattle.moves.specs.Holds.{Holds}
 use Rattle.loading.specs.Rows.{seenIn, RowSeen, NumberedExactly}
 
 -- ---- one row

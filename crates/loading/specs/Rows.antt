@@ -6,7 +6,7 @@ use mathlib.Core.List.{List}
 use Prim.Native.Nat.{ℕ, zero, suc, _+_, _≤_, _<_, max}
 use lib.ListN.{getD}
 use Rattle.automata.specs.Machine.{Machine, Numbered}
-use Rattle.partition.specs.Holds.{Holds}
+use Rattle.moves.specs.Holds.{Holds}
 
 -- how many states are seen, where s were, after the first i moves from the place at
 unfoldable pub seenIn : List ℕ → ℕ → ℕ → ℕ → ℕ

@@ -2,7 +2,7 @@
 ghost use mathlib.Core.Path.{_≡_};
 ghost use Prim.Native.Nat.{_+_, _≤_, _<_};
 ghost use lib.ListN.{length};
-ghost use Rattle.partition.specs.Holds.{Table};
+ghost use Rattle.moves.specs.Holds.{Table};
 ghost use Rattle.loading.specs.Rows.{RowSeen, NumberedExactly};
 
 // One state's moves, where `seen` states were seen before: how many are after, or 0 where a move skips a new state.

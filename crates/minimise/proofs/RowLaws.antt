@@ -12,7 +12,7 @@ use Rattle.automata.specs.Automaton.{Automaton}
 use Rattle.automata.specs.Basics.{LtCases, lt-cases, nat-test}
 use Rattle.automata.specs.Listing.{Extends, add, addTo, add-extends}
 use Rattle.automata.specs.Rows.{cell-below}
-use Rattle.classes.specs.Refine.{Target}
+use Rattle.entries.specs.Entries.{Target}
 use Rattle.minimise.specs.Number.{ordered, Roll, Arrived, Goes, classesOf, Rolling, Upto}
 use Rattle.minimise.proofs.ArriveLaws.{ordered-length, ordered-at, number-found, arrive-old}
 

@@ -10,7 +10,7 @@ use Rattle.automata.specs.Listing.{add, addTo}
 use Rattle.automata.specs.Partition.{bit, classes}
 use Rattle.automata.specs.Smallest.{quotient}
 use Rattle.automata.specs.Table.{flagOf, tableMachine, ClosedTable}
-use Rattle.classes.specs.Refine.{classOf}
+use Rattle.entries.specs.Entries.{classOf}
 use Rattle.minimise.specs.Minimised.{Fitting}
 use Rattle.minimise.specs.declared.Kept.{Kept}
 use Rattle.minimise.specs.declared.Kept.the-variants.{States, TooMany}

@@ -1,10 +1,10 @@
 // The numbering of the classes by first arrival, and the machine over them, written as a table of bytes. Behind the array of classes the work list holds the
 // number of each class (n entries, of which only those count whose class stands in the order at that number: nothing is cleared first), and the order.
 use crate::Kept;
-use classes::entries::at;
-use classes::entries::flag;
-use classes::entries::put;
-use classes::entries::target;
+use entries::at;
+use entries::flag;
+use entries::put;
+use entries::target;
 ghost use mathlib.Core.Path.{_≡_};
 ghost use Prim.Native.Nat.{_+_, _≤_, _<_};
 ghost use lib.ListN.{length};

@@ -13,7 +13,8 @@ use lib.Dec.{eqb}
 use Rattle.automata.specs.Booleans.{not-true}
 use Rattle.automata.specs.Basics.{LtCases, lt-cases, nat-test}
 use Rattle.automata.specs.Partition.{bit}
-use Rattle.partition.specs.Classes.{Split, AcceptKeys, Columns, ColumnKeys, Refined}
+use Rattle.sweeps.specs.Change.{AcceptKeys}
+use Rattle.partition.specs.Classes.{Split, Columns, ColumnKeys, Refined}
 
 below : (p q : ℕ) → q < p + 1 → (q < p) ⊎ (q ≡ p)
 below p q h = go (lt-cases q p)

@@ -11,11 +11,11 @@ use lib.Dec.{eqb}
 use Rattle.automata.specs.Basics.{LtCases, lt-cases}
 use Rattle.automata.specs.Machine.{Machine, Equivalent, Reduced}
 use Rattle.automata.specs.Refinement.{Settled, settled-equivalent, coarse-apart}
-use Rattle.partition.specs.Holds.{Table, Holds}
-use Rattle.partition.specs.Classes.{Named, owned, Split, AcceptKeys, Columns, Refined, ReducedExactly}
-use Rattle.partition.specs.Change.{Classed, Stretch, ClassesExactly}
+use Rattle.moves.specs.Holds.{Table, Holds}
+use Rattle.sweeps.specs.Change.{AcceptKeys, Alike}
+use Rattle.partition.specs.Classes.{Named, owned, Split, Columns, Refined, ReducedExactly, Classed, Stretch, ClassesExactly}
 use Rattle.partition.proofs.ClassLaws.{none-linked, owned-le, owned-all, owned-some, owned-mono, owned-same}
-use Rattle.partition.proofs.TableLaws.{move-inside}
+use Rattle.moves.specs.TableLaws.{move-inside}
 
 -- After the columns below c of a pass that began with `before` classes, there are k. Equivalent states share a class, and states of one class accept
 -- alike; where no class was split in this pass, its columns lead from one class to one class.
@@ -216,3 +216,14 @@ module _ (m : ℕ) (ms bs cs : List ℕ) (k : ℕ) (u : ClassesExactly m ms bs c
           let q : ℕ = getD cs p 0 in
           let c′ : q < length ms = omega (arith, u .named .low p b) in
           d (R q p (rw (H .states) c′) (rw (H .states) b) (u .sound M H q p c′ b (u .named .own p b)))
+
+-- ---- the split by how far a change is
+
+pub classed-split : (m : ℕ) (ms bs fs cs ns : List ℕ) (k r : ℕ) → Alike m ms bs fs → Classed m ms bs cs k → Split (length ms) fs cs ns r → Classed m ms bs ns r
+classed-split m ms bs fs cs ns k r f u s = record {
+  long = s .long;
+  named = s .named;
+  count = s .count;
+  accept = λ p q h b e. u .accept p q h b (sym (s .class p h) ∙ ap (λ i. getD cs i 0) e ∙ s .class q b);
+  coarse = λ M H p q h b e. s .joins p q h b (u .coarse M H p q h b e) (f .alike M H p q h b e);
+}

@@ -7,8 +7,8 @@ use Prim.Native.Nat.{ℕ, zero, suc, _+_, _*_, _≤_, _<_}
 use lib.ListN.{length, getD}
 use lib.Dec.{eqb}
 use Rattle.automata.specs.Booleans.{choose}
-use Rattle.automata.specs.Machine.{Machine, Reduced}
-use Rattle.partition.specs.Holds.{Holds}
+use Rattle.automata.specs.Machine.{Machine, Equivalent, Reduced}
+use Rattle.moves.specs.Holds.{Holds}
 
 -- Each link leads to a greater state, up to n; 0 is none.
 pub record Links (ls : List ℕ) (n : ℕ) : Type 0 where
@@ -46,12 +46,6 @@ pub record Split (n : ℕ) (ks cs ns : List ℕ) (r : ℕ) : Type 0 where
   pub joins : (p q : ℕ) → p < n → q < n → getD cs p 0 ≡ getD cs q 0 → getD ks p 0 ≡ getD ks q 0 → getD ns p 0 ≡ getD ns q 0
   pub count : r ≡ owned ns n
 
--- Two states have the same key just when both accept or neither does.
-pub record AcceptKeys (ms ks : List ℕ) : Type 0 where
-  pub long : length ks ≡ 120
-  pub sound : (p q : ℕ) → p < length ms → q < length ms → getD ks p 0 ≡ getD ks q 0 → eqb 1 (getD ms p 0) ≡ eqb 1 (getD ms q 0)
-  pub whole : (p q : ℕ) → p < length ms → q < length ms → eqb 1 (getD ms p 0) ≡ eqb 1 (getD ms q 0) → getD ks p 0 ≡ getD ks q 0
-
 -- Column c of n rows of m moves, each to one of n states.
 pub record Columns (m n c : ℕ) (bs : List ℕ) : Type 0 where
   pub some : 1 ≤ n
@@ -72,6 +66,27 @@ pub record Refined (m : ℕ) (bs : List ℕ) (n c : ℕ) (cs ns : List ℕ) (r :
   pub parts : (p q : ℕ) → p < n → q < n → getD ns p 0 ≡ getD ns q 0 → (getD cs p 0 ≡ getD cs q 0) × (getD cs (getD bs (p * m + c) 0) 0 ≡ getD cs (getD bs (q * m + c) 0) 0)
   pub joins : (p q : ℕ) → p < n → q < n → getD cs p 0 ≡ getD cs q 0 → getD cs (getD bs (p * m + c) 0) 0 ≡ getD cs (getD bs (q * m + c) 0) 0 → getD ns p 0 ≡ getD ns q 0
   pub count : r ≡ owned ns n
+
+-- Classes on the way, k of them: equivalent states share one, and states that share one accept alike.
+pub record Classed (m : ℕ) (ms bs cs : List ℕ) (k : ℕ) : Type 0 where
+  pub long : length cs ≡ 120
+  pub named : Named cs (length ms)
+  pub count : k ≡ owned cs (length ms)
+  pub accept : (p q : ℕ) → p < length ms → q < length ms → getD cs p 0 ≡ getD cs q 0 → eqb 1 (getD ms p 0) ≡ eqb 1 (getD ms q 0)
+  pub coarse : (M : Machine) → Holds m ms bs M → (p q : ℕ) → p < length ms → q < length ms → Equivalent m M p q → getD cs p 0 ≡ getD cs q 0
+
+-- The classes are those of equivalent states, each named by its least state, r of them.
+pub record ClassesExactly (m : ℕ) (ms bs cs : List ℕ) (r : ℕ) : Type 0 where
+  pub named : Named cs (length ms)
+  pub count : r ≡ owned cs (length ms)
+  pub sound : (M : Machine) → Holds m ms bs M → (p q : ℕ) → p < length ms → q < length ms → getD cs p 0 ≡ getD cs q 0 → Equivalent m M p q
+  pub whole : (M : Machine) → Holds m ms bs M → (p q : ℕ) → p < length ms → q < length ms → Equivalent m M p q → getD cs p 0 ≡ getD cs q 0
+
+-- Some passes over the columns: there are r classes where there were k; where no more, they are those of equivalent states.
+pub record Stretch (m : ℕ) (ms bs : List ℕ) (k : ℕ) (ns : List ℕ) (r : ℕ) : Type 0 where
+  pub classed : Classed m ms bs ns r
+  pub more : k ≤ r
+  pub done : r ≡ k → ClassesExactly m ms bs ns r
 
 -- The answer r is exact for every machine that the bytes hold.
 pub record ReducedExactly (m : ℕ) (ms bs : List ℕ) (r : Bool) : Type 0 where

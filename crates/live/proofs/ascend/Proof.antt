@@ -5,7 +5,7 @@ use native.Mathlib.Nat.{zero-mul, le-refl}
 use native.Mathlib.Omega.{arith}
 use lib.ListN.{length}
 use borrow.Author.Needs.{needs}
-use Rattle.partition.proofs.TableLaws.{row-on, row-room, below-most}
+use Rattle.moves.specs.TableLaws.{row-on, row-room, below-most}
 use Rattle.live.proofs.LiveLaws.{SweepUpto, sweep-start, sweep-same, sweep-new, sweep-done, one-above}
 use Rattle.live.proofs.ascend.Statement.{statement}
 use Rattle.live.proofs.ascend.Tie as tie

@@ -5,7 +5,7 @@ use native.Mathlib.Nat.{le-refl}
 use native.Mathlib.Omega.{arith}
 use lib.ListN.{length}
 use borrow.Author.Needs.{needs}
-use Rattle.partition.proofs.TableLaws.{row-back, row-room-back, below-most}
+use Rattle.moves.specs.TableLaws.{row-back, row-room-back, below-most}
 use Rattle.live.proofs.LiveLaws.{SweepUpto, sweep-start, sweep-same, sweep-new, sweep-done, one-below}
 use Rattle.live.proofs.descend.Statement.{statement}
 use Rattle.live.proofs.descend.Tie as tie

@@ -5,7 +5,7 @@ use Prim.Native.Nat.{ℕ, _+_, _-_, _≤_, _<_}
 use native.Mathlib.Omega.{arith}
 use native.Mathlib.Nat.{not-suc-le-zero}
 use lib.ListN.{length, getD, length-set}
-use Rattle.classes.proofs.RefineLaws.{filled-more, filled-past}
+use Rattle.entries.proofs.EntryLaws.{filled-more, filled-past}
 use Rattle.classes.proofs.refine.adopt.Statement.{statement}
 use Rattle.classes.proofs.refine.adopt.Tie as tie
 

@@ -4,12 +4,9 @@ use borrow.Author.Needs.{needs}
 use mathlib.Core.Path.{_≡_, sym, _∙_}
 use Prim.Native.Nat.{ℕ, _-_, _≤_, _<_}
 use native.Mathlib.Omega.{arith}
-use Rattle.classes.specs.Refine.{flagBit}
+use Rattle.entries.specs.Entries.{flagBit}
 use Rattle.classes.proofs.refine.first_other.Statement.{statement}
 use Rattle.classes.proofs.refine.first_other.Tie as tie
-use Rattle.classes.proofs.refine.first_other.Reads as reads
-use Rattle.classes.proofs.refine.first_other.Lts as lts
-use Rattle.classes.proofs.entries.flag.Reads as flag-reads
 
 abbrev Inv-loop : tie.InvT-loop
 Inv-loop table n i₀ i = (i ≤ n) × ((p : ℕ) → p < i → flagBit table p ≡ flagBit table 0)

@@ -5,14 +5,10 @@ use Prim.Native.Nat.{ℕ, _-_, _≤_, _<_}
 use native.Mathlib.Omega.{arith}
 use lib.ListN.{length, getD}
 use Rattle.classes.specs.Refine.{sideOf}
-use Rattle.classes.proofs.RefineLaws.{filled-more, side-low}
+use Rattle.entries.proofs.EntryLaws.{filled-more}
+use Rattle.classes.proofs.RefineLaws.{side-low}
 use Rattle.classes.proofs.refine.part.Statement.{statement}
 use Rattle.classes.proofs.refine.part.Tie as tie
-use Rattle.classes.proofs.refine.part.Reads as reads
-use Rattle.classes.proofs.refine.part.Lts as lts
-use Rattle.classes.proofs.entries.put.Reads as put-reads
-use Rattle.classes.proofs.refine.first_other.Reads as first-other-reads
-use Rattle.classes.proofs.refine.side.Reads as side-reads
 
 abbrev Inv-loop : tie.InvT-loop
 Inv-loop table n work₀ other i₀ work i = (i ≤ n) × (length work ≡ length work₀) × ((p : ℕ) → p < i → getD work p 0 ≡ sideOf table other p)

@@ -1,7 +1,8 @@
 -- `place` meets its contract: the three ways to place a state.
 use Prim.Native.Nat.{_+_}
 use native.Mathlib.Omega.{arith}
-use Rattle.classes.proofs.RoundLaws.{class-low, place-head, place-joins, place-leads}
+use Rattle.leaders.proofs.RoundLaws.{class-low}
+use Rattle.classes.proofs.PlaceLaws.{place-head, place-joins, place-leads}
 use borrow.Author.Needs.{needs}
 use Rattle.classes.proofs.refine.place.Statement.{statement}
 use Rattle.classes.proofs.refine.place.Tie as tie

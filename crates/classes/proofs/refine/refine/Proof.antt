@@ -4,9 +4,9 @@ use mathlib.Core.Path.{_≡_, refl, _∙_}
 use Prim.Native.Nat.{suc, _-_}
 use native.Mathlib.Omega.{arith}
 use lib.ListN.{length}
-use Rattle.classes.specs.Refine.{Refining}
+use Rattle.entries.specs.Classes.{Refining}
 use Rattle.classes.proofs.RefineLaws.{refine-starts}
-use Rattle.classes.proofs.ChangeLaws.{sized-same}
+use Rattle.spread.proofs.ChangeLaws.{sized-same}
 use Rattle.classes.proofs.refine.refine.Statement.{statement}
 use Rattle.classes.proofs.refine.refine.Tie as tie
 

@@ -5,7 +5,8 @@ use Prim.Native.Nat.{_-_, _≤_}
 use native.Mathlib.Omega.{arith}
 use lib.ListN.{length, take}
 use Rattle.automata.specs.Table.{tableMachine}
-use Rattle.classes.specs.Refine.{next, leaders, Partial}
+use Rattle.entries.specs.Classes.{next, leaders}
+use Rattle.leaders.specs.Round.{Partial}
 use Rattle.classes.proofs.RefineLaws.{round-starts, round-under, round-turns, round-ends, count-turns, leaders-le}
 use Rattle.classes.proofs.refine.round.Statement.{statement}
 use Rattle.classes.proofs.refine.round.Tie as tie

@@ -4,7 +4,7 @@ use mathlib.Core.Path.{_≡_, refl, _∙_}
 use Prim.Native.Nat.{_-_, _≤_, zero-le}
 use native.Mathlib.Omega.{arith}
 use lib.ListN.{length}
-use Rattle.classes.specs.Refine.{Refining}
+use Rattle.entries.specs.Classes.{Refining}
 use Rattle.classes.proofs.RefineLaws.{refine-begun, refine-ends, refine-grows, refine-turns, turned-done, turned-way, refine-many}
 use Rattle.classes.proofs.refine.rounds.Statement.{statement}
 use Rattle.classes.proofs.refine.rounds.Tie as tie

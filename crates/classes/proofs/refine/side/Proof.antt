@@ -4,9 +4,6 @@ use Rattle.classes.proofs.RefineLaws.{side-same, side-other}
 use borrow.Author.Needs.{needs}
 use Rattle.classes.proofs.refine.side.Statement.{statement}
 use Rattle.classes.proofs.refine.side.Tie as tie
-use Rattle.classes.proofs.refine.side.Reads as reads
-use Rattle.classes.proofs.refine.side.Lts as lts
-use Rattle.classes.proofs.entries.flag.Reads as flag-reads
 
 -- src/refine.rt:127:8
 flag-requires : tie.Need-flag-requires

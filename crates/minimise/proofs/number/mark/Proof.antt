@@ -7,7 +7,7 @@ use native.Mathlib.Nat.{not-suc-le-zero}
 use lib.ListN.{length, getD, length-set}
 use Rattle.automata.specs.Partition.{bit}
 use Rattle.automata.specs.Table.{flagOf}
-use Rattle.classes.proofs.RefineLaws.{filled-more, filled-past}
+use Rattle.entries.proofs.EntryLaws.{filled-more, filled-past}
 use Rattle.minimise.proofs.number.mark.Statement.{statement}
 use Rattle.minimise.proofs.number.mark.Tie as tie
 

@@ -2,8 +2,7 @@
 use mathlib.Core.Bool.{Bool, true, false, not, true≢false}
 use mathlib.Core.Path.{_≡_, refl}
 use borrow.Author.Needs.{needs}
-use Rattle.partition.proofs.ChangeLaws.{classed-split}
-use Rattle.partition.proofs.ReducedLaws.{split-grows}
+use Rattle.partition.proofs.ReducedLaws.{classed-split, split-grows}
 use Rattle.partition.proofs.equivalence.apart.Statement.{statement}
 use Rattle.partition.proofs.equivalence.apart.Tie as tie
 

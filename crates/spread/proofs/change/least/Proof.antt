@@ -1,0 +1,15 @@
+-- `least` meets its contract.
+use mathlib.Core.Path.{refl}
+use mathlib.Core.Logic.{inl, inr}
+use native.Mathlib.Omega.{arith}
+use Rattle.spread.proofs.change.least.Statement.{statement}
+use Rattle.spread.proofs.change.least.Tie as tie
+
+returns : tie.Need-returns
+returns c = (omega arith, omega arith, inl refl)
+
+returns-2 : tie.Need-returns-2
+returns-2 c = (omega arith, omega arith, inr refl)
+
+pub least-spec : {M : Type 1} → statement M
+least-spec = tie.close (tie.spec returns returns-2)
