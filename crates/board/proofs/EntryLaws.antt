@@ -17,7 +17,7 @@ use Rattle.automata.specs.Format.{narrow}
 use Rattle.card.specs.Layout.{letterCount, stateCount, markAt, moveAt, lettersOf, marksOf, movesOf, Contents}
 use Rattle.card.specs.LayoutLaws.{contents-whole, marksOf-length, marks-at, moves-length, moves-at}
 use Rattle.card.specs.Alphabet.{column}
-use Rattle.card.specs.Counts.{Counted}
+use Rattle.fields.specs.Counts.{Counted}
 use Rattle.card.specs.Load.{loadTest}
 use Rattle.card.specs.Answer.{holds, rejected, load}
 use Rattle.card.specs.Step.{moved, stopped, stepOn, steps-only, step-contents}

@@ -18,7 +18,7 @@ pub enum Loaded {
 pub fn load(card: &[u8]) -> Loaded
     ensures { λ r. ⌜ loading r ≡ loadOf narrow (now (card .entry)) ⌝ }
 {
-    let card::Counts::Of(m, n) = card::contents(card) else {
+    let fields::Counts::Of(m, n) = fields::contents(card) else {
         return Loaded::Refused(21);
     };
     let number = loading::tested(card, m, n);
@@ -38,22 +38,22 @@ pub enum Stepped {
 pub fn step(card: &[u8], state: usize, letter: u8) -> Stepped
     ensures { λ r. ⌜ stepping r ≡ stepOn narrow (now (card .entry)) state letter ⌝ }
 {
-    let card::Counts::Of(m, n) = card::contents(card) else {
+    let fields::Counts::Of(m, n) = fields::contents(card) else {
         return Stepped::Stopped(21);
     };
-    let i = card::column(card::letters(card, m, n), letter);
+    let i = fields::column(fields::letters(card, m, n), letter);
     if m <= i {
         return Stepped::Stopped(27);
     }
     if n <= state {
         return Stepped::Stopped(28);
     }
-    let moves = card::moves(card, m, n);
+    let moves = fields::moves(card, m, n);
     let next = moves[state * m + i] as usize;
     if n <= next {
         return Stepped::Stopped(23);
     }
-    let marks = card::marks(card, m, n);
+    let marks = fields::marks(card, m, n);
     Stepped::Moved(next, marks[next])
 }
 

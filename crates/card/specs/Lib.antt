@@ -3,7 +3,6 @@ pub mod Number
 pub mod Mark
 pub mod Layout
 pub mod LayoutLaws
-pub mod Counts
 pub mod Alphabet
 pub mod Load
 pub mod LoadLaws

@@ -131,8 +131,8 @@ pub fn some_accepting(t: &[u16], row: &[u8], n: usize) -> bool
 {
     let mut q = 0;
     while q < n {
-        if row[q] != 0 {
-            if t[q] != 0 {
+        if t[q] != 0 {
+            if row[q] != 0 {
                 return true;
             }
         }

@@ -22,7 +22,7 @@ use Rattle.card.specs.Layout.{letterCount, stateCount, markAt, moveAt, lettersO
 use Rattle.card.specs.LayoutLaws.{contents-whole, marksOf-length, marks-at, size-is, accepting-at, moves-length, moves-at, step-at, machine-formed}
 use Rattle.card.specs.Mark.{Mark}
 use Rattle.card.specs.Alphabet.{Alphabet, risingFrom, alphabetTest, alphabet-sound, alphabet-whole}
-use Rattle.card.specs.Counts.{Counted}
+use Rattle.fields.specs.Counts.{Counted}
 use Rattle.card.specs.Load.{loadTest, CardInside, CardMarked, CardNumbered, CardReduced, marksTest, bad-contents, bad-alphabet, transition-out-of-range, not-numbered, loaded}
 use Rattle.card.specs.Answer.{holds, rejected, load, load-holds, load-rejected}
 use Rattle.card.specs.LoadLaws.{tested-only, inside-true, marks-hold, marks-true, reduced-holds}

@@ -5,7 +5,7 @@ ghost use mathlib.Core.Path.{_≡_};
 ghost use lib.ListN.{length};
 ghost use Rattle.automata.specs.Format.{narrow};
 ghost use Rattle.card.specs.Alphabet.{alphabetTest};
-ghost use Rattle.card.specs.Counts.{Counted};
+ghost use Rattle.fields.specs.Counts.{Counted};
 ghost use Rattle.card.specs.Load.{loadTest};
 ghost use Rattle.loading.specs.Inside.{InsideExactly};
 
@@ -48,12 +48,12 @@ pub fn tested(card: &[u8], m: usize, n: usize) -> u8
     requires { ⌜ Counted narrow (now card) m n ⌝ }
     ensures { λ r. ⌜ r ≡ loadTest narrow (now (card .entry)) ⌝ }
 {
-    let letters = card::letters(card, m, n);
+    let letters = fields::letters(card, m, n);
     if !alphabet(letters) {
         return 22;
     }
-    let marks = card::marks(card, m, n);
-    let moves = card::moves(card, m, n);
+    let marks = fields::marks(card, m, n);
+    let moves = fields::moves(card, m, n);
     if !inside(moves, n) {
         return 23;
     }

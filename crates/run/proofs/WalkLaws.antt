@@ -19,7 +19,7 @@ use Rattle.automata.specs.Machine.{size, automaton}
 use Rattle.card.specs.Layout.{letterCount, stateCount, markAt, moveAt, lettersOf, marksOf, movesOf, machineOf, Contents}
 use Rattle.card.specs.LayoutLaws.{letters-length, marksOf-length, marks-at, moves-length, moves-at, size-is}
 use Rattle.card.specs.Alphabet.{column}
-use Rattle.card.specs.Counts.{Counted}
+use Rattle.fields.specs.Counts.{Counted}
 use Rattle.card.specs.Load.{loadTest}
 use Rattle.card.specs.Loads.{Loaded, load-loaded, loaded-card}
 use Rattle.card.specs.Mark.{Mark, is-accepting, is-dead, is-live}

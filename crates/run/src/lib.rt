@@ -61,8 +61,8 @@ fn walk_on(card: &[u8], m: usize, n: usize, table: &[u8; 256], plan: &[u8], stat
     requires { ⌜ Ready (now card) m n × ColumnTable (lettersOf narrow (now card)) (now table) × (state < n) ⌝ }
     ensures { λ r. ⌜ Walked (now (card .entry)) n (now (plan .entry)) state r ⌝ }
 {
-    let marks = card::marks(card, m, n);
-    let moves = card::moves(card, m, n);
+    let marks = fields::marks(card, m, n);
+    let moves = fields::moves(card, m, n);
     let mut s = state;
     let mut k = 0;
     while k < plan.len() {
@@ -137,7 +137,7 @@ pub fn start(card: &[u8], m: usize, n: usize) -> Run
     requires { ⌜ Ready (now card) m n ⌝ }
     ensures { λ r. ⌜ Runs (now (card .entry)) n (runStart narrow (now (card .entry))) r ⌝ }
 {
-    let marks = card::marks(card, m, n);
+    let marks = fields::marks(card, m, n);
     if marks[0] == 2 {
         return Run {
             state: 0,
@@ -159,7 +159,7 @@ pub fn table(card: &[u8], m: usize, n: usize) -> [u8; 256]
     requires { ⌜ Ready (now card) m n ⌝ }
     ensures { λ r. ⌜ ColumnTable (lettersOf narrow (now (card .entry))) r ⌝ }
 {
-    columns::columns(card::letters(card, m, n))
+    columns::columns(fields::letters(card, m, n))
 }
 
 // One piece more, by the card's table.
@@ -217,7 +217,7 @@ pub fn reply(card: &[u8], m: usize, n: usize, run: Run) -> Answer
     if let Place::At(k) = dead {
         return Answer::Judged(Verdict::Hopeless(k));
     }
-    let marks = card::marks(card, m, n);
+    let marks = fields::marks(card, m, n);
     if marks[state] == 1 {
         return Answer::Judged(Verdict::Allowed);
     }

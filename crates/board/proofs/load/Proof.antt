@@ -1,7 +1,7 @@
 -- `load` meets its contract.
 use mathlib.Core.Path.{sym, _∙_}
 use borrow.Author.Needs.{needs}
-use Rattle.card.proofs.ReadLaws.{of-counted, bad-counted}
+use Rattle.fields.proofs.ReadLaws.{of-counted, bad-counted}
 use Rattle.loading.proofs.LoadLaws.{loading-contents, loading-accepted, loading-refused}
 use Rattle.board.proofs.load.Statement.{statement}
 use Rattle.board.proofs.load.Tie as tie

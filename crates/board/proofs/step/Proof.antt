@@ -3,7 +3,7 @@ use mathlib.Core.Path.{sym, _∙_}
 use Prim.Native.Nat.{_+_, _*_}
 use native.Mathlib.Omega.{arith}
 use borrow.Author.Needs.{needs}
-use Rattle.card.proofs.ReadLaws.{of-counted, bad-counted}
+use Rattle.fields.proofs.ReadLaws.{of-counted, bad-counted}
 use Rattle.board.proofs.EntryLaws.{step-21, step-27, step-28, step-room, step-small, step-23, mark-room, step-moved}
 use Rattle.board.proofs.step.Statement.{statement}
 use Rattle.board.proofs.step.Tie as tie

@@ -20,7 +20,7 @@ loop-holds c = (omega arith, below-none _)
 returns : tie.Need-returns Inv-loop μ-loop
 returns c =
     let args = c .before .before .before .before .before .before .args in
-    accepting-here (args .row .now) (args .t .now) (args .n) (c .before .before .before .before .before .loop .q) (c .before .before .before .before .loop-test .taken) (c .before .before .if1 .taken) (c .if2 .taken)
+    accepting-here (args .row .now) (args .t .now) (args .n) (c .before .before .before .before .before .loop .q) (c .before .before .before .before .loop-test .taken) (c .if2 .taken) (c .before .before .if1 .taken)
 
 loop-again : tie.Need-loop-again Inv-loop μ-loop
 loop-again c =
@@ -29,8 +29,8 @@ loop-again c =
     let q = loop .q in
     let v = loop .inv in
     ⊎-elim
-    (λ w. (omega arith, below-more _ _ (v .1) (none-no (a .row .now) (a .t .now) q (w .2 .left))))
-    (λ w. (omega arith, below-more _ _ (v .1) (none-out (a .row .now) (a .t .now) q (w .left))))
+    (λ w. (omega arith, below-more _ _ (v .1) (none-out (a .row .now) (a .t .now) q (w .2 .left))))
+    (λ w. (omega arith, below-more _ _ (v .1) (none-no (a .row .now) (a .t .now) q (w .left))))
     (c .if1 .came)
 
 returns-2 : tie.Need-returns-2 Inv-loop μ-loop

@@ -1,8 +1,8 @@
 -- `letters` meets its contract.
 use borrow.Author.Needs.{needs}
-use Rattle.card.proofs.ReadLaws.{letters-part}
-use Rattle.card.proofs.letters.Statement.{statement}
-use Rattle.card.proofs.letters.Tie as tie
+use Rattle.fields.proofs.ReadLaws.{letters-part}
+use Rattle.fields.proofs.letters.Statement.{statement}
+use Rattle.fields.proofs.letters.Tie as tie
 
 returns : tie.Need-returns
 returns c = letters-part _ _ _ (c .before .pre)

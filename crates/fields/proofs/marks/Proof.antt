@@ -1,8 +1,8 @@
 -- `marks` meets its contract.
 use borrow.Author.Needs.{needs}
-use Rattle.card.proofs.ReadLaws.{marks-part}
-use Rattle.card.proofs.marks.Statement.{statement}
-use Rattle.card.proofs.marks.Tie as tie
+use Rattle.fields.proofs.ReadLaws.{marks-part}
+use Rattle.fields.proofs.marks.Statement.{statement}
+use Rattle.fields.proofs.marks.Tie as tie
 
 returns : tie.Need-returns
 returns c = marks-part _ _ _ (c .before .pre)

@@ -1,9 +1,9 @@
 -- `contents` meets its contract: each test is one of the contents' conditions.
 use native.Mathlib.Omega.{arith}
 use borrow.Author.Needs.{needs}
-use Rattle.card.proofs.ReadLaws.{counts-bad, counts-moves, counts-long, counts-right, cells-most}
-use Rattle.card.proofs.contents.Statement.{statement}
-use Rattle.card.proofs.contents.Tie as tie
+use Rattle.fields.proofs.ReadLaws.{counts-bad, counts-moves, counts-long, counts-right, cells-most}
+use Rattle.fields.proofs.contents.Statement.{statement}
+use Rattle.fields.proofs.contents.Tie as tie
 
 returns : tie.Need-returns
 returns c = counts-bad _ (λ r. omega (arith, r .long))

@@ -4,9 +4,9 @@ use mathlib.Core.List.{List}
 use Prim.Native.Nat.{ℕ}
 use Rattle.automata.specs.Booleans.{choose}
 use Rattle.automata.specs.Format.{Format}
 use Rattle.card.specs.Layout.{letterCount, stateCount, Contents, contentsTest}
-use Rattle.card.specs.declared.Counts.{Counts}
-use Rattle.card.specs.declared.Counts.the-variants.{Of, Bad}
+use Rattle.fields.specs.declared.Counts.{Counts}
+use Rattle.fields.specs.declared.Counts.the-variants.{Of, Bad}
 
 -- The contents are right, with m letters and n states.
 pub record Counted (fmt : Format) (c : List ℕ) (m n : ℕ) : Type 0 where

@@ -3,9 +3,9 @@ use Prim.Native.Nat.{_≤_, _-_}
 use native.Mathlib.Omega.{arith}
 use lib.ListN.{length}
 use borrow.Author.Needs.{needs}
-use Rattle.card.proofs.ReadLaws.{NotBefore, before-start, before-next, column-here, column-end}
-use Rattle.card.proofs.column.Statement.{statement}
-use Rattle.card.proofs.column.Tie as tie
+use Rattle.fields.proofs.ReadLaws.{NotBefore, before-start, before-next, column-here, column-end}
+use Rattle.fields.proofs.column.Statement.{statement}
+use Rattle.fields.proofs.column.Tie as tie
 
 abbrev Inv-loop : tie.InvT-loop
 Inv-loop letters letter i₀ i = (i ≤ length letters) × NotBefore letters letter i

@@ -1,8 +1,8 @@
 -- `moves` meets its contract.
 use borrow.Author.Needs.{needs}
-use Rattle.card.proofs.ReadLaws.{moves-part}
-use Rattle.card.proofs.moves.Statement.{statement}
-use Rattle.card.proofs.moves.Tie as tie
+use Rattle.fields.proofs.ReadLaws.{moves-part}
+use Rattle.fields.proofs.moves.Statement.{statement}
+use Rattle.fields.proofs.moves.Tie as tie
 
 returns : tie.Need-returns
 returns c = moves-part _ _ _ (c .before .pre)

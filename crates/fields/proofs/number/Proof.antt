@@ -3,8 +3,8 @@ use Prim.Native.Nat.{_+_}
 use native.Mathlib.Numerals.{add-one}
 use native.Mathlib.Omega.{arith}
 use borrow.Author.Needs.{needs}
-use Rattle.card.proofs.number.Statement.{statement}
-use Rattle.card.proofs.number.Tie as tie
+use Rattle.fields.proofs.number.Statement.{statement}
+use Rattle.fields.proofs.number.Tie as tie
 
 cast-low : tie.Need-cast-low
 cast-low c = omega (arith, c .shared-slice-known .given (c .before .args .at))

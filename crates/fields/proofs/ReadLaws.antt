@@ -11,13 +11,13 @@ use lib.Seq.{take-all}
 use Rattle.automata.specs.Booleans.{bool-cases, not-true}
 use Rattle.automata.specs.Basics.{LtCases, lt-cases, nat-test, find, find-le, find-at, find-least}
 use Rattle.automata.specs.Format.{narrow}
 use Rattle.card.specs.Number.{numberAt}
 use Rattle.card.specs.Layout.{letterCount, stateCount, contentsAt, lettersOf, marksOf, movesOf, Contents, contentsTest}
 use Rattle.card.specs.LayoutLaws.{contents-sound, contents-whole, moves-one}
 use Rattle.card.specs.Alphabet.{column}
-use Rattle.card.specs.Counts.{Counted, countsOf}
-use Rattle.card.specs.declared.Counts.{Counts}
-use Rattle.card.specs.declared.Counts.the-variants.{Of, Bad}
+use Rattle.fields.specs.Counts.{Counted, countsOf}
+use Rattle.fields.specs.declared.Counts.{Counts}
+use Rattle.fields.specs.declared.Counts.the-variants.{Of, Bad}
 
 -- ---- the contents
 

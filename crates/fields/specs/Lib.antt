@@ -1,0 +1,2 @@
+-- What code reads of a card.
+pub mod Counts
