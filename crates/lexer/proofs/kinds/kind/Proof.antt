@@ -1,8 +1,8 @@
--- `choice::kinds::kind` meets its contract: the table's rule at the byte.
+-- `lexer::kinds::kind` meets its contract: the table's rule at the byte.
 use native.Mathlib.Omega.{arith}
 use borrow.Author.Needs.{needs}
-use Rattle.choice.proofs.kinds.kind.Statement.{statement}
-use Rattle.choice.proofs.kinds.kind.Tie as tie
+use Rattle.lexer.proofs.kinds.kind.Statement.{statement}
+use Rattle.lexer.proofs.kinds.kind.Tie as tie
 
 returns : tie.Need-returns
 returns c = c .before .pre .entry (c .before .args .b) (omega arith)

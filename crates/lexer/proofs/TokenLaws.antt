@@ -8,9 +8,9 @@ use lib.ListN.{length, drop, drop-of-length-le, getD}
 use lib.Seq.{drop-cons}
 use Rattle.book.specs.Kind.{kindOf, spaceKind, lineEndKind}
 use Rattle.book.specs.Text.{tokens}
-use Rattle.choice.specs.Token.{At, Past, Lexed, kindAhead}
-use Rattle.choice.specs.declared.lexer.Cursor.{Cursor}
-use Rattle.choice.specs.declared.lexer.Lexeme.{Lexeme}
+use Rattle.lexer.specs.Token.{At, Past, Lexed, kindAhead}
+use Rattle.lexer.specs.declared.Cursor.{Cursor}
+use Rattle.lexer.specs.declared.Lexeme.{Lexeme}
 
 -- the bytes from i on are the byte at i and those past it
 front : (s : List ℕ) (i : ℕ) → i < length s → drop i s ≡ getD s i 0 ∷ drop (i + 1) s

@@ -5,7 +5,7 @@ use Prim.Native.Nat.{ℕ, _-_, _<_, _≤_}
 use lib.ListN.{length, drop, getD}
 use Rattle.book.specs.Kind.{kindOf, spaceKind, lineEndKind}
 use Rattle.book.specs.Text.{tokens}
-use Rattle.choice.specs.declared.lexer.Lexeme.{Lexeme}
+use Rattle.lexer.specs.declared.Lexeme.{Lexeme}
 
 -- the token k, b stands next from `at` on, and the bytes from `n` on are left
 pub record At (s : List ℕ) (at k b n : ℕ) : Type 0 where

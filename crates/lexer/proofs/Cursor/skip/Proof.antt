@@ -1,14 +1,14 @@
--- `choice::lexer::Cursor::skip` meets its contract: as the loop passes spaces, the tokens left stay the same.
+-- `lexer::Cursor::skip` meets its contract: as the loop passes spaces, the tokens left stay the same.
 use mathlib.Core.Path.{_≡_, refl, _∙_}
 use Prim.Native.Nat.{_≤_, _-_}
 use native.Mathlib.Omega.{arith}
 use borrow.Author.Needs.{needs}
 use lib.ListN.{length, drop}
 use Rattle.book.specs.Text.{tokens}
-use Rattle.choice.specs.Kinds.{Kinds}
-use Rattle.choice.proofs.TokenLaws.{tokens-space}
-use Rattle.choice.proofs.lexer.Cursor.skip.Statement.{statement}
-use Rattle.choice.proofs.lexer.Cursor.skip.Tie as tie
+use Rattle.lexer.specs.Kinds.{Kinds}
+use Rattle.lexer.proofs.TokenLaws.{tokens-space}
+use Rattle.lexer.proofs.Cursor.skip.Statement.{statement}
+use Rattle.lexer.proofs.Cursor.skip.Tie as tie
 
 abbrev Inv-loop : tie.InvT-loop
 Inv-loop kinds s at₀ at = (tokens (drop at s) ≡ tokens (drop at₀ s)) × (at₀ ≤ at)

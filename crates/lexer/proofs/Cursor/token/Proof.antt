@@ -1,9 +1,9 @@
--- `choice::lexer::Cursor::token` meets its contract: where the spaces end, a token stands, or the bytes end.
+-- `lexer::Cursor::token` meets its contract: where the spaces end, a token stands, or the bytes end.
 use native.Mathlib.Omega.{arith}
 use borrow.Author.Needs.{needs}
-use Rattle.choice.proofs.TokenLaws.{past-token, past-end, lexed-token, lexed-end}
-use Rattle.choice.proofs.lexer.Cursor.token.Statement.{statement}
-use Rattle.choice.proofs.lexer.Cursor.token.Tie as tie
+use Rattle.lexer.proofs.TokenLaws.{past-token, past-end, lexed-token, lexed-end}
+use Rattle.lexer.proofs.Cursor.token.Statement.{statement}
+use Rattle.lexer.proofs.Cursor.token.Tie as tie
 
 returns : tie.Need-returns
 returns c =

@@ -1,10 +1,13 @@
-// A cursor by value over a line's bytes: it skips spaces, gives one token and hands itself back past it.
-use crate::kinds::KindTable;
-use crate::kinds::kind;
+// The kinds of a book's bytes, and a cursor by value over a line's bytes: it skips spaces, gives one token and hands itself back past it.
+// These are parts: callers lend the table of kinds, as `table` lays it out.
+pub mod kinds;
+
 use book::kinds::LINE_END_KIND;
 use book::kinds::SPACE_KIND;
-ghost use Rattle.choice.specs.Kinds.{Kinds};
-ghost use Rattle.choice.specs.Token.{Past, Lexed};
+use kinds::KindTable;
+use kinds::kind;
+ghost use Rattle.lexer.specs.Kinds.{Kinds};
+ghost use Rattle.lexer.specs.Token.{Past, Lexed};
 
 pub struct Cursor {
     pub at: usize,

@@ -22,7 +22,7 @@ use book::kinds::STRAY_KIND;
 use book::kinds::UNDERSCORE_KIND;
 ghost use mathlib.Core.Path.{_≡_};
 ghost use Rattle.book.specs.Kind.{kindOf};
-ghost use Rattle.choice.specs.Kinds.{Kinds};
+ghost use Rattle.lexer.specs.Kinds.{Kinds};
 
 pub type KindTable = [u8; 256];
 
