@@ -7,16 +7,16 @@ use lib.ListN.{length, take, drop}
 use Rattle.book.specs.Kind.{letterKind, openKind, closeKind}
 use Rattle.book.specs.Reader.{got, bad, closed, repeated}
 use Rattle.book.specs.Text.{tokens}
-use Rattle.choice.specs.Token.{At, kindAhead}
+use Rattle.lexer.specs.Token.{At, kindAhead}
 use Rattle.choice.specs.BufferLaws.{grown-more}
 use Rattle.choice.specs.Reading.{a-choice, an-item, an-atom, left, Reads}
 use Rattle.choice.specs.ReadingLaws.{read-to, read-not}
 use Rattle.choice.specs.Steps.{Put, Suffixed, complements, Nots, Negated}
 use Rattle.choice.specs.declared.Spot.{Spot}
-use Rattle.choice.specs.declared.lexer.Cursor.{Cursor}
+use Rattle.lexer.specs.declared.Cursor.{Cursor}
 use Rattle.choice.specs.declared.Made.{Made}
 use Rattle.choice.specs.declared.Made.the-variants.{Done, Refused}
-use Rattle.choice.proofs.TokenLaws.{at-fewer}
+use Rattle.lexer.proofs.TokenLaws.{at-fewer}
 use Rattle.choice.proofs.ReadLaws.{stop, seq}
 use Rattle.choice.proofs.KindLaws.{item-atom, atom-leaf, atom-bracket, atom-none, closed-not, closed-to}
 use Rattle.choice.proofs.StepLaws.{same-left, negated-got, negated-bad}

@@ -15,7 +15,7 @@ use Rattle.book.specs.Kind.{kindOf, itemKind, sign-byte, letterKind, nameKind, 
 use Rattle.book.specs.Reader.{got, bad, andThen, closed, repeats, repeated}
 use Rattle.book.specs.Text.{tokens}
 use Rattle.book.specs.Program.{postfix}
-use Rattle.choice.specs.Token.{At, kindAhead}
+use Rattle.lexer.specs.Token.{At, kindAhead}
 use Rattle.choice.specs.Reading.{a-choice, a-blend, a-chain, an-item, an-atom, more-choices, more-blends, more-chains, read}
 use Rattle.choice.specs.Steps.{complemented}
 use Rattle.choice.proofs.ReadLaws.{Stops, Turn}

@@ -10,14 +10,14 @@ use Rattle.book.specs.Kind.{bangKind, starKind, questionKind}
 use Rattle.book.specs.Reader.{got, bad, andThen, repeats}
 use Rattle.book.specs.Text.{tokens}
 use Rattle.book.specs.Program.{complementCode, postfix}
-use Rattle.choice.specs.Token.{At, Past}
+use Rattle.lexer.specs.Token.{At, Past}
 use Rattle.choice.specs.Buffer.{Grown}
 use Rattle.choice.specs.BufferLaws.{grown-none, grown-more}
 use Rattle.choice.specs.Reading.{Is, an-item, left}
 use Rattle.choice.specs.Steps.{Put, Suffixed, complements, complemented, negated, Passed, Negated}
 use Rattle.choice.specs.declared.Spot.{Spot}
-use Rattle.choice.specs.declared.lexer.Cursor.{Cursor}
-use Rattle.choice.proofs.TokenLaws.{at-fewer}
+use Rattle.lexer.specs.declared.Cursor.{Cursor}
+use Rattle.lexer.proofs.TokenLaws.{at-fewer}
 use Rattle.choice.proofs.ReadLaws.{seq}
 use Rattle.choice.proofs.KindLaws.{repeats-turn, item-not}
 

@@ -1,6 +1,4 @@
 -- What the functions of this crate promise.
-pub mod Kinds
-pub mod Token
 pub mod Buffer
 pub mod BufferLaws
 pub mod Reading

@@ -9,7 +9,7 @@ use Rattle.book.specs.Kind.{bangKind}
 use Rattle.book.specs.Reader.{Read, got, andThen, repeats}
 use Rattle.book.specs.Text.{tokens}
 use Rattle.book.specs.Program.{postfix}
-use Rattle.choice.specs.Token.{kindAhead}
+use Rattle.lexer.specs.Token.{kindAhead}
 use Rattle.choice.specs.Buffer.{Grown}
 use Rattle.choice.specs.Reading.{Is, an-item, left}
 use Rattle.choice.specs.declared.Spot.{Spot}

@@ -3,9 +3,6 @@
 // five is called from one place alone, so that they become one function in the machine code, and only a bracket is a call.
 // `choice` is a part below the entries: its caller lends the table of kinds, has counted the brackets and lends two bytes of code for each byte that
 // is left of the line.
-pub mod kinds;
-pub mod lexer;
-
 use book::codes::COMPLEMENT_CODE;
 use book::codes::EITHER_CODE;
 use book::codes::JOIN_CODE;
@@ -18,11 +15,11 @@ use book::kinds::MINUS_KIND;
 use book::kinds::OPEN_KIND;
 use book::kinds::QUESTION_KIND;
 use book::kinds::STAR_KIND;
-use kinds::KindTable;
 use lexer::Cursor;
+use lexer::kinds::KindTable;
 ghost use Prim.Native.Nat.{_+_, _<_, _≤_};
 ghost use lib.ListN.{length};
-ghost use Rattle.choice.specs.Kinds.{Kinds};
+ghost use Rattle.lexer.specs.Kinds.{Kinds};
 ghost use Rattle.choice.specs.Reading.{Room, Reads, a-choice, a-blend, a-chain, an-item, an-atom};
 ghost use Rattle.choice.specs.Steps.{Put, PutIf, Suffixed, Nots, Negated};
 

@@ -1,10 +1,10 @@
 // Reads choices and writes their code, or `refused`. What is left of the line behind the choice follows in a second column.
 use choice::Made;
 use choice::Spot;
-use choice::kinds::KindTable;
-use choice::lexer::Cursor;
+use lexer::Cursor;
+use lexer::kinds::KindTable;
 use libc::STDOUT_FILENO;
-ghost use Rattle.choice.specs.Kinds.{Kinds};
+ghost use Rattle.lexer.specs.Kinds.{Kinds};
 
 // The code of the choice at the start of the line s, with the buffer `out` for it.
 fn show(kinds: &KindTable, s: &[u8], out: &mut [u8])
@@ -86,7 +86,7 @@ fn refusals(kinds: &KindTable, out: &mut [u8])
 }
 
 fn main() {
-    let kinds = choice::kinds::table();
+    let kinds = lexer::kinds::table();
     let mut out = [0u8; 32768];
     items(&kinds, &mut out);
     rests(&kinds, &mut out);

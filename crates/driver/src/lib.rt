@@ -1,5 +1,5 @@
 // The compiler's entry: the lines of a book in order, their stages, and the card. It has no requires; all below it are its parts.
-use choice::kinds::KindTable;
+use lexer::kinds::KindTable;
 use lines::Ended;
 use reader::ends;
 use reader::head;
@@ -13,7 +13,7 @@ ghost use lib.ListN.{length};
 ghost use Rattle.automata.specs.Format.{narrow};
 ghost use Rattle.compiler.specs.Book.{compileBook};
 ghost use Rattle.compiler.specs.Outcome.{enough, written, outcome};
-ghost use Rattle.choice.specs.Kinds.{Kinds};
+ghost use Rattle.lexer.specs.Kinds.{Kinds};
 ghost use Rattle.lines.specs.Lines.{Lent};
 ghost use Rattle.driver.specs.Entry.{documented, lentLengths, Answers, Writable, PutsCard, Headed, Heads, Opens};
 
@@ -196,7 +196,7 @@ pub fn compile(
 ) -> Compiled
     ensures { λ r. ⌜ Answers (outcome narrow documented (now (text .entry)) (lentLengths (now (low .entry)) (now (high .entry)) (now (registers .entry)) (now (stack .entry)) (now (rows .entry)) (now (table .entry)) (now (work .entry)) (now (code .entry))) (length (now (card .entry)))) (now (card .entry)) (now (card .exit)) r ⌝ }
 {
-    let kinds = choice::kinds::table();
+    let kinds = lexer::kinds::table();
     match opening(
         &kinds,
         text,

@@ -2,10 +2,10 @@
 // Writes for each line the most sets that a stage made with the states of its machine, or the number of its refusal. A rule is met with `.*`, as in a
 // book of this one rule; no line may use a name.
 use book::kinds::NAME_KIND;
-use choice::kinds::KindTable;
-use choice::kinds::kind;
 use evaluate::run;
 use evaluate::run::Evaluated;
+use lexer::kinds::KindTable;
+use lexer::kinds::kind;
 use libc::STDIN_FILENO;
 use libc::STDOUT_FILENO;
 use operations::Layout;
@@ -19,7 +19,7 @@ use stages::given;
 use stages::slot;
 ghost use Prim.Native.Nat.{_+_, _*_, _<_, _≤_, suc};
 ghost use lib.ListN.{length};
-ghost use Rattle.choice.specs.Kinds.{Kinds};
+ghost use Rattle.lexer.specs.Kinds.{Kinds};
 ghost use Rattle.operations.specs.Stack.{Slots};
 ghost use Rattle.evaluate_run.specs.Ready.{Nameless, Coded, Coding, Ready};
 
@@ -246,7 +246,7 @@ fn begin_lines(
 
 // Line 1, and the buffers of this program.
 fn run_text(text: &[u8]) {
-    let kinds = choice::kinds::table();
+    let kinds = lexer::kinds::table();
     let end = line_end(&kinds, text, 0);
     let ended = end < text.len();
     let Head::Letters(_m) = read_head(&kinds, &text[0..end], ended) else {

@@ -1,8 +1,6 @@
 // The judging program: the card is board.bin, the plans are the lines of standard input, and each answer is a line of standard output. The card is
 // tested once; a plan of any length goes through in pieces, and so does the text.
 mod lines;
-mod plan;
-mod reply;
 
 use libc::STDIN_FILENO;
 ghost use Rattle.io.specs.Counts.{Counts};

@@ -2,10 +2,10 @@
 // long enough.
 pub mod progress;
 
-use choice::kinds::KindTable;
 use evaluate::run;
 use evaluate::run::Evaluated;
 use kept::Place;
+use lexer::kinds::KindTable;
 use operations::Layout;
 use progress::Book;
 use reader::line;
@@ -14,7 +14,7 @@ ghost use mathlib.Core.Path.{_≡_};
 ghost use mathlib.Core.Bool.{true, false};
 ghost use Prim.Native.Nat.{_<_};
 ghost use lib.ListN.{length};
-ghost use Rattle.choice.specs.Kinds.{Kinds};
+ghost use Rattle.lexer.specs.Kinds.{Kinds};
 ghost use Rattle.kept.specs.Stored.{Right};
 ghost use Rattle.line.specs.Line.{Behind, Runs, CompilesForm, IsForm, tellOf, Going, CompilesLine};
 

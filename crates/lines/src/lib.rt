@@ -1,7 +1,7 @@
 // The lines of a book in their order, behind line 1. This is a part: its caller gives the letters of line 1 and buffers that are long enough.
-use choice::kinds::KindTable;
+use lexer::kinds::KindTable;
 use line::progress::Book;
-ghost use Rattle.choice.specs.Kinds.{Kinds};
+ghost use Rattle.lexer.specs.Kinds.{Kinds};
 ghost use Rattle.lines.specs.Lines.{Lent, Placed, CompilesLines};
 
 // The most sets that a stage made, or the number of a refusal with its line.

@@ -19,13 +19,13 @@ use Rattle.book.specs.Reader.{got, bad, readChoice}
 use Rattle.book.specs.Grammar.{reader-sound}
 use Rattle.book.specs.Text.{tokens, countOf, Form, rule, malformed, formOf, defineOf, defineAs, ruleOf, contextsOf, onRead, tailAt, unless}
 use Rattle.book.specs.Program.{postfix, patternProgram, contextProgram, finishProgram, contextsProgram}
-use Rattle.choice.specs.Token.{At, kindAhead}
+use Rattle.lexer.specs.Token.{At, kindAhead}
 use Rattle.choice.specs.Buffer.{Grown}
 use Rattle.choice.specs.BufferLaws.{grown-none, grown-byte, grown-more}
 use Rattle.choice.specs.Reading.{left, To, a-choice}
 use Rattle.choice.specs.ReadingLaws.{choice-got}
 use Rattle.choice.specs.declared.Spot.{Spot}
-use Rattle.choice.specs.declared.lexer.Cursor.{Cursor}
+use Rattle.lexer.specs.declared.Cursor.{Cursor}
 use Rattle.choice.specs.declared.Made.{Made}
 use Rattle.choice.specs.declared.Made.the-variants.{Done, Refused}
 use Rattle.reader.specs.Forms.{Row, Room, contextOf, Context, ReadsContext, contextsCode, Ruled, ReadsForm}

@@ -1,10 +1,10 @@
 // Where a line ends.
 use book::kinds::LINE_END_KIND;
-use choice::kinds::KindTable;
-use choice::kinds::kind;
+use lexer::kinds::KindTable;
+use lexer::kinds::kind;
 ghost use Prim.Native.Nat.{_≤_};
 ghost use lib.ListN.{length};
-ghost use Rattle.choice.specs.Kinds.{Kinds};
+ghost use Rattle.lexer.specs.Kinds.{Kinds};
 ghost use Rattle.reader.specs.Lines.{Ends};
 
 // The end of the line that starts at `at`: the place of its 0x0A, or the text's length where it has none.

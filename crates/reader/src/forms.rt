@@ -17,15 +17,15 @@ use book::kinds::SLASH_KIND;
 use book::kinds::UNDERSCORE_KIND;
 use choice::Made;
 use choice::Spot;
-use choice::kinds::KindTable;
-use choice::kinds::kind;
-use choice::lexer::Cursor;
+use lexer::Cursor;
+use lexer::kinds::KindTable;
+use lexer::kinds::kind;
 ghost use mathlib.Core.Path.{_≡_};
 ghost use Prim.Native.Nat.{_+_, _*_, _-_, _<_, _≤_};
 ghost use lib.ListN.{length, getD};
 ghost use Rattle.book.specs.Kind.{kindOf, equalsKind, greaterKind, underscoreKind};
 ghost use Rattle.book.specs.Text.{countOf};
-ghost use Rattle.choice.specs.Kinds.{Kinds};
+ghost use Rattle.lexer.specs.Kinds.{Kinds};
 ghost use Rattle.reader.specs.Forms.{Row, Room, ReadsContext, Ruled, ReadsForm};
 
 // The programs of specs/Program.antt.

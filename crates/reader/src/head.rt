@@ -2,15 +2,15 @@
 use crate::tests;
 use book::kinds::COLON_KIND;
 use book::kinds::LETTER_KIND;
-use choice::kinds::KindTable;
-use choice::kinds::kind;
+use lexer::kinds::KindTable;
+use lexer::kinds::kind;
 ghost use mathlib.Core.Path.{_≡_};
 ghost use Prim.Native.Nat.{_≤_};
 ghost use lib.ListN.{length, drop};
 ghost use Rattle.automata.specs.Format.{narrow};
 ghost use Rattle.book.specs.Text.{rising, isHead};
 ghost use Rattle.book.specs.Line.{readHead};
-ghost use Rattle.choice.specs.Kinds.{Kinds};
+ghost use Rattle.lexer.specs.Kinds.{Kinds};
 ghost use Rattle.reader.specs.Lines.{lineOf};
 ghost use Rattle.reader.specs.Head.{headOf};
 

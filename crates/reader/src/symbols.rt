@@ -2,11 +2,11 @@
 use crate::names::Names;
 use book::kinds::LETTER_KIND;
 use book::kinds::NAME_KIND;
-use choice::kinds::KindTable;
-use choice::kinds::kind;
+use lexer::kinds::KindTable;
+use lexer::kinds::kind;
 ghost use mathlib.Core.Path.{_≡_};
 ghost use Rattle.language.specs.Expression.{member};
-ghost use Rattle.choice.specs.Kinds.{Kinds};
+ghost use Rattle.lexer.specs.Kinds.{Kinds};
 ghost use Rattle.reader.specs.Known.{KnowsSymbol, Knows};
 
 // b is one of the letters.

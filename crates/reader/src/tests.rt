@@ -2,11 +2,11 @@
 use book::kinds::CLOSE_KIND;
 use book::kinds::OPEN_KIND;
 use book::kinds::UNDERSCORE_KIND;
-use choice::kinds::KindTable;
-use choice::kinds::kind;
+use lexer::kinds::KindTable;
+use lexer::kinds::kind;
 ghost use mathlib.Core.Path.{_≡_};
 ghost use Rattle.book.specs.Text.{lineTest};
-ghost use Rattle.choice.specs.Kinds.{Kinds};
+ghost use Rattle.lexer.specs.Kinds.{Kinds};
 ghost use Rattle.reader.specs.Lines.{lineOf};
 
 // The refusal of the line by these tests, or 0, in one pass. The count of `(` less `)` may fall below 0, so both are counted apart.

@@ -1,6 +1,6 @@
 // Reads texts from standard input, each ended by a byte 0x1E, and writes for each the number and the line of the first refusal that reading it
 // gives: 3 to 7 in a line, or 10 without a line where there is no rule; `0 0` where it gives none. No stage is made.
-use choice::kinds::KindTable;
+use lexer::kinds::KindTable;
 use libc::STDOUT_FILENO;
 use reader::ends::line_end;
 use reader::head::Head;
@@ -10,7 +10,7 @@ use reader::line::read_line;
 use reader::names::Names;
 ghost use Prim.Native.Nat.{_+_, _*_, _≤_};
 ghost use lib.ListN.{length};
-ghost use Rattle.choice.specs.Kinds.{Kinds};
+ghost use Rattle.lexer.specs.Kinds.{Kinds};
 
 struct Outcome {
     number: u8,
@@ -108,6 +108,6 @@ fn main() {
     let mut input = io::buffer();
     let n = io::read_full(0, &mut input);
     let mut out = [0u8; 16384];
-    let kinds = choice::kinds::table();
+    let kinds = lexer::kinds::table();
     report_all(&kinds, &input[..n], &mut out);
 }

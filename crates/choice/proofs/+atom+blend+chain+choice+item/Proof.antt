@@ -9,7 +9,7 @@ use Rattle.language.specs.Expression.{pair, join}
 use Rattle.book.specs.Program.{joinCode, eitherCode}
 use Rattle.choice.specs.Reading.{a-choice, a-blend, a-chain, an-item, more-choices, more-blends, more-chains}
 use Rattle.choice.specs.ReadingLaws.{read-to, read-not}
-use Rattle.choice.proofs.TokenLaws.{at-fewer}
+use Rattle.lexer.proofs.TokenLaws.{at-fewer}
 use Rattle.choice.proofs.ReadLaws.{Ahead, choice-row, blend-row, chain-row, ahead-start, ahead-more, row-done}
 use Rattle.choice.proofs.KindLaws.{choices-stop, blends-stop, chains-stop, below-items, above-items, choices-turn, blends-turn, chains-turn}
 use Rattle.choice.proofs.ItemLaws.{item-refused, item-done, atom-put, atom-refused, bracket-refused, bracket-open, bracket-done}
@@ -30,7 +30,7 @@ use Rattle.choice.proofs.+atom+blend+chain+choice+item.Lts-choice as ch
 use Rattle.choice.proofs.item.Reads as item
 use Rattle.choice.proofs.item.Kinds as item-kinds
 use Rattle.choice.proofs.+atom+blend+chain+choice+item.Lts-item as item-lts
-use Rattle.choice.proofs.lexer.Cursor.token.Reads as token-reads
+use Rattle.lexer.proofs.Cursor.token.Reads as token-reads
 use Rattle.choice.proofs.negate.Reads as negate-reads
 use Rattle.choice.proofs.nots.Reads as nots-reads
 use Rattle.choice.proofs.put.Reads as put-reads

@@ -5,7 +5,7 @@ use native.Mathlib.Omega.{arith}
 use borrow.Author.Needs.{needs}
 use lib.ListN.{length}
 use Rattle.choice.specs.Steps.{Passed}
-use Rattle.choice.proofs.TokenLaws.{start-kind}
+use Rattle.lexer.proofs.TokenLaws.{start-kind}
 use Rattle.choice.proofs.StepLaws.{passed-start, passed-spaces, passed-turn}
 use Rattle.choice.proofs.nots.Statement.{statement}
 use Rattle.choice.proofs.nots.Tie as tie

@@ -4,7 +4,7 @@ use Prim.Native.Nat.{_-_}
 use native.Mathlib.Omega.{arith}
 use borrow.Author.Needs.{needs}
 use lib.ListN.{length}
-use Rattle.choice.proofs.TokenLaws.{start-kind}
+use Rattle.lexer.proofs.TokenLaws.{start-kind}
 use Rattle.choice.proofs.KindLaws.{repeats-stop}
 use Rattle.choice.proofs.StepLaws.{Suffixing, suffixing-start, suffixing-spaces, suffixing-turn, suffixing-done}
 use Rattle.choice.proofs.suffixed.Statement.{statement}

@@ -5,7 +5,7 @@ use native.Mathlib.Omega.{arith}
 use lib.ListN.{length, take}
 use lib.Seq.{length-take-le}
 use borrow.Author.Needs.{needs}
-use Rattle.judge.specs.Plan.{Columns}
+use Rattle.judging.specs.Plan.{Columns}
 use Rattle.judge.proofs.LinesLaws.{not-false, Reading, reading-start, reading-counted, reading-more}
 use Rattle.judge.proofs.lines.judge_all.Statement.{statement}
 use Rattle.judge.proofs.lines.judge_all.Tie as tie

@@ -4,7 +4,7 @@ use Prim.Native.Nat.{_-_}
 use native.Mathlib.Omega.{arith}
 use borrow.Author.Needs.{needs}
 use lib.ListN.{length}
-use Rattle.choice.proofs.TokenLaws.{past-token, past-end}
+use Rattle.lexer.proofs.TokenLaws.{past-token, past-end}
 use Rattle.choice.specs.Buffer.{Grown}
 use Rattle.choice.specs.BufferLaws.{grown-none, grown-more}
 use Rattle.reader.specs.Forms.{Ruled}

@@ -1,7 +1,7 @@
 -- `reader::forms::definition` meets its contract: each answer is one case of `defineOf`.
 use native.Mathlib.Omega.{arith}
 use borrow.Author.Needs.{needs}
-use Rattle.choice.proofs.TokenLaws.{past-token, past-end}
+use Rattle.lexer.proofs.TokenLaws.{past-token, past-end}
 use Rattle.choice.specs.ReadingLaws.{read-to, choice-bad}
 use Rattle.reader.proofs.FormLaws.{define-other, define-bad, define-more, define-whole}
 use Rattle.reader.proofs.forms.definition.Statement.{statement}

@@ -1,0 +1,2 @@
+-- Laws that the proofs cite, here and above.
+pub mod TextLaws

@@ -1,0 +1,2 @@
+-- What the line of an answer is.
+pub mod Text
