@@ -20,7 +20,7 @@ use Rattle.book.specs.Text.{define, rule, malformed, formOf, tooDeep, countOf, 
 use Rattle.book.specs.Line.{reads, stops, readLine, checkForm}
 use Rattle.book.specs.Program.{pairCode, postfix, program, contextsProgram}
 use Rattle.book.specs.StackLaws.{Leaves, AllHeld, FormHeld, line-held}
-use Rattle.reader.specs.Lines.{lineOf, lineAt, Ends}
+use Rattle.scans.specs.Lines.{lineOf, lineAt, Ends}
 use Rattle.reader.specs.Names.{Holds}
 use Rattle.reader.specs.Known.{codeKnown, Knows}
 use Rattle.reader.specs.Forms.{Defines, Rules, ReadsForm}

@@ -1,6 +1,4 @@
 -- What the functions of this crate promise.
-pub mod Lines
-pub mod Head
 pub mod Names
 pub mod Known
 pub mod Forms

@@ -1,9 +1,6 @@
-// Reads a book line by line: where a line ends, the tests along it, line 1, and a later line as the program of its form. These are parts below an
-// entry: some ask for room or for a place inside the text.
-pub mod ends;
+// Reads a later line: its form as a program, the letters and names in it, and 3 to 7 in their order. These are parts below an entry: some ask for room or
+// for a place inside the text.
 pub mod forms;
-pub mod head;
 pub mod line;
 pub mod names;
 pub mod symbols;
-pub mod tests;

@@ -1,12 +1,12 @@
--- `reader::ends::line_end` meets its contract: no byte passed is a line end.
+-- `scans::ends::line_end` meets its contract: no byte passed is a line end.
 use mathlib.Core.Path.{sym, _∙_}
 use Prim.Native.Nat.{_-_, _≤_}
 use native.Mathlib.Omega.{arith}
 use borrow.Author.Needs.{needs}
 use lib.ListN.{length}
-use Rattle.reader.proofs.LineLaws.{Plain, plain-next, ends-at}
-use Rattle.reader.proofs.ends.line_end.Statement.{statement}
-use Rattle.reader.proofs.ends.line_end.Tie as tie
+use Rattle.scans.proofs.LineLaws.{Plain, plain-next, ends-at}
+use Rattle.scans.proofs.ends.line_end.Statement.{statement}
+use Rattle.scans.proofs.ends.line_end.Tie as tie
 
 abbrev Inv-loop : tie.InvT-loop
 Inv-loop kinds text at i₀ i = (at ≤ i) × (i ≤ length text) × Plain text at i

@@ -7,7 +7,7 @@ use choice::kinds::kind;
 ghost use mathlib.Core.Path.{_≡_};
 ghost use Rattle.book.specs.Text.{lineTest};
 ghost use Rattle.choice.specs.Kinds.{Kinds};
-ghost use Rattle.reader.specs.Lines.{lineOf};
+ghost use Rattle.scans.specs.Lines.{lineOf};
 
 // The refusal of the line by these tests, or 0, in one pass. The count of `(` less `)` may fall below 0, so both are counted apart.
 pub fn line_test(kinds: &KindTable, line: &[u8], ended: bool) -> u8

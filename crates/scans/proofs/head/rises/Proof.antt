@@ -1,12 +1,12 @@
--- `reader::head::rises` meets its contract: what is left rises above the last letter exactly when the whole rises.
+-- `scans::head::rises` meets its contract: what is left rises above the last letter exactly when the whole rises.
 use mathlib.Core.Path.{_≡_, sym, _∙_}
 use Prim.Native.Nat.{_-_}
 use borrow.Author.Needs.{needs}
 use lib.ListN.{length, drop}
 use Rattle.book.specs.Text.{rising}
-use Rattle.reader.proofs.LineLaws.{rises-not, rises-low, rises-on, rises-end}
-use Rattle.reader.proofs.head.rises.Statement.{statement}
-use Rattle.reader.proofs.head.rises.Tie as tie
+use Rattle.scans.proofs.LineLaws.{rises-not, rises-low, rises-on, rises-end}
+use Rattle.scans.proofs.head.rises.Statement.{statement}
+use Rattle.scans.proofs.head.rises.Tie as tie
 
 abbrev Inv-loop : tie.InvT-loop
 Inv-loop kinds line low₀ i₀ low i = rising low (drop i line) ≡ rising 0 (drop 1 line)

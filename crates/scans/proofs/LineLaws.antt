@@ -16,7 +16,7 @@ use Rattle.automata.specs.Format.{narrow}
 use Rattle.book.specs.Kind.{kindOf, letterKind, openKind, closeKind, lineEndKind, colonKind, underscoreKind}
 use Rattle.book.specs.Text.{linesOf, tooDeep, countOf, lineTest, rising, isHead, lettersOf}
 use Rattle.book.specs.Line.{letters, stops, readHead}
-use Rattle.reader.specs.Lines.{lineOf, lineAt, Ends}
+use Rattle.scans.specs.Lines.{lineOf, lineAt, Ends}
 
 -- the bytes from i on are the byte at i and those past it
 pub front : (s : List ℕ) (i : ℕ) → i < length s → drop i s ≡ getD s i 0 ∷ drop (i + 1) s

@@ -11,8 +11,8 @@ ghost use Rattle.automata.specs.Format.{narrow};
 ghost use Rattle.book.specs.Text.{rising, isHead};
 ghost use Rattle.book.specs.Line.{readHead};
 ghost use Rattle.choice.specs.Kinds.{Kinds};
-ghost use Rattle.reader.specs.Lines.{lineOf};
-ghost use Rattle.reader.specs.Head.{headOf};
+ghost use Rattle.scans.specs.Lines.{lineOf};
+ghost use Rattle.scans.specs.Head.{headOf};
 
 // How many letters stand behind the line's `:`, or the number of a refusal.
 pub enum Head {

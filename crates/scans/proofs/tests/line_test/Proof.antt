@@ -1,13 +1,13 @@
--- `reader::tests::line_test` meets its contract: along the line, what is left decides as the whole; each answer is one test.
+-- `scans::tests::line_test` meets its contract: along the line, what is left decides as the whole; each answer is one test.
 use mathlib.Core.Path.{sym, ap, _∙_}
 use Prim.Native.Nat.{_-_}
 use native.Mathlib.Omega.{arith}
 use borrow.Author.Needs.{needs}
 use lib.ListN.{length}
 use Rattle.automata.specs.Booleans.{choose}
-use Rattle.reader.proofs.LineLaws.{Along, along-start, along-over, along-open, along-close, along-gap, along-other, shallow, gaps-all, test-deep, test-contexts, test-end}
-use Rattle.reader.proofs.tests.line_test.Statement.{statement}
-use Rattle.reader.proofs.tests.line_test.Tie as tie
+use Rattle.scans.proofs.LineLaws.{Along, along-start, along-over, along-open, along-close, along-gap, along-other, shallow, gaps-all, test-deep, test-contexts, test-end}
+use Rattle.scans.proofs.tests.line_test.Statement.{statement}
+use Rattle.scans.proofs.tests.line_test.Tie as tie
 
 abbrev Inv-loop : tie.InvT-loop
 Inv-loop kinds line ended opens₀ closes₀ gaps₀ i₀ opens closes gaps i = Along line i opens closes gaps

@@ -1,9 +1,9 @@
--- `reader::head::is_head` meets its contract: each answer is one test of line 1.
+-- `scans::head::is_head` meets its contract: each answer is one test of line 1.
 use mathlib.Core.Path.{sym, _∙_}
-use Rattle.reader.proofs.LineLaws.{head-none, head-sign, head-short, head-long, head-rises}
+use Rattle.scans.proofs.LineLaws.{head-none, head-sign, head-short, head-long, head-rises}
 use borrow.Author.Needs.{needs}
-use Rattle.reader.proofs.head.is_head.Statement.{statement}
-use Rattle.reader.proofs.head.is_head.Tie as tie
+use Rattle.scans.proofs.head.is_head.Statement.{statement}
+use Rattle.scans.proofs.head.is_head.Tie as tie
 
 returns : tie.Need-returns
 returns c = sym (head-none (c .before .before .args .line .now) (c .if1 .taken))

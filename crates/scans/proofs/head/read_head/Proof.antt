@@ -1,9 +1,9 @@
--- `reader::head::read_head` meets its contract: the tests of the line, then those of line 1.
+-- `scans::head::read_head` meets its contract: the tests of the line, then those of line 1.
 use mathlib.Core.Path.{sym, _∙_}
-use Rattle.reader.proofs.LineLaws.{head-tested, head-letters, head-malformed, head-length}
+use Rattle.scans.proofs.LineLaws.{head-tested, head-letters, head-malformed, head-length}
 use borrow.Author.Needs.{needs}
-use Rattle.reader.proofs.head.read_head.Statement.{statement}
-use Rattle.reader.proofs.head.read_head.Tie as tie
+use Rattle.scans.proofs.head.read_head.Statement.{statement}
+use Rattle.scans.proofs.head.read_head.Tie as tie
 
 returns : tie.Need-returns
 returns c = head-tested _ _ _ (c .before .line-test .ensures) (c .if1 .taken)

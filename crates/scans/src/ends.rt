@@ -5,7 +5,7 @@ use choice::kinds::kind;
 ghost use Prim.Native.Nat.{_≤_};
 ghost use lib.ListN.{length};
 ghost use Rattle.choice.specs.Kinds.{Kinds};
-ghost use Rattle.reader.specs.Lines.{Ends};
+ghost use Rattle.scans.specs.Lines.{Ends};
 
 // The end of the line that starts at `at`: the place of its 0x0A, or the text's length where it has none.
 pub fn line_end(kinds: &KindTable, text: &[u8], at: usize) -> usize
