@@ -23,11 +23,11 @@ use Rattle.book.specs.StackLaws.{Leaves, AllHeld, FormHeld, line-held}
 use Rattle.scans.specs.Lines.{lineOf, lineAt, Ends}
 use Rattle.reader.specs.Names.{Holds}
 use Rattle.reader.specs.Known.{codeKnown, Knows}
-use Rattle.reader.specs.Forms.{Defines, Rules, ReadsForm}
+use Rattle.forms.specs.Forms.{Defines, Rules, ReadsForm}
 use Rattle.reader.specs.Answers.{ReadsLine, ReadsNext}
 use Rattle.reader.specs.declared.names.Names.{Names}
-use Rattle.reader.specs.declared.forms.Code.{Code}
-use Rattle.reader.specs.declared.forms.Code as code
+use Rattle.forms.specs.declared.Code.{Code}
+use Rattle.forms.specs.declared.Code as code
 use Rattle.reader.specs.declared.line.Answer as answer
 use Rattle.reader.specs.declared.line.Answer.{Answer}
 use Rattle.reader.specs.declared.line.LineAnswer as lineAnswer

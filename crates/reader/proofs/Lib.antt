@@ -1,4 +1,3 @@
 -- Laws that the proofs cite.
 pub mod SymbolLaws
-pub mod FormLaws
 pub mod CheckLaws

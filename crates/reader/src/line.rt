@@ -1,15 +1,15 @@
 // A later line: 3 to 7 in this order, each a test of the whole line, and the program of its form.
-use crate::forms;
-use crate::forms::Code;
+
 use crate::names::Names;
 use crate::symbols;
 use choice::kinds::KindTable;
+use forms::Code;
 use scans::ends;
 use scans::tests;
 ghost use Prim.Native.Nat.{_<_, _*_, _+_, _≤_};
 ghost use lib.ListN.{length};
 ghost use Rattle.choice.specs.Kinds.{Kinds};
-ghost use Rattle.reader.specs.Forms.{Room};
+ghost use Rattle.forms.specs.Forms.{Room};
 ghost use Rattle.scans.specs.Lines.{lineOf};
 ghost use Rattle.reader.specs.Answers.{ReadsLine, ReadsNext};
 

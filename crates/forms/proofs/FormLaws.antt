@@ -28,9 +28,9 @@ use Rattle.choice.specs.declared.Spot.{Spot}
 use Rattle.choice.specs.declared.lexer.Cursor.{Cursor}
 use Rattle.choice.specs.declared.Made.{Made}
 use Rattle.choice.specs.declared.Made.the-variants.{Done, Refused}
-use Rattle.reader.specs.Forms.{Row, Room, contextOf, Context, ReadsContext, contextsCode, Ruled, ReadsForm}
-use Rattle.reader.specs.declared.forms.Code.{Code}
-use Rattle.reader.specs.declared.forms.Code.the-variants.{Define, Rule, Malformed}
+use Rattle.forms.specs.Forms.{Row, Room, contextOf, Context, ReadsContext, contextsCode, Ruled, ReadsForm}
+use Rattle.forms.specs.declared.Code.{Code}
+use Rattle.forms.specs.declared.Code.the-variants.{Define, Rule, Malformed}
 
 -- ---- rows of codes
 

@@ -15,8 +15,8 @@ use Rattle.choice.specs.Reading.{left}
 use Rattle.choice.specs.declared.Spot.{Spot}
 use Rattle.choice.specs.declared.Made.{Made}
 use Rattle.choice.specs.declared.Made.the-variants.{Done, Refused}
-use Rattle.reader.specs.declared.forms.Code.{Code}
-use Rattle.reader.specs.declared.forms.Code.the-variants.{Define, Rule, Malformed}
+use Rattle.forms.specs.declared.Code.{Code}
+use Rattle.forms.specs.declared.Code.the-variants.{Define, Rule, Malformed}
 
 -- a row of codes behind the code so far
 pub record Row (o : List ℕ) (pos : ℕ) (row o′ : List ℕ) (end : ℕ) : Type 0 where

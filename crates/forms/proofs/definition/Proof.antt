@@ -1,11 +1,11 @@
--- `reader::forms::definition` meets its contract: each answer is one case of `defineOf`.
+-- `forms::definition` meets its contract: each answer is one case of `defineOf`.
 use native.Mathlib.Omega.{arith}
 use borrow.Author.Needs.{needs}
 use Rattle.choice.proofs.TokenLaws.{past-token, past-end}
 use Rattle.choice.specs.ReadingLaws.{read-to, choice-bad}
-use Rattle.reader.proofs.FormLaws.{define-other, define-bad, define-more, define-whole}
-use Rattle.reader.proofs.forms.definition.Statement.{statement}
-use Rattle.reader.proofs.forms.definition.Tie as tie
+use Rattle.forms.proofs.FormLaws.{define-other, define-bad, define-more, define-whole}
+use Rattle.forms.proofs.definition.Statement.{statement}
+use Rattle.forms.proofs.definition.Tie as tie
 
 returns : tie.Need-returns
 returns c = define-other _ (c .before .before .before .before .pre .1 .1) (c .before .token .ensures .kind-is) (c .if1 .taken)

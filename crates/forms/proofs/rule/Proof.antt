@@ -1,12 +1,12 @@
--- `reader::forms::rule` meets its contract: a pattern that is read begins the rule.
+-- `forms::rule` meets its contract: a pattern that is read begins the rule.
 use mathlib.Core.Path.{_∙_}
 use native.Mathlib.Omega.{arith}
 use borrow.Author.Needs.{needs}
 use Rattle.choice.specs.BufferLaws.{grown-more}
 use Rattle.choice.specs.ReadingLaws.{read-to, choice-bad}
-use Rattle.reader.proofs.FormLaws.{rule-none, rule-start, form-grown}
-use Rattle.reader.proofs.forms.rule.Statement.{statement}
-use Rattle.reader.proofs.forms.rule.Tie as tie
+use Rattle.forms.proofs.FormLaws.{rule-none, rule-start, form-grown}
+use Rattle.forms.proofs.rule.Statement.{statement}
+use Rattle.forms.proofs.rule.Tie as tie
 
 returns : tie.Need-returns
 returns c = rule-none _ (c .before .before .before .before .before .before .before .before .pre .1 .1 .0) (choice-bad (c .before .before .before .before .choice .ensures) (c .enum-told .given .1))

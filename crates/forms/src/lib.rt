@@ -1,4 +1,5 @@
-// The form of a later line: a definition or a rule, written as its program.
+// The form of a later line, a definition or a rule, written as its program into a lent buffer. Parts below an entry: callers give room there, and a line
+// whose brackets and contexts are counted already.
 use book::codes::ALL_CODE;
 use book::codes::COMPLEMENT_CODE;
 use book::codes::ERASE_CODE;
@@ -26,7 +27,7 @@ ghost use lib.ListN.{length, getD};
 ghost use Rattle.book.specs.Kind.{kindOf, equalsKind, greaterKind, underscoreKind};
 ghost use Rattle.book.specs.Text.{countOf};
 ghost use Rattle.choice.specs.Kinds.{Kinds};
-ghost use Rattle.reader.specs.Forms.{Row, Room, ReadsContext, Ruled, ReadsForm};
+ghost use Rattle.forms.specs.Forms.{Row, Room, ReadsContext, Ruled, ReadsForm};
 
 // The programs of specs/Program.antt.
 const PATTERN_PROGRAM: [u8; 10] = [

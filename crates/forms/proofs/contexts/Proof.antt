@@ -1,4 +1,4 @@
--- `reader::forms::contexts` meets its contract: as the loop passes a context, what is left of the rule's form stays the same.
+-- `forms::contexts` meets its contract: as the loop passes a context, what is left of the rule's form stays the same.
 use mathlib.Core.Path.{_≡_, refl, _∙_}
 use Prim.Native.Nat.{_-_}
 use native.Mathlib.Omega.{arith}
@@ -7,10 +7,10 @@ use lib.ListN.{length}
 use Rattle.choice.proofs.TokenLaws.{past-token, past-end}
 use Rattle.choice.specs.Buffer.{Grown}
 use Rattle.choice.specs.BufferLaws.{grown-none, grown-more}
-use Rattle.reader.specs.Forms.{Ruled}
-use Rattle.reader.proofs.FormLaws.{rule-end, rule-other, rule-half, rule-next, context-to, context-not}
-use Rattle.reader.proofs.forms.contexts.Statement.{statement}
-use Rattle.reader.proofs.forms.contexts.Tie as tie
+use Rattle.forms.specs.Forms.{Ruled}
+use Rattle.forms.proofs.FormLaws.{rule-end, rule-other, rule-half, rule-next, context-to, context-not}
+use Rattle.forms.proofs.contexts.Statement.{statement}
+use Rattle.forms.proofs.contexts.Tie as tie
 
 abbrev Inv-loop : tie.InvT-loop
 Inv-loop kinds line out₀ here₀ out here = Ruled line out here × (length out ≡ length out₀) × Grown out₀ (here₀ .pos) out (here .pos)

@@ -1,10 +1,10 @@
--- `reader::forms::context` meets its contract: each answer is one case of `contextOf`.
+-- `forms::context` meets its contract: each answer is one case of `contextOf`.
 use native.Mathlib.Omega.{arith}
 use borrow.Author.Needs.{needs}
 use Rattle.choice.specs.ReadingLaws.{read-to, choice-bad}
-use Rattle.reader.proofs.FormLaws.{context-none, context-other, context-half, context-whole}
-use Rattle.reader.proofs.forms.context.Statement.{statement}
-use Rattle.reader.proofs.forms.context.Tie as tie
+use Rattle.forms.proofs.FormLaws.{context-none, context-other, context-half, context-whole}
+use Rattle.forms.proofs.context.Statement.{statement}
+use Rattle.forms.proofs.context.Tie as tie
 
 returns : tie.Need-returns
 returns c = context-none _ _ _ _ (choice-bad (c .before .before .before .before .choice .ensures) (c .enum-told .given .1))

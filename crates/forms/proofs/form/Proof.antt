@@ -1,8 +1,8 @@
--- `reader::forms::form` meets its contract, by the kind of the line's first byte.
+-- `forms::form` meets its contract, by the kind of the line's first byte.
 use borrow.Author.Needs.{needs}
-use Rattle.reader.proofs.FormLaws.{form-empty, form-neither}
-use Rattle.reader.proofs.forms.form.Statement.{statement}
-use Rattle.reader.proofs.forms.form.Tie as tie
+use Rattle.forms.proofs.FormLaws.{form-empty, form-neither}
+use Rattle.forms.proofs.form.Statement.{statement}
+use Rattle.forms.proofs.form.Tie as tie
 
 returns : tie.Need-returns
 returns c = form-empty _ (c .if1 .taken)
