@@ -28,7 +28,7 @@ use Rattle.choice.specs.declared.Spot.{Spot}
 use Rattle.choice.specs.declared.lexer.Cursor.{Cursor}
 use Rattle.choice.specs.declared.Made.{Made}
 use Rattle.choice.specs.declared.Made.the-variants.{Done, Refused}
-use Rattle.forms.specs.Forms.{Row, Room, contextOf, Context, ReadsContext, contextsCode, Ruled, ReadsForm}
+use Rattle.forms.specs.Forms.{Row, Room, Then, ReadsThen, rightOf, ReadsRight, contextOf, Context, ReadsContext, contextsCode, Ruled, Ended, ReadsContexts, ReadsForm}
 use Rattle.forms.specs.declared.Code.{Code}
 use Rattle.forms.specs.declared.Code.the-variants.{Define, Rule, Malformed}
 
@@ -60,6 +60,25 @@ pub row-end : (o₀ row : List ℕ) (pos : ℕ) (o : List ℕ) (i : ℕ) → len
 row-end o₀ row pos o i l d =
     let z : i ≡ length row = omega (arith, d .within) in
     record { end-is = ap (λ x. pos + x) z; code = d .code ∙ ap (λ x. take pos o₀ ++ take x row) z ∙ rw take-length; grown = d .grown }
+
+-- ---- a choice, and a row behind its code
+
+pub then-bad : {s o : List ℕ} {c : Spot} {row o′ : List ℕ} → readChoice (left s c) ≡ bad → ReadsThen s o c row o′ Refused
+then-bad e = record { says = e }
+
+pub then-done : {s o : List ℕ} {c : Spot} {o₁ : List ℕ} {m : Spot} {row o′ : List ℕ} {end : ℕ} → To a-choice s o c o₁ m → Row o₁ (m .pos) row o′ end
+    → ReadsThen s o c row o′ (Done (record { cursor = m .cursor; pos = end }))
+then-done {o = o} {c = c} {row = row} t r = record {
+  says = record {
+    expr = t .expr;
+    reads = choice-got t;
+    code = r .code ∙ ap (λ l. l ++ row) (t .code) ∙ append-assoc (take (c .pos) o) (postfix (t .expr)) row;
+    grown = grown-more (t .grown) (r .grown);
+    fewer = t .fewer;
+    falls = t .falls;
+    room = omega (arith, t .room, r .end-is);
+  };
+}
 
 -- ---- how many `_` are left
 
@@ -99,55 +118,61 @@ no-sign : (x : ℕ) (ts : List ℕ) (f : List ℕ → Form) → (kindAhead ts �
 no-sign x [] f h = refl
 no-sign x (b ∷ ts) f h = rw (ne-eqb (kindOf b) x h)
 
-afterLeft : (Expr → Expr → List ℕ → Form) → Expr → List ℕ → Form
-afterLeft f l us = tailAt underscoreKind us λ vs. onRead (readChoice vs) λ r ws. f l r ws
+pub right-other : {s o : List ℕ} {c : Spot} {o′ : List ℕ} (k : ℕ) → k ≡ kindAhead (left s c) → (k ≡ underscoreKind → ⊥) → ReadsRight s o c o′ Refused
+right-other {s} {o} {c} k q h = record { says = λ f. no-sign underscoreKind (left s c) _ (λ e. h (q ∙ e)) }
 
-pub context-none : (s o : List ℕ) (c : Spot) (o′ : List ℕ) → readChoice (left s c) ≡ bad → ReadsContext s o c o′ Refused
-unfolding afterLeft
-context-none s o c o′ e = record { says = λ f. ap (λ R. onRead R (afterLeft f)) e }
+module _ {s : List ℕ} {at k b : ℕ} {next : Cursor} (x : At s at k b (next .at)) (h : k ≡ underscoreKind) where
+  sign : eqb (kindOf b) underscoreKind ≡ true
+  sign = eq-eqb (kindOf b) underscoreKind (sym (x .kind-is) ∙ h)
 
-module _ {s o : List ℕ} {c : Spot} {o₁ : List ℕ} {m : Spot} (t : To a-choice s o c o₁ m) where
-  went : (f : Expr → Expr → List ℕ → Form) → contextOf (left s c) f ≡ afterLeft f (t .expr) (left s m)
-  unfolding afterLeft
-  went f = ap (λ R. onRead R (afterLeft f)) (choice-got t)
+  past : (f : Expr → List ℕ → Form) → rightOf (tokens (drop at s)) f ≡ onRead (readChoice (tokens (drop (next .at) s))) f
+  past f = ap (λ l. rightOf l f) (x .rest-is) ∙ rw sign
 
-  pub context-other : (o′ : List ℕ) (k : ℕ) → k ≡ kindAhead (left s m) → (k ≡ underscoreKind → ⊥) → ReadsContext s o c o′ Refused
-  unfolding afterLeft
-  context-other o′ k q h = record { says = λ f. went f ∙ no-sign underscoreKind (left s m) _ (λ e. h (q ∙ e)) }
+  counted : countOf underscoreKind (tokens (drop at s)) ≡ suc (countOf underscoreKind (tokens (drop (next .at) s)))
+  counted = ap (countOf underscoreKind) (x .rest-is) ∙ rw sign
 
-  module _ {k b : ℕ} {next : Cursor} (x : At s (m .cursor .at) k b (next .at)) where
-    met : (f : Expr → Expr → List ℕ → Form) → contextOf (left s c) f ≡ choose (eqb (kindOf b) underscoreKind) (λ _. onRead (readChoice (tokens (drop (next .at) s))) (f (t .expr))) (λ _. malformed)
-    unfolding afterLeft
-    met f = went f ∙ ap (afterLeft f (t .expr)) (x .rest-is)
-
-    past : (f : Expr → Expr → List ℕ → Form) → k ≡ underscoreKind → contextOf (left s c) f ≡ onRead (readChoice (tokens (drop (next .at) s))) (f (t .expr))
-    past f h = met f ∙ rw (eq-eqb (kindOf b) underscoreKind (sym (x .kind-is) ∙ h))
-
-    pub context-half : (o′ : List ℕ) → k ≡ underscoreKind → readChoice (tokens (drop (next .at) s)) ≡ bad → ReadsContext s o c o′ Refused
-    context-half o′ h e = record { says = λ f. past f h ∙ ap (λ R. onRead R (f (t .expr))) e }
-
-    pub context-whole : {o₂ : List ℕ} {w : Spot} → k ≡ underscoreKind → To a-choice s o₁ (record { cursor = next; pos = m .pos }) o₂ w → (o₃ : List ℕ) (end : ℕ) → Row o₂ (w .pos) contextProgram o₃ end
-        → ReadsContext s o c o₃ (Done (record { cursor = w .cursor; pos = end }))
-    context-whole {o₂} {w} h u o₃ end r = record {
+pub right-read : {s o : List ℕ} {c : Spot} {o′ : List ℕ} {k b : ℕ} {next : Cursor} → At s (c .cursor .at) k b (next .at) → k ≡ underscoreKind → (r : Made)
+    → ReadsThen s o (record { cursor = next; pos = c .pos }) contextProgram o′ r → ReadsRight s o c o′ r
+right-read {s} {next = next} x h (Done n) d =
+    let u = d .says in
+    record {
       says = record {
-        before = t .expr;
         behind = u .expr;
-        reads = λ f. past f h ∙ ap (λ R. onRead R (f (t .expr))) (choice-got u);
-        code = r .code ∙ ap (λ l. l ++ contextProgram) (u .code ∙ ap (λ l. l ++ postfix (u .expr)) (t .code))
-            ∙ regroup (take (c .pos) o) (postfix (t .expr)) (postfix (u .expr)) contextProgram;
-        grown = grown-more (t .grown) (grown-more (u .grown) (r .grown));
-        fewer = omega (arith, t .fewer, u .fewer, ap length (x .rest-is));
-        marks = omega (arith, count-read (left s c) (left s m) (t .expr) (choice-got t), count-read (tokens (drop (next .at) s)) (left s w) (u .expr) (choice-got u), ap (countOf underscoreKind) (x .rest-is), counted);
-        falls = omega (arith, t .falls, u .falls, x .falls);
-        room = omega (arith, t .room, u .room, x .falls, r .end-is);
+        reads = λ f. past x h f ∙ ap (λ R. onRead R f) (u .reads);
+        code = u .code;
+        grown = u .grown;
+        fewer = omega (arith, u .fewer, ap length (x .rest-is));
+        marks = omega (arith, count-read (tokens (drop (next .at) s)) (left s n) (u .expr) (u .reads), counted x h);
+        falls = omega (arith, u .falls, x .falls);
+        room = omega (arith, u .room, x .falls);
       };
     }
-      where
-        regroup : (a p q z : List ℕ) → ((a ++ p) ++ q) ++ z ≡ a ++ (p ++ (q ++ z))
-        regroup a p q z = simp append-assoc
+right-read x h Refused d = record { says = λ f. past x h f ∙ ap (λ R. onRead R f) (d .says) }
 
-        counted : countOf underscoreKind (b ∷ tokens (drop (next .at) s)) ≡ suc (countOf underscoreKind (tokens (drop (next .at) s)))
-        counted = rw (eq-eqb (kindOf b) underscoreKind (sym (x .kind-is) ∙ h))
+pub context-none : (s o : List ℕ) (c : Spot) (o′ : List ℕ) → readChoice (left s c) ≡ bad → ReadsContext s o c o′ Refused
+context-none s o c o′ e = record { says = λ f. ap (λ R. onRead R (λ l us. rightOf us (f l))) e }
+
+module _ {s o : List ℕ} {c : Spot} {o₁ : List ℕ} {m : Spot} (t : To a-choice s o c o₁ m) where
+  went : (f : Expr → Expr → List ℕ → Form) → contextOf (left s c) f ≡ rightOf (left s m) (f (t .expr))
+  went f = ap (λ R. onRead R (λ l us. rightOf us (f l))) (choice-got t)
+
+  pub context-read : {o′ : List ℕ} (r : Made) → ReadsRight s o₁ m o′ r → ReadsContext s o c o′ r
+  context-read (Done n) d =
+      let u = d .says in
+      record {
+        says = record {
+          before = t .expr;
+          behind = u .behind;
+          reads = λ f. went f ∙ u .reads (f (t .expr));
+          code = u .code ∙ ap (λ l. l ++ (postfix (u .behind) ++ contextProgram)) (t .code) ∙ append-assoc (take (c .pos) o) (postfix (t .expr)) (postfix (u .behind) ++ contextProgram);
+          grown = grown-more (t .grown) (u .grown);
+          fewer = omega (arith, t .fewer, u .fewer);
+          marks = omega (arith, count-read (left s c) (left s m) (t .expr) (choice-got t), u .marks);
+          falls = omega (arith, t .falls, u .falls);
+          room = omega (arith, t .room, u .room);
+        };
+      }
+  context-read Refused d = record { says = λ f. went f ∙ d .says (f (t .expr)) }
 
 -- ---- rules
 
@@ -164,42 +189,51 @@ unfolding formOf
 form-rule [] e = absurd (omega arith)
 form-rule (b ∷ s) e = rw e
 
-pub rule-none : {o o′ : List ℕ} {a : ℕ} (s : List ℕ) → kindOf (getD s 0 0) ≡ greaterKind → readChoice (tokens (drop 1 s)) ≡ bad → ReadsForm s o a o′ Malformed
+pub rule-none : {o o′ : List ℕ} (s : List ℕ) → kindOf (getD s 0 0) ≡ greaterKind → readChoice (tokens (drop 1 s)) ≡ bad → ReadsForm s o o′ Malformed
 rule-none s k e = record { says = form-rule s k ∙ ap (λ R. onRead R (λ p us. contextsOf (length us) p [] us)) e }
 
-pub rule-start : (s o o₁ o₂ : List ℕ) (p : Spot) (pos : ℕ) → kindOf (getD s 0 0) ≡ greaterKind → countOf underscoreKind s ≤ 4 → Room s o → length o₂ ≡ length o
-    → To a-choice s o (record { cursor = record { at = 1 }; pos = 0 }) o₁ p → Row o₁ (p .pos) patternProgram o₂ pos → Ruled s o₂ (record { cursor = p .cursor; pos = pos })
-rule-start s o o₁ o₂ p pos k few room same t r = record {
+pub rule-start : (s o o₁ : List ℕ) (p : Spot) → kindOf (getD s 0 0) ≡ greaterKind → countOf underscoreKind s ≤ 4 → Room s o → length o₁ ≡ length o
+    → Then s o (record { cursor = record { at = 1 }; pos = 0 }) patternProgram o₁ p → Ruled s o₁ p
+rule-start s o o₁ p k few room same t = record {
   pattern = t .expr;
   contexts = [];
   fuel = length (left s p);
   enough = omega arith;
-  form = form-rule s k ∙ ap (λ R. onRead R (λ p us. contextsOf (length us) p [] us)) (choice-got t);
-  code = r .code ∙ ap (λ l. l ++ patternProgram) (t .code) ∙ ap (λ l. postfix (t .expr) ++ l) (sym (append-nil patternProgram));
-  few = omega (arith, count-drop s, count-read (tokens (drop 1 s)) (left s p) (t .expr) (choice-got t));
-  room = omega (arith, t .room, r .end-is);
+  form = form-rule s k ∙ ap (λ R. onRead R (λ p us. contextsOf (length us) p [] us)) (t .reads);
+  code = t .code ∙ ap (λ l. postfix (t .expr) ++ l) (sym (append-nil patternProgram));
+  few = omega (arith, count-drop s, count-read (tokens (drop 1 s)) (left s p) (t .expr) (t .reads));
+  room = omega (arith, t .room);
 }
 
-module _ {s o : List ℕ} {c : Spot} (d : Ruled s o c) where
-  pub rule-end : {o₀ : List ℕ} {a : ℕ} (o′ : List ℕ) (end : ℕ) → left s c ≡ [] → Grown o₀ a o (c .pos) → Row o (c .pos) finishProgram o′ end → end ≤ length o′ → ReadsForm s o₀ a o′ (Rule end)
-  rule-end o′ end e g r h = record {
-    says = record {
-      pattern = d .pattern;
-      contexts = d .contexts;
-      form = d .form ∙ ap (contextsOf (d .fuel) (d .pattern) (d .contexts)) e ∙ last (d .fuel);
-      code = r .code ∙ ap (λ l. l ++ finishProgram) (d .code) ∙ whole (postfix (d .pattern)) patternProgram (contextsCode (d .contexts)) finishProgram
-          ∙ ap (λ l. postfix (d .pattern) ++ (patternProgram ++ l)) (contexts-code (d .contexts));
-      grown = grown-more g (r .grown);
-      fits = h;
-    };
-  }
-    where
-      last : (n : ℕ) → contextsOf n (d .pattern) (d .contexts) [] ≡ rule restricts (d .pattern) (d .contexts)
-      last zero = refl
-      last (suc n) = refl
+pub rule-end : {s o₀ o : List ℕ} {p c : Spot} (o′ : List ℕ) (end : ℕ) → Grown o₀ 0 o (p .pos) → {o₁ : List ℕ} → Ended s o p o₁ c → Row o₁ (c .pos) finishProgram o′ end → end ≤ length o′
+    → ReadsForm s o₀ o′ (Rule end)
+rule-end o′ end g e r h =
+    let d = e .ruled in
+    record {
+      says = record {
+        pattern = d .pattern;
+        contexts = d .contexts;
+        form = d .form ∙ ap (contextsOf (d .fuel) (d .pattern) (d .contexts)) (e .none) ∙ last (d .pattern) (d .contexts) (d .fuel);
+        code = r .code ∙ ap (λ l. l ++ finishProgram) (d .code) ∙ whole (postfix (d .pattern)) patternProgram (contextsCode (d .contexts)) finishProgram
+            ∙ ap (λ l. postfix (d .pattern) ++ (patternProgram ++ l)) (contexts-code (d .contexts));
+        grown = grown-more g (grown-more (e .grown) (r .grown));
+        fits = h;
+      };
+    }
+  where
+    last : (p : Expr) (cs : List (Expr × Expr)) (n : ℕ) → contextsOf n p cs [] ≡ rule restricts p cs
+    last p cs zero = refl
+    last p cs (suc n) = refl
 
-      whole : (a p q z : List ℕ) → (a ++ (p ++ q)) ++ z ≡ a ++ (p ++ (q ++ z))
-      whole a p q z = simp append-assoc
+    whole : (a p q z : List ℕ) → (a ++ (p ++ q)) ++ z ≡ a ++ (p ++ (q ++ z))
+    whole a p q z = simp append-assoc
+
+pub rule-not : {s o o′ : List ℕ} → formOf s ≡ malformed → ReadsForm s o o′ Malformed
+rule-not e = record { says = e }
+
+module _ {s o : List ℕ} {c : Spot} (d : Ruled s o c) where
+  pub contexts-end : {o₀ : List ℕ} {c₀ : Spot} → left s c ≡ [] → Grown o₀ (c₀ .pos) o (c .pos) → ReadsContexts s o₀ c₀ o (Done c)
+  contexts-end e g = record { says = record { ruled = d; none = e; grown = g } }
 
   afterSlash : ℕ → Expr → Expr → List ℕ → Form
   afterSlash fuel l r ws = contextsOf fuel (d .pattern) (d .contexts ++ ((l, r) ∷ [])) ws
@@ -211,13 +245,13 @@ module _ {s o : List ℕ} {c : Spot} (d : Ruled s o c) where
   met-slash z zero h = absurd (omega (arith, ap length z))
   met-slash z (suc g) h = (g, refl, ap (contextsOf (suc g) (d .pattern) (d .contexts)) z)
 
-  pub rule-other : {o₀ o′ : List ℕ} {a b k : ℕ} {ts : List ℕ} → left s c ≡ b ∷ ts → k ≡ kindAhead (left s c) → (k ≡ slashKind → ⊥) → ReadsForm s o₀ a o′ Malformed
+  pub rule-other : {o₀ o′ : List ℕ} {c₀ : Spot} {b k : ℕ} {ts : List ℕ} → left s c ≡ b ∷ ts → k ≡ kindAhead (left s c) → (k ≡ slashKind → ⊥) → ReadsContexts s o₀ c₀ o′ Refused
   rule-other {b = b} z q h =
       let (g, r, e) = met-slash z (d .fuel) (d .enough) in
       record { says = d .form ∙ e ∙ rw (ne-eqb (kindOf b) slashKind (λ w. h (q ∙ ap kindAhead z ∙ w))) }
 
   module _ {k b : ℕ} {next : Cursor} (x : At s (c .cursor .at) k b (next .at)) where
-    pub rule-half : {o₀ o₁ o′ : List ℕ} {a : ℕ} → k ≡ slashKind → ReadsContext s o (record { cursor = next; pos = c .pos }) o₁ Refused → ReadsForm s o₀ a o′ Malformed
+    pub rule-half : {o₀ o₁ o′ : List ℕ} {c₀ : Spot} → k ≡ slashKind → ReadsContext s o (record { cursor = next; pos = c .pos }) o₁ Refused → ReadsContexts s o₀ c₀ o′ Refused
     rule-half h r =
         let (g, q, e) = met-slash (x .rest-is) (d .fuel) (d .enough) in
         record { says = d .form ∙ e ∙ rw (eq-eqb (kindOf b) slashKind (sym (x .kind-is) ∙ h)) (r .says (afterSlash g)) }
@@ -245,16 +279,6 @@ module _ {s o : List ℕ} {c : Spot} (d : Ruled s o c) where
         slash : countOf underscoreKind (b ∷ tokens (drop (next .at) s)) ≡ countOf underscoreKind (tokens (drop (next .at) s))
         slash = rw (ne-eqb (kindOf b) underscoreKind (λ w. omega (arith, x .kind-is)))
 
--- a form whose code was begun before, with what was written then
-pub form-grown : {s o o₁ o′ : List ℕ} {a b : ℕ} (r : Code) → Grown o a o₁ b → ReadsForm s o₁ b o′ r → ReadsForm s o a o′ r
-form-grown (Define x len) g d =
-    let z = d .says in
-    record { says = record { body = z .body; named = z .named; form = z .form; code = z .code; grown = grown-more g (z .grown); fits = z .fits } }
-form-grown (Rule len) g d =
-    let z = d .says in
-    record { says = record { pattern = z .pattern; contexts = z .contexts; form = z .form; code = z .code; grown = grown-more g (z .grown); fits = z .fits } }
-form-grown Malformed g d = record { says = d .says }
-
 -- ---- definitions
 
 form-define : (s : List ℕ) → kindOf (getD s 0 0) ≡ equalsKind → formOf s ≡ defineOf (tokens (drop 1 s))
@@ -268,7 +292,7 @@ no-name [] h = refl
 no-name (b ∷ ts) h = rw (ne-eqb (kindOf b) nameKind h)
 
 module _ (s : List ℕ) (is : kindOf (getD s 0 0) ≡ equalsKind) where
-  pub define-other : {o o′ : List ℕ} {from k : ℕ} → k ≡ kindAhead (tokens (drop 1 s)) → (k ≡ nameKind → ⊥) → ReadsForm s o from o′ Malformed
+  pub define-other : {o o′ : List ℕ} {k : ℕ} → k ≡ kindAhead (tokens (drop 1 s)) → (k ≡ nameKind → ⊥) → ReadsForm s o o′ Malformed
   define-other q h = record { says = form-define s is ∙ no-name (tokens (drop 1 s)) (λ e. h (q ∙ e)) }
 
   module _ {k x : ℕ} {next : Cursor} (a : At s 1 k x (next .at)) where
@@ -278,27 +302,27 @@ module _ (s : List ℕ) (is : kindOf (getD s 0 0) ≡ equalsKind) where
     define-body : k ≡ nameKind → formOf s ≡ onRead (readChoice (tokens (drop (next .at) s))) (defineAs x)
     define-body h = form-define s is ∙ ap defineOf (a .rest-is) ∙ ap (λ t. choose t (λ _. onRead (readChoice (tokens (drop (next .at) s))) (defineAs x)) (λ _. malformed)) (named h)
 
-    pub define-bad : {o o′ : List ℕ} {from : ℕ} → k ≡ nameKind → readChoice (tokens (drop (next .at) s)) ≡ bad → ReadsForm s o from o′ Malformed
+    pub define-bad : {o o′ : List ℕ} → k ≡ nameKind → readChoice (tokens (drop (next .at) s)) ≡ bad → ReadsForm s o o′ Malformed
     define-bad h e = record { says = define-body h ∙ ap (λ R. onRead R (defineAs x)) e }
 
     module _ {o o′ : List ℕ} {m : Spot} (h : k ≡ nameKind) (t : To a-choice s o (record { cursor = next; pos = 0 }) o′ m) where
       read : formOf s ≡ defineAs x (t .expr) (left s m)
       read = define-body h ∙ ap (λ R. onRead R (defineAs x)) (choice-got t)
 
-      pub define-more : {b : ℕ} {ts : List ℕ} → left s m ≡ b ∷ ts → ReadsForm s o 0 o′ Malformed
+      pub define-more : {b : ℕ} {ts : List ℕ} → left s m ≡ b ∷ ts → ReadsForm s o o′ Malformed
       define-more e = record { says = read ∙ ap (defineAs x (t .expr)) e }
 
-      pub define-whole : left s m ≡ [] → m .pos ≤ length o′ → ReadsForm s o 0 o′ (Define x (m .pos))
+      pub define-whole : left s m ≡ [] → m .pos ≤ length o′ → ReadsForm s o o′ (Define x (m .pos))
       define-whole e f = record { says = record { body = t .expr; named = named h; form = read ∙ ap (defineAs x (t .expr)) e; code = t .code; grown = t .grown; fits = f } }
 
 -- ---- lines of neither form
 
-pub form-empty : {o o′ : List ℕ} {a : ℕ} (s : List ℕ) → length s < 1 → ReadsForm s o a o′ Malformed
+pub form-empty : {o o′ : List ℕ} (s : List ℕ) → length s < 1 → ReadsForm s o o′ Malformed
 unfolding formOf
 form-empty [] h = record { says = refl }
 form-empty (b ∷ s) h = absurd (omega arith)
 
-pub form-neither : {o o′ : List ℕ} {a : ℕ} (s : List ℕ) (k : ℕ) → k ≡ kindOf (getD s 0 0) → (k ≡ equalsKind → ⊥) → (k ≡ greaterKind → ⊥) → ReadsForm s o a o′ Malformed
+pub form-neither : {o o′ : List ℕ} (s : List ℕ) (k : ℕ) → k ≡ kindOf (getD s 0 0) → (k ≡ equalsKind → ⊥) → (k ≡ greaterKind → ⊥) → ReadsForm s o o′ Malformed
 unfolding formOf
 form-neither [] k q m n = record { says = refl }
 form-neither (b ∷ s) k q m n = record { says = rw (ne-eqb (kindOf b) equalsKind (λ w. m (q ∙ w)), ne-eqb (kindOf b) greaterKind (λ w. n (q ∙ w))) }
@@ -311,3 +335,17 @@ module _ {s o : List ℕ} {c : Spot} {o′ : List ℕ} {r : Made} (d : ReadsCont
 
   pub context-not : r ≡ Refused → ReadsContext s o c o′ Refused
   context-not e = record { says = rw e at (d .says) }
+
+module _ {s o : List ℕ} {c : Spot} {row o′ : List ℕ} {r : Made} (d : ReadsThen s o c row o′ r) where
+  pub then-to : {n : Spot} → r ≡ Done n → Then s o c row o′ n
+  then-to e = rw e at (d .says)
+
+  pub then-not : r ≡ Refused → readChoice (left s c) ≡ bad
+  then-not e = rw e at (d .says)
+
+module _ {s o : List ℕ} {c : Spot} {o′ : List ℕ} {r : Made} (d : ReadsContexts s o c o′ r) where
+  pub contexts-to : {n : Spot} → r ≡ Done n → Ended s o c o′ n
+  contexts-to e = rw e at (d .says)
+
+  pub contexts-not : r ≡ Refused → formOf s ≡ malformed
+  contexts-not e = rw e at (d .says)

@@ -27,7 +27,7 @@ ghost use lib.ListN.{length, getD};
 ghost use Rattle.book.specs.Kind.{kindOf, equalsKind, greaterKind, underscoreKind};
 ghost use Rattle.book.specs.Text.{countOf};
 ghost use Rattle.choice.specs.Kinds.{Kinds};
-ghost use Rattle.forms.specs.Forms.{Row, Room, ReadsContext, Ruled, ReadsForm};
+ghost use Rattle.forms.specs.Forms.{Row, Room, ReadsThen, ReadsRight, ReadsContext, Ruled, ReadsContexts, ReadsForm};
 
 // The programs of specs/Program.antt.
 const PATTERN_PROGRAM: [u8; 10] = [
@@ -78,44 +78,55 @@ fn put_row(out: &mut [u8], pos: usize, row: &[u8]) -> usize
     pos + i
 }
 
-// "a choice, `_`, a choice": with X, l, r on the stack, l M p M r is taken from X.
-fn context(kinds: &KindTable, line: &[u8], out: &mut [u8], c: Spot) -> Made
+// A choice, and a row of codes behind its own.
+fn choice_then(kinds: &KindTable, line: &[u8], out: &mut [u8], c: Spot, row: &[u8]) -> Made
     requires { ⌜ Kinds (now kinds) ⌝ }
-    requires { ⌜ c .pos + 2 * (length (now line) - c .cursor .at) + 10 ≤ length (now out) ⌝ }
-    ensures { λ r. ⌜ ReadsContext (now (line .entry)) (now (out .entry)) c (now (out .exit)) r ⌝ }
+    requires { ⌜ c .pos + 2 * (length (now line) - c .cursor .at) + length (now row) ≤ length (now out) ⌝ }
+    ensures { λ r. ⌜ ReadsThen (now (line .entry)) (now (out .entry)) c (now (row .entry)) (now (out .exit)) r ⌝ }
 {
-    let Made::Done(first) = choice::choice(kinds, line, out, c) else {
+    let Made::Done(n) = choice::choice(kinds, line, out, c) else {
         return Made::Refused;
     };
-    let behind = first.cursor;
+    let pos = put_row(out, n.pos, row);
+    let cursor = n.cursor;
+    Made::Done(Spot { cursor, pos })
+}
+
+// "`_`, a choice": with X, l, r on the stack, l M p M r is taken from X.
+fn right(kinds: &KindTable, line: &[u8], out: &mut [u8], c: Spot) -> Made
+    requires { ⌜ Kinds (now kinds) ⌝ }
+    requires { ⌜ c .pos + 2 * (length (now line) - c .cursor .at) + 10 ≤ length (now out) ⌝ }
+    ensures { λ r. ⌜ ReadsRight (now (line .entry)) (now (out .entry)) c (now (out .exit)) r ⌝ }
+{
+    let behind = c.cursor;
     let t = behind.token(kinds, line);
     let k = t.kind;
     if k != UNDERSCORE_KIND {
         return Made::Refused;
     }
-    let next = t.next;
-    let Made::Done(second) = choice::choice(
-        kinds,
-        line,
-        out,
-        Spot {
-            cursor: next,
-            pos: first.pos,
-        },
-    ) else {
+    let cursor = t.next;
+    let pos = c.pos;
+    let row = CONTEXT_PROGRAM;
+    choice_then(kinds, line, out, Spot { cursor, pos }, &row)
+}
+
+// "a choice, `_`, a choice"
+fn context(kinds: &KindTable, line: &[u8], out: &mut [u8], c: Spot) -> Made
+    requires { ⌜ Kinds (now kinds) ⌝ }
+    requires { ⌜ c .pos + 2 * (length (now line) - c .cursor .at) + 10 ≤ length (now out) ⌝ }
+    ensures { λ r. ⌜ ReadsContext (now (line .entry)) (now (out .entry)) c (now (out .exit)) r ⌝ }
+{
+    let Made::Done(n) = choice::choice(kinds, line, out, c) else {
         return Made::Refused;
     };
-    let row = CONTEXT_PROGRAM;
-    let pos = put_row(out, second.pos, &row);
-    let cursor = second.cursor;
-    Made::Done(Spot { cursor, pos })
+    right(kinds, line, out, n)
 }
 
 // "then per context `/`, a choice, `_`, a choice", up to the line's end
-fn contexts(kinds: &KindTable, line: &[u8], out: &mut [u8], c: Spot) -> Code
+fn contexts(kinds: &KindTable, line: &[u8], out: &mut [u8], c: Spot) -> Made
     requires { ⌜ Kinds (now kinds) ⌝ }
     requires { ⌜ Ruled (now line) (now out) c ⌝ }
-    ensures { λ r. ⌜ ReadsForm (now (line .entry)) (now (out .entry)) (c .pos) (now (out .exit)) r ⌝ }
+    ensures { λ r. ⌜ ReadsContexts (now (line .entry)) (now (out .entry)) c (now (out .exit)) r ⌝ }
 {
     let mut here = c;
     loop {
@@ -123,12 +134,11 @@ fn contexts(kinds: &KindTable, line: &[u8], out: &mut [u8], c: Spot) -> Code
         let t = behind.token(kinds, line);
         let start = t.start;
         if line.len() <= start.at {
-            let row = FINISH_PROGRAM;
-            return Code::Rule(put_row(out, here.pos, &row));
+            return Made::Done(here);
         }
         let k = t.kind;
         if k != SLASH_KIND {
-            return Code::Malformed;
+            return Made::Refused;
         }
         let next = t.next;
         let Made::Done(n) = context(
@@ -140,7 +150,7 @@ fn contexts(kinds: &KindTable, line: &[u8], out: &mut [u8], c: Spot) -> Code
                 pos: here.pos,
             },
         ) else {
-            return Code::Malformed;
+            return Made::Refused;
         };
         here = n;
     }
@@ -152,19 +162,21 @@ fn rule(kinds: &KindTable, line: &[u8], out: &mut [u8]) -> Code
     requires { ⌜ Room (now line) (now out) ⌝ }
     requires { ⌜ kindOf (getD (now line) 0 0) ≡ greaterKind ⌝ }
     requires { ⌜ countOf underscoreKind (now line) ≤ 4 ⌝ }
-    ensures { λ r. ⌜ ReadsForm (now (line .entry)) (now (out .entry)) 0 (now (out .exit)) r ⌝ }
+    ensures { λ r. ⌜ ReadsForm (now (line .entry)) (now (out .entry)) (now (out .exit)) r ⌝ }
 {
     let start = Spot {
         cursor: Cursor { at: 1 },
         pos: 0,
     };
-    let Made::Done(p) = choice::choice(kinds, line, out, start) else {
+    let row = PATTERN_PROGRAM;
+    let Made::Done(p) = choice_then(kinds, line, out, start, &row) else {
         return Code::Malformed;
     };
-    let row = PATTERN_PROGRAM;
-    let pos = put_row(out, p.pos, &row);
-    let cursor = p.cursor;
-    contexts(kinds, line, out, Spot { cursor, pos })
+    let Made::Done(n) = contexts(kinds, line, out, p) else {
+        return Code::Malformed;
+    };
+    let last = FINISH_PROGRAM;
+    Code::Rule(put_row(out, n.pos, &last))
 }
 
 // "a definition, `=`, a name, a choice": behind the `=`
@@ -172,7 +184,7 @@ fn definition(kinds: &KindTable, line: &[u8], out: &mut [u8]) -> Code
     requires { ⌜ Kinds (now kinds) ⌝ }
     requires { ⌜ Room (now line) (now out) ⌝ }
     requires { ⌜ kindOf (getD (now line) 0 0) ≡ equalsKind ⌝ }
-    ensures { λ r. ⌜ ReadsForm (now (line .entry)) (now (out .entry)) 0 (now (out .exit)) r ⌝ }
+    ensures { λ r. ⌜ ReadsForm (now (line .entry)) (now (out .entry)) (now (out .exit)) r ⌝ }
 {
     let t = (Cursor { at: 1 }).token(kinds, line);
     let k = t.kind;
@@ -205,7 +217,7 @@ pub fn form(kinds: &KindTable, line: &[u8], out: &mut [u8]) -> Code
     requires { ⌜ Kinds (now kinds) ⌝ }
     requires { ⌜ Room (now line) (now out) ⌝ }
     requires { ⌜ countOf underscoreKind (now line) ≤ 4 ⌝ }
-    ensures { λ r. ⌜ ReadsForm (now (line .entry)) (now (out .entry)) 0 (now (out .exit)) r ⌝ }
+    ensures { λ r. ⌜ ReadsForm (now (line .entry)) (now (out .entry)) (now (out .exit)) r ⌝ }
 {
     if line.len() < 1 {
         return Code::Malformed;

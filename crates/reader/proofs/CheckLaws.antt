@@ -108,7 +108,7 @@ module _ (s : List ℕ) (ended : Bool) (n : ℕ) (q : n ≡ lineTest (lineOf s e
       unfolding checkForm
       stopped-form e = record { says = record { is = λ ns _. form-read ns ∙ ap (checkForm ls ns) e } }
 
-      module _ {x len : ℕ} (d : Defines s o 0 o′ x len) {r : Bool} (k : Knows (take (len - 0) (drop 0 o′)) ls f r) where
+      module _ {x len : ℕ} (d : Defines s o o′ x len) {r : Bool} (k : Knows (take (len - 0) (drop 0 o′)) ls f r) where
         held : FormHeld 17 (define x (d .body))
         held = subst (FormHeld 17) (d .form) (line-held (lineOf s ended) (sym q ∙ z))
 
@@ -143,7 +143,7 @@ module _ (s : List ℕ) (ended : Bool) (n : ℕ) (q : n ≡ lineTest (lineOf s e
           };
         }
 
-      module _ {len : ℕ} (d : Rules s o 0 o′ len) {r : Bool} (k : Knows (take (len - 0) (drop 0 o′)) ls f r) where
+      module _ {len : ℕ} (d : Rules s o o′ len) {r : Bool} (k : Knows (take (len - 0) (drop 0 o′)) ls f r) where
         held-rule : FormHeld 17 (rule restricts (d .pattern) (d .contexts))
         held-rule = subst (FormHeld 17) (d .form) (line-held (lineOf s ended) (sym q ∙ z))
 
@@ -175,11 +175,11 @@ module _ (s : List ℕ) (ended : Bool) (n : ℕ) (q : n ≡ lineTest (lineOf s e
 
 -- ---- what the functions answer, case by case
 
-module _ {s o o′ : List ℕ} {a : ℕ} {r : Code} (d : ReadsForm s o a o′ r) where
-  pub form-name : {x len : ℕ} → r ≡ code.the-variants.Define x len → Defines s o a o′ x len
+module _ {s o o′ : List ℕ} {r : Code} (d : ReadsForm s o o′ r) where
+  pub form-name : {x len : ℕ} → r ≡ code.the-variants.Define x len → Defines s o o′ x len
   form-name e = rw e at (d .says)
 
-  pub form-rules : {len : ℕ} → r ≡ code.the-variants.Rule len → Rules s o a o′ len
+  pub form-rules : {len : ℕ} → r ≡ code.the-variants.Rule len → Rules s o o′ len
   form-rules e = rw e at (d .says)
 
   pub form-not : r ≡ code.the-variants.Malformed → formOf s ≡ malformed

@@ -8,7 +8,7 @@ use Rattle.choice.proofs.TokenLaws.{past-token, past-end}
 use Rattle.choice.specs.Buffer.{Grown}
 use Rattle.choice.specs.BufferLaws.{grown-none, grown-more}
 use Rattle.forms.specs.Forms.{Ruled}
-use Rattle.forms.proofs.FormLaws.{rule-end, rule-other, rule-half, rule-next, context-to, context-not}
+use Rattle.forms.proofs.FormLaws.{rule-other, rule-half, rule-next, context-to, context-not, contexts-end}
 use Rattle.forms.proofs.contexts.Statement.{statement}
 use Rattle.forms.proofs.contexts.Tie as tie
 
@@ -21,15 +21,8 @@ abbrev μ-loop : tie.MeasureT-loop
 loop-holds : tie.Need-loop-holds Inv-loop μ-loop
 loop-holds c = (c .before .before .pre .1, refl, grown-none _ _)
 
-put-row-requires : tie.Need-put-row-requires Inv-loop μ-loop
-put-row-requires c κs =
-    let d = c .before .before .before .before .before .before .before .loop .inv .0 in
-    omega (arith, d .room, d .few)
-
 returns : tie.Need-returns Inv-loop μ-loop
-returns c =
-    let d = c .before .before .before .before .before .before .before .before .before .before .loop .inv .0 in
-    rule-end d _ _ (past-end (c .before .before .before .before .before .before .before .before .token .ensures .start) (c .before .before .before .before .before .if1 .taken)) (c .before .before .before .before .before .before .before .before .before .before .loop .inv .2) (c .before .before .put-row .ensures) (omega (arith, d .room, d .few, c .before .before .put-row .ensures .end-is, c .before .before .put-row .kept .0))
+returns c = contexts-end (c .before .before .before .before .before .loop .inv .0) (past-end (c .before .before .before .token .ensures .start) (c .if1 .taken)) (c .before .before .before .before .before .loop .inv .2)
 
 returns-2 : tie.Need-returns-2 Inv-loop μ-loop
 returns-2 c = rule-other (c .before .before .before .before .before .before .loop .inv .0) (past-token (c .before .before .before .before .token .ensures .start) (c .before .if1 .left)) (c .before .before .before .before .token .ensures .kind-is) (c .if2 .taken)
@@ -42,9 +35,8 @@ context-requires c κs =
 
 returns-3 : tie.Need-returns-3 Inv-loop μ-loop
 returns-3 c =
-    let d = c .before .before .before .before .before .before .before .before .before .before .before .before .before .loop .inv .0 in
     let x = c .before .before .before .before .before .before .before .before .before .before .before .token .ensures .token (λ e. omega arith) in
-    rule-half d x (c .before .before .before .before .before .before .before .if2 .left) (context-not (c .before .before .before .before .context .ensures) (c .enum-told .given .1))
+    rule-half (c .before .before .before .before .before .before .before .before .before .before .before .before .before .loop .inv .0) x (c .before .before .before .before .before .before .before .if2 .left) (context-not (c .before .before .before .before .context .ensures) (c .enum-told .given .1))
 
 loop-less : tie.Need-loop-less Inv-loop μ-loop
 loop-less c =
@@ -53,10 +45,9 @@ loop-less c =
 
 loop-again : tie.Need-loop-again Inv-loop μ-loop
 loop-again c =
-    let d = c .before .before .before .before .before .before .before .before .before .before .before .before .before .before .loop .inv .0 in
     let x = c .before .before .before .before .before .before .before .before .before .before .before .before .token .ensures .token (λ e. omega arith) in
     let t = context-to (c .before .before .before .before .before .context .ensures) (c .before .n .given .1) in
-    (rule-next d x _ _ (c .before .before .before .before .before .before .before .before .if2 .left) t (c .before .before .before .before .before .context .kept .1 .1 .0), c .before .before .before .before .before .context .kept .1 .1 .0 ∙ c .before .before .before .before .before .before .before .before .before .before .before .before .before .before .loop .inv .1, grown-more (c .before .before .before .before .before .before .before .before .before .before .before .before .before .before .loop .inv .2) (t .grown))
+    (rule-next (c .before .before .before .before .before .before .before .before .before .before .before .before .before .before .loop .inv .0) x _ _ (c .before .before .before .before .before .before .before .before .if2 .left) t (c .before .before .before .before .before .context .kept .1 .1 .0), c .before .before .before .before .before .context .kept .1 .1 .0 ∙ c .before .before .before .before .before .before .before .before .before .before .before .before .before .before .loop .inv .1, grown-more (c .before .before .before .before .before .before .before .before .before .before .before .before .before .before .loop .inv .2) (t .grown))
 
 pub contexts-spec : {M : Type 1} → statement M
 contexts-spec =
@@ -66,8 +57,6 @@ contexts-spec =
     μ-loop
     loop-holds
     (λ c κs. search needs)
-    (λ c. search needs)
-    put-row-requires
     (λ c. search needs)
     returns
     (λ c. search needs)
