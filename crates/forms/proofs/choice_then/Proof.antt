@@ -6,6 +6,9 @@ use Rattle.forms.proofs.FormLaws.{then-bad, then-done}
 use Rattle.forms.proofs.choice_then.Statement.{statement}
 use Rattle.forms.proofs.choice_then.Tie as tie
 
+choice-requires : tie.Need-choice-requires
+choice-requires c κs = (c .before .before .before .before .pre .0, omega (arith, c .before .before .before .before .pre .1))
+
 returns : tie.Need-returns
 returns c = then-bad (choice-bad (c .before .before .before .before .choice .ensures) (c .enum-told .given .1))
 
@@ -21,7 +24,7 @@ pub choice-then-spec : {M : Type 1} → statement M
 choice-then-spec =
     tie.close
     (tie.spec
-    (λ c κs. search needs)
+    choice-requires
     (λ c. search needs)
     (λ c. search needs)
     (λ c. search needs)

@@ -21,6 +21,9 @@ abbrev μ-loop : tie.MeasureT-loop
 loop-holds : tie.Need-loop-holds Inv-loop μ-loop
 loop-holds c = (c .before .before .pre .1, refl, grown-none _ _)
 
+token-requires : tie.Need-token-requires Inv-loop μ-loop
+token-requires c κs = c .before .before .before .before .pre .0
+
 returns : tie.Need-returns Inv-loop μ-loop
 returns c = contexts-end (c .before .before .before .before .before .loop .inv .0) (past-end (c .before .before .before .token .ensures .start) (c .if1 .taken)) (c .before .before .before .before .before .loop .inv .2)
 
@@ -31,7 +34,7 @@ context-requires : tie.Need-context-requires Inv-loop μ-loop
 context-requires c κs =
     let d = c .before .before .before .before .before .before .before .before .loop .inv .0 in
     let x = c .before .before .before .before .before .before .token .ensures .token (λ e. omega arith) in
-    (search needs, omega (arith, d .room, d .few, x .falls))
+    (c .before .before .before .before .before .before .before .before .before .before .before .pre .0, omega (arith, d .room, d .few, x .falls))
 
 returns-3 : tie.Need-returns-3 Inv-loop μ-loop
 returns-3 c =
@@ -56,7 +59,7 @@ contexts-spec =
     Inv-loop
     μ-loop
     loop-holds
-    (λ c κs. search needs)
+    token-requires
     (λ c. search needs)
     returns
     (λ c. search needs)

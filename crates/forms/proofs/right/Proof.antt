@@ -5,13 +5,16 @@ use Rattle.forms.proofs.FormLaws.{right-other, right-read}
 use Rattle.forms.proofs.right.Statement.{statement}
 use Rattle.forms.proofs.right.Tie as tie
 
+token-requires : tie.Need-token-requires
+token-requires c κs = c .before .before .before .pre .0
+
 returns : tie.Need-returns
 returns c = right-other _ (c .before .token .ensures .kind-is) (c .if1 .taken)
 
 choice-then-requires : tie.Need-choice-then-requires
 choice-then-requires c κs =
     let x = c .before .before .before .before .token .ensures .token (λ e. omega arith) in
-    (search needs, omega (arith, x .falls, c .before .before .before .before .before .before .before .before .pre .1))
+    (c .before .before .before .before .before .before .before .before .pre .0, omega (arith, x .falls, c .before .before .before .before .before .before .before .before .pre .1))
 
 returns-2 : tie.Need-returns-2
 returns-2 c =
@@ -22,7 +25,7 @@ pub right-spec : {M : Type 1} → statement M
 right-spec =
     tie.close
     (tie.spec
-    (λ c κs. search needs)
+    token-requires
     returns
     (λ c. search needs)
     choice-then-requires

@@ -6,7 +6,7 @@ use Rattle.forms.proofs.rule.Statement.{statement}
 use Rattle.forms.proofs.rule.Tie as tie
 
 choice-then-requires : tie.Need-choice-then-requires
-choice-then-requires c κs = (search needs, omega (arith, c .before .before .before .before .pre .1 .0))
+choice-then-requires c κs = (c .before .before .before .before .pre .0, omega (arith, c .before .before .before .before .pre .1 .0))
 
 returns : tie.Need-returns
 returns c = rule-none _ (c .before .before .before .before .before .before .before .before .before .pre .1 .1 .0) (then-not (c .before .before .before .before .choice-then .ensures) (c .enum-told .given .1))
@@ -14,7 +14,7 @@ returns c = rule-none _ (c .before .before .before .before .before .before .befo
 contexts-requires : tie.Need-contexts-requires
 contexts-requires c κs =
     let t = then-to (c .before .before .before .before .before .before .choice-then .ensures) (c .before .before .p .given .1) in
-    (search needs, rule-start _ _ _ _ (c .before .before .before .before .before .before .before .before .before .before .before .pre .1 .1 .0) (c .before .before .before .before .before .before .before .before .before .before .before .pre .1 .1 .1) (c .before .before .before .before .before .before .before .before .before .before .before .pre .1 .0) (c .before .before .before .before .before .before .choice-then .kept .1 .1 .0) t)
+    (c .before .before .before .before .before .before .before .before .before .before .before .pre .0, rule-start _ _ _ _ (c .before .before .before .before .before .before .before .before .before .before .before .pre .1 .1 .0) (c .before .before .before .before .before .before .before .before .before .before .before .pre .1 .1 .1) (c .before .before .before .before .before .before .before .before .before .before .before .pre .1 .0) (c .before .before .before .before .before .before .choice-then .kept .1 .1 .0) t)
 
 returns-2 : tie.Need-returns-2
 returns-2 c = rule-not (contexts-not (c .before .before .before .before .contexts .ensures) (c .enum-told2 .given .1))
