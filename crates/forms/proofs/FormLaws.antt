@@ -29,7 +29,6 @@ use Rattle.choice.specs.declared.lexer.Cursor.{Cursor}
 use Rattle.choice.specs.declared.Made.{Made}
 use Rattle.choice.specs.declared.Made.the-variants.{Done, Refused}
 use Rattle.forms.specs.Forms.{Row, Room, Then, ReadsThen, rightOf, ReadsRight, contextOf, Context, ReadsContext, contextsCode, Ruled, Ended, ReadsContexts, ReadsForm}
-use Rattle.forms.specs.declared.Code.{Code}
 use Rattle.forms.specs.declared.Code.the-variants.{Define, Rule, Malformed}
 
 -- ---- rows of codes

@@ -22,14 +22,14 @@ use choice::kinds::KindTable;
 use choice::kinds::kind;
 use choice::lexer::Cursor;
 ghost use mathlib.Core.Path.{_≡_};
-ghost use Prim.Native.Nat.{_+_, _*_, _-_, _<_, _≤_};
+ghost use Prim.Native.Nat.{_+_, _*_, _-_, _≤_};
 ghost use lib.ListN.{length, getD};
 ghost use Rattle.book.specs.Kind.{kindOf, equalsKind, greaterKind, underscoreKind};
 ghost use Rattle.book.specs.Text.{countOf};
 ghost use Rattle.choice.specs.Kinds.{Kinds};
 ghost use Rattle.forms.specs.Forms.{Row, Room, ReadsThen, ReadsRight, ReadsContext, Ruled, ReadsContexts, ReadsForm};
 
-// The programs of specs/Program.antt.
+// The programs of specs/Program.antt of `book`.
 const PATTERN_PROGRAM: [u8; 10] = [
     STORE_PATTERN_CODE,
     ALL_CODE,
