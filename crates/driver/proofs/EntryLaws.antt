@@ -31,10 +31,10 @@ use Rattle.writer.specs.Written as W
 use Rattle.writer.specs.declared.Wrote.{Wrote}
 use Rattle.writer.specs.declared.Wrote.the-variants.{Length, TooShort}
 use Rattle.reader.specs.Names as N
-use Rattle.reader.specs.Lines.{lineOf, lineAt, Ends}
-use Rattle.reader.specs.Head.{headOf}
-use Rattle.reader.specs.declared.head.Head.{Head}
-use Rattle.reader.specs.declared.head.Head as head
+use Rattle.scans.specs.Lines.{lineOf, lineAt, Ends}
+use Rattle.scans.specs.Head.{headOf}
+use Rattle.scans.specs.declared.head.Head.{Head}
+use Rattle.scans.specs.declared.head.Head as head
 use Rattle.kept.specs.Stored.{InSlot}
 use Rattle.lines.specs.Lines.{linesFrom, Lent, LinesSay, CompilesLines}
 use Rattle.lines.specs.declared.Ended.{Ended}

@@ -1,9 +1,9 @@
 // The compiler's entry: the lines of a book in order, their stages, and the card. It has no requires; all below it are its parts.
 use lexer::kinds::KindTable;
 use lines::Ended;
-use reader::ends;
-use reader::head;
-use reader::head::Head;
+use scans::ends;
+use scans::head;
+use scans::head::Head;
 use stages::slot;
 use writer::Wrote;
 ghost use mathlib.Core.Path.{_≡_};

@@ -17,7 +17,7 @@ use Rattle.book.specs.LineLaws.{KnownForm, line-elim}
 use Rattle.compiler.specs.Book.{Draft, on, off, onMade, compileForm, afterRead, compileLine}
 use Rattle.compiler.specs.Outcome.{most}
 use Rattle.reader.specs.Names.{Holds}
-use Rattle.reader.specs.Lines.{lineAt}
+use Rattle.scans.specs.Lines.{lineAt}
 use Rattle.reader.specs.Answers.{Reads, WrittenName, WrittenRule, ReadsNext}
 use Rattle.reader.specs.Answers as answers
 use Rattle.reader.specs.declared.line.LineAnswer as lineAnswer

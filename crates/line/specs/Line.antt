@@ -16,7 +16,7 @@ use Rattle.book.specs.LineLaws.{KnownForm}
 use Rattle.compiler.specs.Book.{Draft, on, off, compileForm, compileLine}
 use Rattle.compiler.specs.Outcome.{most}
 use Rattle.reader.specs.Names.{Holds, More}
-use Rattle.reader.specs.Lines.{lineAt, Ends}
+use Rattle.scans.specs.Lines.{lineAt, Ends}
 use Rattle.reader.specs.declared.line.LineAnswer.{LineAnswer}
 use Rattle.reader.specs.declared.line.LineAnswer.the-variants as answer
 use Rattle.kept.specs.Stored.{Stored}

@@ -9,7 +9,7 @@ use Rattle.automata.specs.Format.{narrow}
 use Rattle.automata.specs.Booleans.{choose}
 use Rattle.book.specs.Text.{linesOf}
 use Rattle.compiler.specs.Book.{Draft, LineResult, on, off, afterLine, compileLine, compileLines, done, stopped, startDraft}
-use Rattle.reader.specs.Lines.{lineAt}
+use Rattle.scans.specs.Lines.{lineAt}
 use Rattle.kept.specs.Stored.{Begins}
 use Rattle.line.specs.Line.{Starts, Drafted, Going, LineSays, CompilesLine}
 use Rattle.line.specs.declared.progress.Book.{Book}

@@ -20,14 +20,14 @@ use Rattle.book.specs.Text.{define, rule, malformed, formOf, tooDeep, countOf, 
 use Rattle.book.specs.Line.{reads, stops, readLine, checkForm}
 use Rattle.book.specs.Program.{pairCode, postfix, program, contextsProgram}
 use Rattle.book.specs.StackLaws.{Leaves, AllHeld, FormHeld, line-held}
-use Rattle.reader.specs.Lines.{lineOf, lineAt, Ends}
+use Rattle.scans.specs.Lines.{lineOf, lineAt, Ends}
 use Rattle.reader.specs.Names.{Holds}
 use Rattle.reader.specs.Known.{codeKnown, Knows}
-use Rattle.reader.specs.Forms.{Defines, Rules, ReadsForm}
+use Rattle.forms.specs.Forms.{Defines, Rules, ReadsForm}
 use Rattle.reader.specs.Answers.{ReadsLine, ReadsNext}
 use Rattle.reader.specs.declared.names.Names.{Names}
-use Rattle.reader.specs.declared.forms.Code.{Code}
-use Rattle.reader.specs.declared.forms.Code as code
+use Rattle.forms.specs.declared.Code.{Code}
+use Rattle.forms.specs.declared.Code as code
 use Rattle.reader.specs.declared.line.Answer as answer
 use Rattle.reader.specs.declared.line.Answer.{Answer}
 use Rattle.reader.specs.declared.line.LineAnswer as lineAnswer
@@ -108,7 +108,7 @@ module _ (s : List ℕ) (ended : Bool) (n : ℕ) (q : n ≡ lineTest (lineOf s e
       unfolding checkForm
       stopped-form e = record { says = record { is = λ ns _. form-read ns ∙ ap (checkForm ls ns) e } }
 
-      module _ {x len : ℕ} (d : Defines s o 0 o′ x len) {r : Bool} (k : Knows (take (len - 0) (drop 0 o′)) ls f r) where
+      module _ {x len : ℕ} (d : Defines s o o′ x len) {r : Bool} (k : Knows (take (len - 0) (drop 0 o′)) ls f r) where
         held : FormHeld 17 (define x (d .body))
         held = subst (FormHeld 17) (d .form) (line-held (lineOf s ended) (sym q ∙ z))
 
@@ -143,7 +143,7 @@ module _ (s : List ℕ) (ended : Bool) (n : ℕ) (q : n ≡ lineTest (lineOf s e
           };
         }
 
-      module _ {len : ℕ} (d : Rules s o 0 o′ len) {r : Bool} (k : Knows (take (len - 0) (drop 0 o′)) ls f r) where
+      module _ {len : ℕ} (d : Rules s o o′ len) {r : Bool} (k : Knows (take (len - 0) (drop 0 o′)) ls f r) where
         held-rule : FormHeld 17 (rule restricts (d .pattern) (d .contexts))
         held-rule = subst (FormHeld 17) (d .form) (line-held (lineOf s ended) (sym q ∙ z))
 
@@ -175,11 +175,11 @@ module _ (s : List ℕ) (ended : Bool) (n : ℕ) (q : n ≡ lineTest (lineOf s e
 
 -- ---- what the functions answer, case by case
 
-module _ {s o o′ : List ℕ} {a : ℕ} {r : Code} (d : ReadsForm s o a o′ r) where
-  pub form-name : {x len : ℕ} → r ≡ code.the-variants.Define x len → Defines s o a o′ x len
+module _ {s o o′ : List ℕ} {r : Code} (d : ReadsForm s o o′ r) where
+  pub form-name : {x len : ℕ} → r ≡ code.the-variants.Define x len → Defines s o o′ x len
   form-name e = rw e at (d .says)
 
-  pub form-rules : {len : ℕ} → r ≡ code.the-variants.Rule len → Rules s o a o′ len
+  pub form-rules : {len : ℕ} → r ≡ code.the-variants.Rule len → Rules s o o′ len
   form-rules e = rw e at (d .says)
 
   pub form-not : r ≡ code.the-variants.Malformed → formOf s ≡ malformed

@@ -1,5 +1,3 @@
 -- Laws that the proofs cite.
-pub mod LineLaws
 pub mod SymbolLaws
-pub mod FormLaws
 pub mod CheckLaws

@@ -16,7 +16,7 @@ use Rattle.book.specs.Kind.{kindOf, isName, signs, signKind, letterKind, nameKi
 use Rattle.reader.specs.declared.names.Names.{Names}
 use Rattle.reader.specs.Names.{Holds, More}
 use Rattle.reader.specs.Known.{codeKnown, KnowsSymbol, Knows}
-use Rattle.reader.proofs.LineLaws.{front}
+use Rattle.scans.proofs.LineLaws.{front}
 
 -- ---- membership
 

@@ -3,7 +3,7 @@ use mathlib.Core.Path.{_≡_}
 use mathlib.Core.List.{List}
 use Prim.Native.Nat.{ℕ, suc}
 use Rattle.book.specs.Line.{stops}
-use Rattle.reader.specs.Lines.{lineAt}
+use Rattle.scans.specs.Lines.{lineAt}
 use Rattle.reader.specs.Answers.{Reads, WrittenName, WrittenRule, ReadsNext}
 use Rattle.reader.specs.declared.names.Names.{Names}
 use Rattle.reader.specs.declared.line.LineAnswer.{LineAnswer}

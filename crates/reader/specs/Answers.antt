@@ -11,7 +11,7 @@ use Rattle.book.specs.Text.{Line, Form, define, rule}
 use Rattle.book.specs.Line.{LineRead, reads, stops, readLine}
 use Rattle.book.specs.Program.{program}
 use Rattle.book.specs.StackLaws.{FormHeld}
-use Rattle.reader.specs.Lines.{lineAt, Ends}
+use Rattle.scans.specs.Lines.{lineAt, Ends}
 use Rattle.reader.specs.Names.{Holds}
 use Rattle.reader.specs.declared.names.Names.{Names}
 use Rattle.reader.specs.declared.line.Answer as answer

@@ -1,8 +1,5 @@
 -- What the functions of this crate promise.
-pub mod Lines
-pub mod Head
 pub mod Names
 pub mod Known
-pub mod Forms
 pub mod Answers
 pub mod AnswerLaws

@@ -1,16 +1,16 @@
 // A later line: 3 to 7 in this order, each a test of the whole line, and the program of its form.
-use crate::ends;
-use crate::forms;
-use crate::forms::Code;
+
 use crate::names::Names;
 use crate::symbols;
-use crate::tests;
 use lexer::kinds::KindTable;
+use forms::Code;
+use scans::ends;
+use scans::tests;
 ghost use Prim.Native.Nat.{_<_, _*_, _+_, _≤_};
 ghost use lib.ListN.{length};
 ghost use Rattle.lexer.specs.Kinds.{Kinds};
-ghost use Rattle.reader.specs.Forms.{Room};
-ghost use Rattle.reader.specs.Lines.{lineOf};
+ghost use Rattle.forms.specs.Forms.{Room};
+ghost use Rattle.scans.specs.Lines.{lineOf};
 ghost use Rattle.reader.specs.Answers.{ReadsLine, ReadsNext};
 
 // What a line says: a name with the length of its program, or a rule with the length of its program, or the number of a refusal.

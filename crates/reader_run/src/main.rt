@@ -2,12 +2,12 @@
 // gives: 3 to 7 in a line, or 10 without a line where there is no rule; `0 0` where it gives none. No stage is made.
 use lexer::kinds::KindTable;
 use libc::STDOUT_FILENO;
-use reader::ends::line_end;
-use reader::head::Head;
-use reader::head::read_head;
 use reader::line::LineAnswer;
 use reader::line::read_line;
 use reader::names::Names;
+use scans::ends::line_end;
+use scans::head::Head;
+use scans::head::read_head;
 ghost use Prim.Native.Nat.{_+_, _*_, _≤_};
 ghost use lib.ListN.{length};
 ghost use Rattle.lexer.specs.Kinds.{Kinds};

@@ -1,0 +1,350 @@
+-- Laws of a line's form and of its program: what was read so far, and what one step more makes of it.
+use mathlib.Core.Path.{_≡_, refl, sym, ap, _∙_}
+use mathlib.Core.Bool.{Bool, true, false}
+use mathlib.Core.Logic.{inl, inr}
+use mathlib.Core.List.{List, [], _∷_, _++_, append-assoc, append-nil}
+use Prim.Native.Nat.{ℕ, zero, suc, _+_, _<_, _≤_}
+use native.Mathlib.Numerals.{add-one}
+use native.Mathlib.Omega.{arith}
+use borrow.Author.Tests.{eq-eqb, ne-eqb}
+use lib.Dec.{eqb}
+use lib.ListN.{length, take, drop, getD, set, length-append, length-set}
+use lib.Seq.{take-suc, take-suc-set, take-length}
+use Rattle.automata.specs.Booleans.{choose}
+use Rattle.automata.specs.Basics.{nat-test, SameCases, same-cases}
+use Rattle.language.specs.Restriction.{restricts}
+use Rattle.language.specs.Expression.{Expr}
+use Rattle.book.specs.Kind.{kindOf, isName, nameKind, spaceKind, equalsKind, greaterKind, slashKind, underscoreKind}
+use Rattle.book.specs.Reader.{got, bad, readChoice}
+use Rattle.book.specs.Grammar.{reader-sound}
+use Rattle.book.specs.Text.{tokens, countOf, Form, rule, malformed, formOf, defineOf, defineAs, ruleOf, contextsOf, onRead, tailAt, unless}
+use Rattle.book.specs.Program.{postfix, patternProgram, contextProgram, finishProgram, contextsProgram}
+use Rattle.lexer.specs.Token.{At, kindAhead}
+use Rattle.choice.specs.Buffer.{Grown}
+use Rattle.choice.specs.BufferLaws.{grown-none, grown-byte, grown-more}
+use Rattle.choice.specs.Reading.{left, To, a-choice}
+use Rattle.choice.specs.ReadingLaws.{choice-got}
+use Rattle.choice.specs.declared.Spot.{Spot}
+use Rattle.lexer.specs.declared.Cursor.{Cursor}
+use Rattle.choice.specs.declared.Made.{Made}
+use Rattle.choice.specs.declared.Made.the-variants.{Done, Refused}
+use Rattle.forms.specs.Forms.{Row, Room, Then, ReadsThen, rightOf, ReadsRight, contextOf, Context, ReadsContext, contextsCode, Ruled, Ended, ReadsContexts, ReadsForm}
+use Rattle.forms.specs.declared.Code.the-variants.{Define, Rule, Malformed}
+
+-- ---- rows of codes
+
+-- i codes of the row are written
+pub record Filled (o₀ row : List ℕ) (pos : ℕ) (o : List ℕ) (i : ℕ) : Type 0 where
+  pub within : i ≤ length row
+  pub same : length o ≡ length o₀
+  pub code : take (pos + i) o ≡ take pos o₀ ++ take i row
+  pub grown : Grown o₀ pos o (pos + i)
+
+pub row-start : (o row : List ℕ) (pos : ℕ) → Filled o row pos o 0
+row-start o row pos = let z : pos + 0 ≡ pos = omega arith in record { within = omega arith; same = refl; code = rw (z, append-nil); grown = rw z (grown-none o pos) }
+
+pub row-next : (o₀ row : List ℕ) (pos : ℕ) (o : List ℕ) (i : ℕ) → pos + length row ≤ length o₀ → i < length row → Filled o₀ row pos o i → Filled o₀ row pos (set o (pos + i) (getD row i 0)) (i + 1)
+row-next o₀ row pos o i r l d =
+    let z : pos + (i + 1) ≡ suc (pos + i) = omega arith in
+    let h : pos + i < length o = omega (arith, d .same) in
+    let w : pos + (i + 1) ≡ pos + i + 1 = omega arith in
+    record {
+      within = omega arith;
+      same = length-set o (pos + i) (getD row i 0) ∙ d .same;
+      code = rw (z, take-suc-set o (pos + i) (getD row i 0) h, d .code, add-one, take-suc row i 0 l) (append-assoc (take pos o₀) (take i row) (getD row i 0 ∷ []));
+      grown = rw w (grown-more (d .grown) (grown-byte o (pos + i) (getD row i 0)));
+    }
+
+pub row-end : (o₀ row : List ℕ) (pos : ℕ) (o : List ℕ) (i : ℕ) → length row ≤ i → Filled o₀ row pos o i → Row o₀ pos row o (pos + i)
+row-end o₀ row pos o i l d =
+    let z : i ≡ length row = omega (arith, d .within) in
+    record { end-is = ap (λ x. pos + x) z; code = d .code ∙ ap (λ x. take pos o₀ ++ take x row) z ∙ rw take-length; grown = d .grown }
+
+-- ---- a choice, and a row behind its code
+
+pub then-bad : {s o : List ℕ} {c : Spot} {row o′ : List ℕ} → readChoice (left s c) ≡ bad → ReadsThen s o c row o′ Refused
+then-bad e = record { says = e }
+
+pub then-done : {s o : List ℕ} {c : Spot} {o₁ : List ℕ} {m : Spot} {row o′ : List ℕ} {end : ℕ} → To a-choice s o c o₁ m → Row o₁ (m .pos) row o′ end
+    → ReadsThen s o c row o′ (Done (record { cursor = m .cursor; pos = end }))
+then-done {o = o} {c = c} {row = row} t r = record {
+  says = record {
+    expr = t .expr;
+    reads = choice-got t;
+    code = r .code ∙ ap (λ l. l ++ row) (t .code) ∙ append-assoc (take (c .pos) o) (postfix (t .expr)) row;
+    grown = grown-more (t .grown) (r .grown);
+    fewer = t .fewer;
+    falls = t .falls;
+    room = omega (arith, t .room, r .end-is);
+  };
+}
+
+-- ---- how many `_` are left
+
+count-append : (k : ℕ) (a b : List ℕ) → countOf k (a ++ b) ≡ countOf k a + countOf k b
+count-append k [] b = omega arith
+count-append k (x ∷ a) b = go (eqb (kindOf x) k) (count-append k a b)
+  where
+    go : (t : Bool) → countOf k (a ++ b) ≡ countOf k a + countOf k b
+        → choose t (λ _. suc (countOf k (a ++ b))) (λ _. countOf k (a ++ b)) ≡ choose t (λ _. suc (countOf k a)) (λ _. countOf k a) + countOf k b
+    go true e = omega arith
+    go false e = e
+
+count-tokens : (bs : List ℕ) → countOf underscoreKind (tokens bs) ≡ countOf underscoreKind bs
+count-tokens [] = refl
+count-tokens (b ∷ bs) = go (same-cases nat-test (kindOf b) spaceKind) (count-tokens bs)
+  where
+    go : SameCases nat-test (kindOf b) spaceKind → countOf underscoreKind (tokens bs) ≡ countOf underscoreKind bs → countOf underscoreKind (tokens (b ∷ bs)) ≡ countOf underscoreKind (b ∷ bs)
+    go (inl p) e = rw (p .1) (e ∙ rw (p .0))
+    go (inr p) e = rw (p .1, e)
+
+count-drop : (s : List ℕ) → countOf underscoreKind (tokens (drop 1 s)) ≤ countOf underscoreKind s
+count-drop [] = omega arith
+count-drop (b ∷ s) = go (eqb (kindOf b) underscoreKind)
+  where
+    go : (t : Bool) → countOf underscoreKind (tokens s) ≤ choose t (λ _. suc (countOf underscoreKind s)) (λ _. countOf underscoreKind s)
+    go true = omega (arith, count-tokens s)
+    go false = omega (arith, count-tokens s)
+
+-- a choice uses up some of them
+count-read : (ts us : List ℕ) (e : Expr) → readChoice ts ≡ got e us → countOf underscoreKind us ≤ countOf underscoreKind ts
+count-read ts us e q = let (mid, z, c) = reader-sound ts us e q in omega (arith, ap (countOf underscoreKind) z, count-append underscoreKind mid us)
+
+-- ---- contexts
+
+-- another token, or none, where a sign is due
+no-sign : (x : ℕ) (ts : List ℕ) (f : List ℕ → Form) → (kindAhead ts ≡ x → ⊥) → tailAt x ts f ≡ malformed
+no-sign x [] f h = refl
+no-sign x (b ∷ ts) f h = rw (ne-eqb (kindOf b) x h)
+
+pub right-other : {s o : List ℕ} {c : Spot} {o′ : List ℕ} (k : ℕ) → k ≡ kindAhead (left s c) → (k ≡ underscoreKind → ⊥) → ReadsRight s o c o′ Refused
+right-other {s} {o} {c} k q h = record { says = λ f. no-sign underscoreKind (left s c) _ (λ e. h (q ∙ e)) }
+
+module _ {s : List ℕ} {at k b : ℕ} {next : Cursor} (x : At s at k b (next .at)) (h : k ≡ underscoreKind) where
+  sign : eqb (kindOf b) underscoreKind ≡ true
+  sign = eq-eqb (kindOf b) underscoreKind (sym (x .kind-is) ∙ h)
+
+  past : (f : Expr → List ℕ → Form) → rightOf (tokens (drop at s)) f ≡ onRead (readChoice (tokens (drop (next .at) s))) f
+  past f = ap (λ l. rightOf l f) (x .rest-is) ∙ rw sign
+
+  counted : countOf underscoreKind (tokens (drop at s)) ≡ suc (countOf underscoreKind (tokens (drop (next .at) s)))
+  counted = ap (countOf underscoreKind) (x .rest-is) ∙ rw sign
+
+pub right-read : {s o : List ℕ} {c : Spot} {o′ : List ℕ} {k b : ℕ} {next : Cursor} → At s (c .cursor .at) k b (next .at) → k ≡ underscoreKind → (r : Made)
+    → ReadsThen s o (record { cursor = next; pos = c .pos }) contextProgram o′ r → ReadsRight s o c o′ r
+right-read {s} {next = next} x h (Done n) d =
+    let u = d .says in
+    record {
+      says = record {
+        behind = u .expr;
+        reads = λ f. past x h f ∙ ap (λ R. onRead R f) (u .reads);
+        code = u .code;
+        grown = u .grown;
+        fewer = omega (arith, u .fewer, ap length (x .rest-is));
+        marks = omega (arith, count-read (tokens (drop (next .at) s)) (left s n) (u .expr) (u .reads), counted x h);
+        falls = omega (arith, u .falls, x .falls);
+        room = omega (arith, u .room, x .falls);
+      };
+    }
+right-read x h Refused d = record { says = λ f. past x h f ∙ ap (λ R. onRead R f) (d .says) }
+
+pub context-none : (s o : List ℕ) (c : Spot) (o′ : List ℕ) → readChoice (left s c) ≡ bad → ReadsContext s o c o′ Refused
+context-none s o c o′ e = record { says = λ f. ap (λ R. onRead R (λ l us. rightOf us (f l))) e }
+
+module _ {s o : List ℕ} {c : Spot} {o₁ : List ℕ} {m : Spot} (t : To a-choice s o c o₁ m) where
+  went : (f : Expr → Expr → List ℕ → Form) → contextOf (left s c) f ≡ rightOf (left s m) (f (t .expr))
+  went f = ap (λ R. onRead R (λ l us. rightOf us (f l))) (choice-got t)
+
+  pub context-read : {o′ : List ℕ} (r : Made) → ReadsRight s o₁ m o′ r → ReadsContext s o c o′ r
+  context-read (Done n) d =
+      let u = d .says in
+      record {
+        says = record {
+          before = t .expr;
+          behind = u .behind;
+          reads = λ f. went f ∙ u .reads (f (t .expr));
+          code = u .code ∙ ap (λ l. l ++ (postfix (u .behind) ++ contextProgram)) (t .code) ∙ append-assoc (take (c .pos) o) (postfix (t .expr)) (postfix (u .behind) ++ contextProgram);
+          grown = grown-more (t .grown) (u .grown);
+          fewer = omega (arith, t .fewer, u .fewer);
+          marks = omega (arith, count-read (left s c) (left s m) (t .expr) (choice-got t), u .marks);
+          falls = omega (arith, t .falls, u .falls);
+          room = omega (arith, t .room, u .room);
+        };
+      }
+  context-read Refused d = record { says = λ f. went f ∙ d .says (f (t .expr)) }
+
+-- ---- rules
+
+contexts-code : (cs : List (Expr × Expr)) → contextsCode cs ++ finishProgram ≡ contextsProgram cs
+contexts-code [] = refl
+contexts-code (c ∷ cs) = rw (append-assoc, append-assoc, append-assoc, contexts-code cs)
+
+contexts-more : (cs : List (Expr × Expr)) (l r : Expr) → contextsCode (cs ++ ((l, r) ∷ [])) ≡ contextsCode cs ++ (postfix l ++ (postfix r ++ contextProgram))
+contexts-more [] l r = rw append-nil
+contexts-more (c ∷ cs) l r = rw (contexts-more cs l r) (simp append-assoc)
+
+form-rule : (s : List ℕ) → kindOf (getD s 0 0) ≡ greaterKind → formOf s ≡ ruleOf (tokens (drop 1 s))
+unfolding formOf
+form-rule [] e = absurd (omega arith)
+form-rule (b ∷ s) e = rw e
+
+pub rule-none : {o o′ : List ℕ} (s : List ℕ) → kindOf (getD s 0 0) ≡ greaterKind → readChoice (tokens (drop 1 s)) ≡ bad → ReadsForm s o o′ Malformed
+rule-none s k e = record { says = form-rule s k ∙ ap (λ R. onRead R (λ p us. contextsOf (length us) p [] us)) e }
+
+pub rule-start : (s o o₁ : List ℕ) (p : Spot) → kindOf (getD s 0 0) ≡ greaterKind → countOf underscoreKind s ≤ 4 → Room s o → length o₁ ≡ length o
+    → Then s o (record { cursor = record { at = 1 }; pos = 0 }) patternProgram o₁ p → Ruled s o₁ p
+rule-start s o o₁ p k few room same t = record {
+  pattern = t .expr;
+  contexts = [];
+  fuel = length (left s p);
+  enough = omega arith;
+  form = form-rule s k ∙ ap (λ R. onRead R (λ p us. contextsOf (length us) p [] us)) (t .reads);
+  code = t .code ∙ ap (λ l. postfix (t .expr) ++ l) (sym (append-nil patternProgram));
+  few = omega (arith, count-drop s, count-read (tokens (drop 1 s)) (left s p) (t .expr) (t .reads));
+  room = omega (arith, t .room);
+}
+
+pub rule-end : {s o₀ o : List ℕ} {p c : Spot} (o′ : List ℕ) (end : ℕ) → Grown o₀ 0 o (p .pos) → {o₁ : List ℕ} → Ended s o p o₁ c → Row o₁ (c .pos) finishProgram o′ end → end ≤ length o′
+    → ReadsForm s o₀ o′ (Rule end)
+rule-end o′ end g e r h =
+    let d = e .ruled in
+    record {
+      says = record {
+        pattern = d .pattern;
+        contexts = d .contexts;
+        form = d .form ∙ ap (contextsOf (d .fuel) (d .pattern) (d .contexts)) (e .none) ∙ last (d .pattern) (d .contexts) (d .fuel);
+        code = r .code ∙ ap (λ l. l ++ finishProgram) (d .code) ∙ whole (postfix (d .pattern)) patternProgram (contextsCode (d .contexts)) finishProgram
+            ∙ ap (λ l. postfix (d .pattern) ++ (patternProgram ++ l)) (contexts-code (d .contexts));
+        grown = grown-more g (grown-more (e .grown) (r .grown));
+        fits = h;
+      };
+    }
+  where
+    last : (p : Expr) (cs : List (Expr × Expr)) (n : ℕ) → contextsOf n p cs [] ≡ rule restricts p cs
+    last p cs zero = refl
+    last p cs (suc n) = refl
+
+    whole : (a p q z : List ℕ) → (a ++ (p ++ q)) ++ z ≡ a ++ (p ++ (q ++ z))
+    whole a p q z = simp append-assoc
+
+pub rule-not : {s o o′ : List ℕ} → formOf s ≡ malformed → ReadsForm s o o′ Malformed
+rule-not e = record { says = e }
+
+module _ {s o : List ℕ} {c : Spot} (d : Ruled s o c) where
+  pub contexts-end : {o₀ : List ℕ} {c₀ : Spot} → left s c ≡ [] → Grown o₀ (c₀ .pos) o (c .pos) → ReadsContexts s o₀ c₀ o (Done c)
+  contexts-end e g = record { says = record { ruled = d; none = e; grown = g } }
+
+  afterSlash : ℕ → Expr → Expr → List ℕ → Form
+  afterSlash fuel l r ws = contextsOf fuel (d .pattern) (d .contexts ++ ((l, r) ∷ [])) ws
+
+  -- the fuel for what stands behind this token
+  met-slash : {b : ℕ} {ts : List ℕ} → left s c ≡ b ∷ ts → (fuel : ℕ) → length (left s c) ≤ fuel
+      → (g : ℕ) × (suc g ≡ fuel) × (contextsOf fuel (d .pattern) (d .contexts) (left s c) ≡ unless (eqb (kindOf b) slashKind) (λ _. malformed) (λ _. contextOf ts (afterSlash g)))
+  unfolding afterSlash
+  met-slash z zero h = absurd (omega (arith, ap length z))
+  met-slash z (suc g) h = (g, refl, ap (contextsOf (suc g) (d .pattern) (d .contexts)) z)
+
+  pub rule-other : {o₀ o′ : List ℕ} {c₀ : Spot} {b k : ℕ} {ts : List ℕ} → left s c ≡ b ∷ ts → k ≡ kindAhead (left s c) → (k ≡ slashKind → ⊥) → ReadsContexts s o₀ c₀ o′ Refused
+  rule-other {b = b} z q h =
+      let (g, r, e) = met-slash z (d .fuel) (d .enough) in
+      record { says = d .form ∙ e ∙ rw (ne-eqb (kindOf b) slashKind (λ w. h (q ∙ ap kindAhead z ∙ w))) }
+
+  module _ {k b : ℕ} {next : Cursor} (x : At s (c .cursor .at) k b (next .at)) where
+    pub rule-half : {o₀ o₁ o′ : List ℕ} {c₀ : Spot} → k ≡ slashKind → ReadsContext s o (record { cursor = next; pos = c .pos }) o₁ Refused → ReadsContexts s o₀ c₀ o′ Refused
+    rule-half h r =
+        let (g, q, e) = met-slash (x .rest-is) (d .fuel) (d .enough) in
+        record { says = d .form ∙ e ∙ rw (eq-eqb (kindOf b) slashKind (sym (x .kind-is) ∙ h)) (r .says (afterSlash g)) }
+
+    pub rule-next : (o′ : List ℕ) (m : Spot) → k ≡ slashKind → Context s o (record { cursor = next; pos = c .pos }) o′ m → length o′ ≡ length o → Ruled s o′ m
+    unfolding afterSlash
+    rule-next o′ m h t same =
+        let (g, q, e) = met-slash (x .rest-is) (d .fuel) (d .enough) in
+        record {
+          pattern = d .pattern;
+          contexts = d .contexts ++ ((t .before, t .behind) ∷ []);
+          fuel = g;
+          enough = omega (arith, t .fewer, d .enough, ap length (x .rest-is));
+          form = d .form ∙ e ∙ rw (eq-eqb (kindOf b) slashKind (sym (x .kind-is) ∙ h)) (t .reads (afterSlash g));
+          code = t .code ∙ ap (λ l. l ++ (postfix (t .before) ++ (postfix (t .behind) ++ contextProgram))) (d .code)
+              ∙ joined (postfix (d .pattern)) patternProgram (contextsCode (d .contexts)) (postfix (t .before) ++ (postfix (t .behind) ++ contextProgram))
+              ∙ ap (λ l. postfix (d .pattern) ++ (patternProgram ++ l)) (sym (contexts-more (d .contexts) (t .before) (t .behind)));
+          few = omega (arith, t .marks, d .few, length-append (d .contexts) ((t .before, t .behind) ∷ []), slash, ap (countOf underscoreKind) (x .rest-is));
+          room = omega (arith, t .room, d .room, x .falls, length-append (d .contexts) ((t .before, t .behind) ∷ []));
+        }
+      where
+        joined : (a p q z : List ℕ) → (a ++ (p ++ q)) ++ z ≡ a ++ (p ++ (q ++ z))
+        joined a p q z = simp append-assoc
+
+        slash : countOf underscoreKind (b ∷ tokens (drop (next .at) s)) ≡ countOf underscoreKind (tokens (drop (next .at) s))
+        slash = rw (ne-eqb (kindOf b) underscoreKind (λ w. omega (arith, x .kind-is)))
+
+-- ---- definitions
+
+form-define : (s : List ℕ) → kindOf (getD s 0 0) ≡ equalsKind → formOf s ≡ defineOf (tokens (drop 1 s))
+unfolding formOf
+form-define [] e = absurd (omega arith)
+form-define (b ∷ s) e = rw e
+
+-- another token than a name, or none
+no-name : (ts : List ℕ) → (kindAhead ts ≡ nameKind → ⊥) → defineOf ts ≡ malformed
+no-name [] h = refl
+no-name (b ∷ ts) h = rw (ne-eqb (kindOf b) nameKind h)
+
+module _ (s : List ℕ) (is : kindOf (getD s 0 0) ≡ equalsKind) where
+  pub define-other : {o o′ : List ℕ} {k : ℕ} → k ≡ kindAhead (tokens (drop 1 s)) → (k ≡ nameKind → ⊥) → ReadsForm s o o′ Malformed
+  define-other q h = record { says = form-define s is ∙ no-name (tokens (drop 1 s)) (λ e. h (q ∙ e)) }
+
+  module _ {k x : ℕ} {next : Cursor} (a : At s 1 k x (next .at)) where
+    named : k ≡ nameKind → isName x ≡ true
+    named h = eq-eqb (kindOf x) nameKind (sym (a .kind-is) ∙ h)
+
+    define-body : k ≡ nameKind → formOf s ≡ onRead (readChoice (tokens (drop (next .at) s))) (defineAs x)
+    define-body h = form-define s is ∙ ap defineOf (a .rest-is) ∙ ap (λ t. choose t (λ _. onRead (readChoice (tokens (drop (next .at) s))) (defineAs x)) (λ _. malformed)) (named h)
+
+    pub define-bad : {o o′ : List ℕ} → k ≡ nameKind → readChoice (tokens (drop (next .at) s)) ≡ bad → ReadsForm s o o′ Malformed
+    define-bad h e = record { says = define-body h ∙ ap (λ R. onRead R (defineAs x)) e }
+
+    module _ {o o′ : List ℕ} {m : Spot} (h : k ≡ nameKind) (t : To a-choice s o (record { cursor = next; pos = 0 }) o′ m) where
+      read : formOf s ≡ defineAs x (t .expr) (left s m)
+      read = define-body h ∙ ap (λ R. onRead R (defineAs x)) (choice-got t)
+
+      pub define-more : {b : ℕ} {ts : List ℕ} → left s m ≡ b ∷ ts → ReadsForm s o o′ Malformed
+      define-more e = record { says = read ∙ ap (defineAs x (t .expr)) e }
+
+      pub define-whole : left s m ≡ [] → m .pos ≤ length o′ → ReadsForm s o o′ (Define x (m .pos))
+      define-whole e f = record { says = record { body = t .expr; named = named h; form = read ∙ ap (defineAs x (t .expr)) e; code = t .code; grown = t .grown; fits = f } }
+
+-- ---- lines of neither form
+
+pub form-empty : {o o′ : List ℕ} (s : List ℕ) → length s < 1 → ReadsForm s o o′ Malformed
+unfolding formOf
+form-empty [] h = record { says = refl }
+form-empty (b ∷ s) h = absurd (omega arith)
+
+pub form-neither : {o o′ : List ℕ} (s : List ℕ) (k : ℕ) → k ≡ kindOf (getD s 0 0) → (k ≡ equalsKind → ⊥) → (k ≡ greaterKind → ⊥) → ReadsForm s o o′ Malformed
+unfolding formOf
+form-neither [] k q m n = record { says = refl }
+form-neither (b ∷ s) k q m n = record { says = rw (ne-eqb (kindOf b) equalsKind (λ w. m (q ∙ w)), ne-eqb (kindOf b) greaterKind (λ w. n (q ∙ w))) }
+
+-- ---- what the functions answer, case by case
+
+module _ {s o : List ℕ} {c : Spot} {o′ : List ℕ} {r : Made} (d : ReadsContext s o c o′ r) where
+  pub context-to : {n : Spot} → r ≡ Done n → Context s o c o′ n
+  context-to e = rw e at (d .says)
+
+  pub context-not : r ≡ Refused → ReadsContext s o c o′ Refused
+  context-not e = record { says = rw e at (d .says) }
+
+module _ {s o : List ℕ} {c : Spot} {row o′ : List ℕ} {r : Made} (d : ReadsThen s o c row o′ r) where
+  pub then-to : {n : Spot} → r ≡ Done n → Then s o c row o′ n
+  then-to e = rw e at (d .says)
+
+  pub then-not : r ≡ Refused → readChoice (left s c) ≡ bad
+  then-not e = rw e at (d .says)
+
+module _ {s o : List ℕ} {c : Spot} {o′ : List ℕ} {r : Made} (d : ReadsContexts s o c o′ r) where
+  pub contexts-to : {n : Spot} → r ≡ Done n → Ended s o c o′ n
+  contexts-to e = rw e at (d .says)
+
+  pub contexts-not : r ≡ Refused → formOf s ≡ malformed
+  contexts-not e = rw e at (d .says)

@@ -1,0 +1,73 @@
+-- `forms::contexts` meets its contract: as the loop passes a context, what is left of the rule's form stays the same.
+use mathlib.Core.Path.{_≡_, refl, _∙_}
+use Prim.Native.Nat.{_-_}
+use native.Mathlib.Omega.{arith}
+use borrow.Author.Needs.{needs}
+use lib.ListN.{length}
+use Rattle.lexer.proofs.TokenLaws.{past-token, past-end}
+use Rattle.choice.specs.Buffer.{Grown}
+use Rattle.choice.specs.BufferLaws.{grown-none, grown-more}
+use Rattle.forms.specs.Forms.{Ruled}
+use Rattle.forms.proofs.FormLaws.{rule-other, rule-half, rule-next, context-to, context-not, contexts-end}
+use Rattle.forms.proofs.contexts.Statement.{statement}
+use Rattle.forms.proofs.contexts.Tie as tie
+
+abbrev Inv-loop : tie.InvT-loop
+Inv-loop kinds line out₀ here₀ out here = Ruled line out here × (length out ≡ length out₀) × Grown out₀ (here₀ .pos) out (here .pos)
+
+abbrev μ-loop : tie.MeasureT-loop
+μ-loop kinds line out₀ here₀ out here = length line - here .cursor .at
+
+loop-holds : tie.Need-loop-holds Inv-loop μ-loop
+loop-holds c = (c .before .before .pre .1, refl, grown-none _ _)
+
+token-requires : tie.Need-token-requires Inv-loop μ-loop
+token-requires c κs = c .before .before .before .before .pre .0
+
+returns : tie.Need-returns Inv-loop μ-loop
+returns c = contexts-end (c .before .before .before .before .before .loop .inv .0) (past-end (c .before .before .before .token .ensures .start) (c .if1 .taken)) (c .before .before .before .before .before .loop .inv .2)
+
+returns-2 : tie.Need-returns-2 Inv-loop μ-loop
+returns-2 c = rule-other (c .before .before .before .before .before .before .loop .inv .0) (past-token (c .before .before .before .before .token .ensures .start) (c .before .if1 .left)) (c .before .before .before .before .token .ensures .kind-is) (c .if2 .taken)
+
+context-requires : tie.Need-context-requires Inv-loop μ-loop
+context-requires c κs =
+    let d = c .before .before .before .before .before .before .before .before .loop .inv .0 in
+    let x = c .before .before .before .before .before .before .token .ensures .token (λ e. omega arith) in
+    (c .before .before .before .before .before .before .before .before .before .before .before .pre .0, omega (arith, d .room, d .few, x .falls))
+
+returns-3 : tie.Need-returns-3 Inv-loop μ-loop
+returns-3 c =
+    let x = c .before .before .before .before .before .before .before .before .before .before .before .token .ensures .token (λ e. omega arith) in
+    rule-half (c .before .before .before .before .before .before .before .before .before .before .before .before .before .loop .inv .0) x (c .before .before .before .before .before .before .before .if2 .left) (context-not (c .before .before .before .before .context .ensures) (c .enum-told .given .1))
+
+loop-less : tie.Need-loop-less Inv-loop μ-loop
+loop-less c =
+    let x = c .before .before .before .before .before .before .before .before .before .before .before .before .token .ensures .token (λ e. omega arith) in
+    omega (arith, x .falls, context-to (c .before .before .before .before .before .context .ensures) (c .before .n .given .1) .falls)
+
+loop-again : tie.Need-loop-again Inv-loop μ-loop
+loop-again c =
+    let x = c .before .before .before .before .before .before .before .before .before .before .before .before .token .ensures .token (λ e. omega arith) in
+    let t = context-to (c .before .before .before .before .before .context .ensures) (c .before .n .given .1) in
+    (rule-next (c .before .before .before .before .before .before .before .before .before .before .before .before .before .before .loop .inv .0) x _ _ (c .before .before .before .before .before .before .before .before .if2 .left) t (c .before .before .before .before .before .context .kept .1 .1 .0), c .before .before .before .before .before .context .kept .1 .1 .0 ∙ c .before .before .before .before .before .before .before .before .before .before .before .before .before .before .loop .inv .1, grown-more (c .before .before .before .before .before .before .before .before .before .before .before .before .before .before .loop .inv .2) (t .grown))
+
+pub contexts-spec : {M : Type 1} → statement M
+contexts-spec =
+    tie.close
+    (tie.spec
+    Inv-loop
+    μ-loop
+    loop-holds
+    token-requires
+    (λ c. search needs)
+    returns
+    (λ c. search needs)
+    returns-2
+    context-requires
+    (λ c. search needs)
+    (λ c. search needs)
+    (λ c. search needs)
+    returns-3
+    loop-less
+    loop-again)

@@ -1,0 +1,233 @@
+// The form of a later line, a definition or a rule, written as its program into a lent buffer. Parts below an entry: callers give room there, and a line
+// whose brackets and contexts are counted already.
+use book::codes::ALL_CODE;
+use book::codes::COMPLEMENT_CODE;
+use book::codes::ERASE_CODE;
+use book::codes::JOIN_CODE;
+use book::codes::MARK_CODE;
+use book::codes::MEET_CODE;
+use book::codes::PATTERN_CODE;
+use book::codes::RIGHT_CODE;
+use book::codes::STORE_PATTERN_CODE;
+use book::codes::STORE_RIGHT_CODE;
+use book::codes::WITHOUT_CODE;
+use book::kinds::EQUALS_KIND;
+use book::kinds::GREATER_KIND;
+use book::kinds::NAME_KIND;
+use book::kinds::SLASH_KIND;
+use book::kinds::UNDERSCORE_KIND;
+use choice::Made;
+use choice::Spot;
+use lexer::Cursor;
+use lexer::kinds::KindTable;
+use lexer::kinds::kind;
+ghost use mathlib.Core.Path.{_≡_};
+ghost use Prim.Native.Nat.{_+_, _*_, _-_, _≤_};
+ghost use lib.ListN.{length, getD};
+ghost use Rattle.book.specs.Kind.{kindOf, equalsKind, greaterKind, underscoreKind};
+ghost use Rattle.book.specs.Text.{countOf};
+ghost use Rattle.lexer.specs.Kinds.{Kinds};
+ghost use Rattle.forms.specs.Forms.{Row, Room, ReadsThen, ReadsRight, ReadsContext, Ruled, ReadsContexts, ReadsForm};
+
+// The programs of specs/Program.antt of `book`.
+const PATTERN_PROGRAM: [u8; 10] = [
+    STORE_PATTERN_CODE,
+    ALL_CODE,
+    MARK_CODE,
+    JOIN_CODE,
+    PATTERN_CODE,
+    JOIN_CODE,
+    MARK_CODE,
+    JOIN_CODE,
+    ALL_CODE,
+    JOIN_CODE,
+];
+
+const CONTEXT_PROGRAM: [u8; 10] = [
+    STORE_RIGHT_CODE,
+    MARK_CODE,
+    JOIN_CODE,
+    PATTERN_CODE,
+    JOIN_CODE,
+    MARK_CODE,
+    JOIN_CODE,
+    RIGHT_CODE,
+    JOIN_CODE,
+    WITHOUT_CODE,
+];
+
+const FINISH_PROGRAM: [u8; 3] = [ERASE_CODE, COMPLEMENT_CODE, MEET_CODE];
+
+// A name with the length of its program, the length of a rule's program, or that the line is of neither form.
+pub enum Code {
+    Define(u8, usize),
+    Rule(usize),
+    Malformed,
+}
+
+// A row of codes, written from pos on.
+fn put_row(out: &mut [u8], pos: usize, row: &[u8]) -> usize
+    requires { ⌜ pos + length (now row) ≤ length (now out) ⌝ }
+    ensures { λ r. ⌜ Row (now (out .entry)) pos (now (row .entry)) (now (out .exit)) r ⌝ }
+{
+    let mut i = 0;
+    while i < row.len() {
+        out[pos + i] = row[i];
+        i += 1;
+    }
+    pos + i
+}
+
+// A choice, and a row of codes behind its own.
+fn choice_then(kinds: &KindTable, line: &[u8], out: &mut [u8], c: Spot, row: &[u8]) -> Made
+    requires { ⌜ Kinds (now kinds) ⌝ }
+    requires { ⌜ c .pos + 2 * (length (now line) - c .cursor .at) + length (now row) ≤ length (now out) ⌝ }
+    ensures { λ r. ⌜ ReadsThen (now (line .entry)) (now (out .entry)) c (now (row .entry)) (now (out .exit)) r ⌝ }
+{
+    let Made::Done(n) = choice::choice(kinds, line, out, c) else {
+        return Made::Refused;
+    };
+    let pos = put_row(out, n.pos, row);
+    let cursor = n.cursor;
+    Made::Done(Spot { cursor, pos })
+}
+
+// "`_`, a choice": with X, l, r on the stack, l M p M r is taken from X.
+fn right(kinds: &KindTable, line: &[u8], out: &mut [u8], c: Spot) -> Made
+    requires { ⌜ Kinds (now kinds) ⌝ }
+    requires { ⌜ c .pos + 2 * (length (now line) - c .cursor .at) + 10 ≤ length (now out) ⌝ }
+    ensures { λ r. ⌜ ReadsRight (now (line .entry)) (now (out .entry)) c (now (out .exit)) r ⌝ }
+{
+    let behind = c.cursor;
+    let t = behind.token(kinds, line);
+    let k = t.kind;
+    if k != UNDERSCORE_KIND {
+        return Made::Refused;
+    }
+    let cursor = t.next;
+    let pos = c.pos;
+    let row = CONTEXT_PROGRAM;
+    choice_then(kinds, line, out, Spot { cursor, pos }, &row)
+}
+
+// "a choice, `_`, a choice"
+fn context(kinds: &KindTable, line: &[u8], out: &mut [u8], c: Spot) -> Made
+    requires { ⌜ Kinds (now kinds) ⌝ }
+    requires { ⌜ c .pos + 2 * (length (now line) - c .cursor .at) + 10 ≤ length (now out) ⌝ }
+    ensures { λ r. ⌜ ReadsContext (now (line .entry)) (now (out .entry)) c (now (out .exit)) r ⌝ }
+{
+    let Made::Done(n) = choice::choice(kinds, line, out, c) else {
+        return Made::Refused;
+    };
+    right(kinds, line, out, n)
+}
+
+// "then per context `/`, a choice, `_`, a choice", up to the line's end
+fn contexts(kinds: &KindTable, line: &[u8], out: &mut [u8], c: Spot) -> Made
+    requires { ⌜ Kinds (now kinds) ⌝ }
+    requires { ⌜ Ruled (now line) (now out) c ⌝ }
+    ensures { λ r. ⌜ ReadsContexts (now (line .entry)) (now (out .entry)) c (now (out .exit)) r ⌝ }
+{
+    let mut here = c;
+    loop {
+        let behind = here.cursor;
+        let t = behind.token(kinds, line);
+        let start = t.start;
+        if line.len() <= start.at {
+            return Made::Done(here);
+        }
+        let k = t.kind;
+        if k != SLASH_KIND {
+            return Made::Refused;
+        }
+        let next = t.next;
+        let Made::Done(n) = context(
+            kinds,
+            line,
+            out,
+            Spot {
+                cursor: next,
+                pos: here.pos,
+            },
+        ) else {
+            return Made::Refused;
+        };
+        here = n;
+    }
+}
+
+// "a rule, `>`, a choice, then per context ..": behind the `>`
+fn rule(kinds: &KindTable, line: &[u8], out: &mut [u8]) -> Code
+    requires { ⌜ Kinds (now kinds) ⌝ }
+    requires { ⌜ Room (now line) (now out) ⌝ }
+    requires { ⌜ kindOf (getD (now line) 0 0) ≡ greaterKind ⌝ }
+    requires { ⌜ countOf underscoreKind (now line) ≤ 4 ⌝ }
+    ensures { λ r. ⌜ ReadsForm (now (line .entry)) (now (out .entry)) (now (out .exit)) r ⌝ }
+{
+    let start = Spot {
+        cursor: Cursor { at: 1 },
+        pos: 0,
+    };
+    let row = PATTERN_PROGRAM;
+    let Made::Done(p) = choice_then(kinds, line, out, start, &row) else {
+        return Code::Malformed;
+    };
+    let Made::Done(n) = contexts(kinds, line, out, p) else {
+        return Code::Malformed;
+    };
+    let last = FINISH_PROGRAM;
+    Code::Rule(put_row(out, n.pos, &last))
+}
+
+// "a definition, `=`, a name, a choice": behind the `=`
+fn definition(kinds: &KindTable, line: &[u8], out: &mut [u8]) -> Code
+    requires { ⌜ Kinds (now kinds) ⌝ }
+    requires { ⌜ Room (now line) (now out) ⌝ }
+    requires { ⌜ kindOf (getD (now line) 0 0) ≡ equalsKind ⌝ }
+    ensures { λ r. ⌜ ReadsForm (now (line .entry)) (now (out .entry)) (now (out .exit)) r ⌝ }
+{
+    let t = (Cursor { at: 1 }).token(kinds, line);
+    let k = t.kind;
+    if k != NAME_KIND {
+        return Code::Malformed;
+    }
+    let name = t.byte;
+    let body = t.next;
+    let Made::Done(n) = choice::choice(
+        kinds,
+        line,
+        out,
+        Spot {
+            cursor: body,
+            pos: 0,
+        },
+    ) else {
+        return Code::Malformed;
+    };
+    let behind = n.cursor;
+    let end = behind.skip(kinds, line);
+    if end.at < line.len() {
+        return Code::Malformed;
+    }
+    Code::Define(name, n.pos)
+}
+
+// The form of a line whose brackets and contexts are counted already.
+pub fn form(kinds: &KindTable, line: &[u8], out: &mut [u8]) -> Code
+    requires { ⌜ Kinds (now kinds) ⌝ }
+    requires { ⌜ Room (now line) (now out) ⌝ }
+    requires { ⌜ countOf underscoreKind (now line) ≤ 4 ⌝ }
+    ensures { λ r. ⌜ ReadsForm (now (line .entry)) (now (out .entry)) (now (out .exit)) r ⌝ }
+{
+    if line.len() < 1 {
+        return Code::Malformed;
+    }
+    let k = kind(kinds, line[0]);
+    if k == EQUALS_KIND {
+        return definition(kinds, line, out);
+    }
+    if k == GREATER_KIND {
+        return rule(kinds, line, out);
+    }
+    Code::Malformed
+}
