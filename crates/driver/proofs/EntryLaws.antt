@@ -25,7 +25,7 @@ use Rattle.compiler.specs.Allows.{allows}
 use Rattle.compiler.specs.Book.{done, stopped, compileLines, startDraft, afterHead, compileHead, compileText, compileBook}
 use Rattle.compiler.specs.BookLaws.{accepted-right}
 use Rattle.compiler.specs.Outcome.{card, stop, answer, most, written, outcome, enough}
-use Rattle.stages.specs.Slot.{slotMachine}
+use Rattle.slots.specs.Slot.{slotMachine}
 use Rattle.writer.specs.Written.{Kept, keptCard}
 use Rattle.writer.specs.Written as W
 use Rattle.writer.specs.declared.Wrote.{Wrote}

@@ -4,7 +4,7 @@ use lines::Ended;
 use scans::ends;
 use scans::head;
 use scans::head::Head;
-use stages::slot;
+use slots::slot;
 use writer::Wrote;
 ghost use mathlib.Core.Path.{_≡_};
 ghost use mathlib.Core.List.{[], _∷_};

@@ -18,13 +18,13 @@ use Rattle.book.specs.Kind.{kindOf}
 use Rattle.book.specs.Text.{Form, define, rule, malformed}
 use Rattle.book.specs.Program.{pairCode, postfix, program, patternProgram, contextsProgram}
 use Rattle.book.specs.StackLaws.{heightAfter, Leaves, AllHeld, FormHeld}
-use Rattle.stages.specs.Slot.{Slot, slotMachine}
+use Rattle.slots.specs.Slot.{Slot, slotMachine}
 use Rattle.codes.specs.Execute.{Store, Ran, ran, execute}
 use Rattle.evaluate.specs.ExecuteLaws.{AllLeaves, topOf, rule-leaves, define-leaves}
 use Rattle.operations.specs.Apply.{formatOf, greatest}
 use Rattle.evaluate.specs.Steps.{storeOf, bookIn, Gives, Stands, Shelved}
 use Rattle.evaluate.specs.Run.{heightOf, AllStood, Runs}
-use Rattle.operations.specs.declared.Layout.{Layout}
+use Rattle.operands.specs.declared.Layout.{Layout}
 use Rattle.operations.specs.declared.apply.Stepped.{Stepped}
 use Rattle.operations.specs.declared.apply.Stepped.the-variants.{Next, Refused, Stuck}
 use Rattle.evaluate.specs.declared.run.Evaluated.{Evaluated}

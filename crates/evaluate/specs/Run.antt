@@ -11,13 +11,13 @@ use Rattle.automata.specs.Booleans.{choose}
 use Rattle.automata.specs.Machine.{Machine}
 use Rattle.book.specs.Kind.{isName}
 use Rattle.book.specs.StackLaws.{heightAfter, heightWhile, besides, highest}
-use Rattle.stages.specs.Slot.{Slot}
+use Rattle.slots.specs.Slot.{Slot}
 use Rattle.codes.specs.Execute.{Store, Ran, ran, failed, stuck, afterRan, thenRan, step, execute, after-after, after-none}
-use Rattle.operations.specs.Stack.{Slots}
-use Rattle.operations.specs.Operand.{nameSlot, Shelves}
+use Rattle.operands.specs.Stack.{Slots}
+use Rattle.operands.specs.Operand.{nameSlot, Shelves}
 use Rattle.operations.specs.Apply.{formatOf, greatest, greatest-both, tallest, Lent, lent-kept}
 use Rattle.evaluate.specs.Steps.{storeOf, bookIn, Gives, Stands, Shelved, Stood, Stepping, Steps}
-use Rattle.operations.specs.declared.Layout.{Layout}
+use Rattle.operands.specs.declared.Layout.{Layout}
 use Rattle.operations.specs.declared.apply.Stepped.{Stepped}
 use Rattle.operations.specs.declared.apply.Stepped.the-variants.{Next, Refused, Stuck}
 

@@ -18,15 +18,15 @@ use Rattle.language.specs.Environment.{lookup}
 use Rattle.book.specs.Kind.{isName}
 use Rattle.book.specs.StackLaws.{heightAfter, heightWhile, besides}
 use Rattle.explore.specs.Rows.{operationOf}
-use Rattle.stages.specs.Slot.{Slot, slotMachine, Holds, Written}
-use Rattle.stages.specs.Keep.{Aside}
-use Rattle.stages.specs.Operate.{operate}
+use Rattle.slots.specs.Slot.{Slot, slotMachine, Holds, Written}
+use Rattle.slots.specs.Keep.{Aside}
+use Rattle.answers.specs.Operate.{operate}
 use Rattle.codes.specs.Execute.{Store, Ran, ran, failed, stuck, pushMade, withOne, withTwo, step}
-use Rattle.operations.specs.Stack.{needs, slotAt, Slots, machines, fills, fills-most, slot-same, slots-below, slots-less, slots-more, machines-below}
+use Rattle.operands.specs.Stack.{needs, slotAt, Slots, machines, fills, fills-most, slot-same, slots-below, slots-less, slots-more, machines-below}
 use Rattle.codes.specs.Codes.{operandOf, stored, stepAs, SourceIn, Sorted}
-use Rattle.operations.specs.Operand.{nameSlot, operandIn, OperandReady, Shelves, Bringing, Brought, copied, written-within}
+use Rattle.operands.specs.Operand.{nameSlot, operandIn, OperandReady, Shelves, Bringing, Brought, copied, written-within}
 use Rattle.operations.specs.Apply.{formatOf, greatest, tallest, Lent, slot-room, Applying, Makes, Doubling, Besides, aside-below}
-use Rattle.operations.specs.declared.Layout.{Layout}
+use Rattle.operands.specs.declared.Layout.{Layout}
 use Rattle.codes.specs.declared.Source.{Source}
 use Rattle.codes.specs.declared.Source.the-variants.{Letter, Name, Given, Register}
 use Rattle.codes.specs.declared.Sort.{Sort}

@@ -1,10 +1,10 @@
 // A program's codes, one after another, and the machine that they leave.
 use codes::Sort;
-use operations::Layout;
+use operands::Layout;
+use operands::copies;
+use operands::operand;
 use operations::apply;
 use operations::apply::Stepped;
-use operations::operand;
-use operations::slots;
 ghost use Rattle.evaluate.specs.Steps.{Stepping, Steps};
 ghost use Rattle.evaluate.specs.Run.{Running, heightOf};
 ghost use Rattle.evaluate.specs.Evaluated.{Evaluates};
@@ -79,7 +79,7 @@ fn step(
             if sp < 1 {
                 return Stepped::Stuck;
             }
-            slots::copy(
+            copies::copy(
                 &stack[..],
                 (sp - 1) * size,
                 registers,

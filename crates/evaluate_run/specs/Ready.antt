@@ -8,7 +8,7 @@ use Rattle.book.specs.Kind.{isName}
 use Rattle.book.specs.Text.{Form}
 use Rattle.book.specs.Program.{program}
 use Rattle.book.specs.StackLaws.{FormHeld}
-use Rattle.operations.specs.Stack.{Slots}
+use Rattle.operands.specs.Stack.{Slots}
 use Rattle.evaluate.specs.Evaluated.{Formed}
 use Rattle.evaluate_run.specs.declared.Read.{Read}
 use Rattle.evaluate_run.specs.declared.Read.the-variants.{Program, Refused}

@@ -20,12 +20,12 @@ use Rattle.reader.specs.AnswerLaws.{name-read, rule-read}
 use Rattle.reader.specs.declared.names.Names.{Names}
 use Rattle.reader.specs.declared.line.LineAnswer.{LineAnswer}
 use Rattle.reader.specs.declared.line.LineAnswer.the-variants.{Define, Rule}
-use Rattle.stages.specs.Slot.{Holds, Written}
-use Rattle.operations.specs.Stack.{Slots, Below, slots-below, slots-more}
-use Rattle.operations.specs.Operand.{lent}
+use Rattle.slots.specs.Slot.{Holds, Written}
+use Rattle.operands.specs.Stack.{Slots, Below, slots-below, slots-more}
+use Rattle.operands.specs.Operand.{lent}
 use Rattle.evaluate.specs.Run.{heightOf, Running}
 use Rattle.evaluate.specs.Evaluated.{program-height}
-use Rattle.operations.specs.declared.Layout.{Layout}
+use Rattle.operands.specs.declared.Layout.{Layout}
 use Rattle.evaluate_run.specs.declared.Read.{Read}
 use Rattle.evaluate_run.specs.declared.Read.the-variants.{Program}
 use Rattle.evaluate_run.specs.Ready.{Nameless, Coded, Coding, Ready}

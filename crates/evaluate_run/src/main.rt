@@ -8,19 +8,19 @@ use lexer::kinds::KindTable;
 use lexer::kinds::kind;
 use libc::STDIN_FILENO;
 use libc::STDOUT_FILENO;
-use operations::Layout;
+use operands::Layout;
 use reader::line::LineAnswer;
 use reader::line::read_line;
 use reader::names::Names;
 use scans::ends::line_end;
 use scans::head::Head;
 use scans::head::read_head;
-use stages::given;
-use stages::slot;
+use slots::given;
+use slots::slot;
 ghost use Prim.Native.Nat.{_+_, _*_, _<_, _≤_, suc};
 ghost use lib.ListN.{length};
 ghost use Rattle.lexer.specs.Kinds.{Kinds};
-ghost use Rattle.operations.specs.Stack.{Slots};
+ghost use Rattle.operands.specs.Stack.{Slots};
 ghost use Rattle.evaluate_run.specs.Ready.{Nameless, Coded, Coding, Ready};
 
 // The length of a line's program and where the next line starts, or the number of a refusal.

@@ -11,7 +11,7 @@ use Rattle.automata.specs.Given.{emptyMachine, allMachine}
 use Rattle.language.specs.Expression.{member}
 use Rattle.language.specs.Environment.{lookup, namesOf}
 use Rattle.book.specs.Kind.{isName}
-use Rattle.stages.specs.Slot.{Slot, Holds}
+use Rattle.slots.specs.Slot.{Slot, Holds}
 use Rattle.kept.specs.declared.Place.{Place}
 use Rattle.kept.specs.declared.Place.the-variants.{Name, Book}
 

@@ -1,12 +1,12 @@
 // Machines kept for later lines: a definition's in its name's slot, a rule's in the register of the book so far. These are parts: callers give buffers
 // that are long enough.
-use stages::given;
+use slots::given;
 ghost use Prim.Native.Nat.{_+_, _≤_};
 ghost use mathlib.Core.Path.{_≡_};
 ghost use mathlib.Core.Bool.{true};
 ghost use lib.ListN.{length, getD};
 ghost use Rattle.book.specs.Kind.{isName};
-ghost use Rattle.stages.specs.Slot.{Written};
+ghost use Rattle.slots.specs.Slot.{Written};
 ghost use Rattle.kept.specs.Stored.{StoresName, Begins, Right, Shelves, Keeps};
 
 // A slot: the number of states in two bytes, 120 flags, 120 rows of moves over 26 letters and the mark.

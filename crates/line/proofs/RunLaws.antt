@@ -22,11 +22,11 @@ use Rattle.book.specs.Program.{pairCode, postfix, patternProgram, contextProgra
 use Rattle.book.specs.StackLaws.{Leaves, highest, AllHeld, FormHeld, program-highest}
 use Rattle.book.specs.LineLaws.{KnownForm}
 use Rattle.compiler.specs.Outcome.{most}
-use Rattle.stages.specs.Slot.{slotMachine}
+use Rattle.slots.specs.Slot.{slotMachine}
 use Rattle.operations.specs.Apply.{greatest}
 use Rattle.evaluate.specs.Run.{heightOf, AllStood, Running}
 use Rattle.evaluate.specs.Evaluated.{Answered, Evaluates, Formed, program-height, lineMade, line-answered}
-use Rattle.operations.specs.declared.Layout.{Layout}
+use Rattle.operands.specs.declared.Layout.{Layout}
 use Rattle.evaluate.specs.declared.run.Evaluated.{Evaluated}
 use Rattle.evaluate.specs.declared.run.Evaluated.the-variants as evaluated
 use Rattle.kept.specs.Stored.{InSlot, Registers, Stored}

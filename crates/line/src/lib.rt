@@ -6,7 +6,7 @@ use evaluate::run;
 use evaluate::run::Evaluated;
 use kept::Place;
 use lexer::kinds::KindTable;
-use operations::Layout;
+use operands::Layout;
 use progress::Book;
 use reader::line;
 use reader::line::LineAnswer;

@@ -12,16 +12,16 @@ use Rattle.automata.specs.Machine.{Machine}
 use Rattle.automata.specs.Stage.{Made, made, refused, after, thenMade}
 use Rattle.automata.specs.Stages.{starStage, concatStage}
 use Rattle.explore.specs.Rows.{operationOf}
-use Rattle.stages.specs.Slot.{Slot, Holds, Written}
-use Rattle.stages.specs.Keep.{Aside}
-use Rattle.stages.specs.Operate.{operate}
-use Rattle.stages.specs.Stage.{Ready, StageDone, answerOf, InSlot}
-use Rattle.stages.specs.declared.stage.Limits.{Limits}
-use Rattle.stages.specs.declared.stage.Staged.{Staged}
-use Rattle.stages.specs.declared.stage.Staged.the-variants.{TooManySets, TooManyStates}
-use Rattle.operations.specs.Stack.{needs, slotAt, Below, fills, slot-same, slot-below}
-use Rattle.operations.specs.Operand.{operandIn, OperandReady, Shelves, Bringing, Brought, copied, written-aside}
-use Rattle.operations.specs.declared.Layout.{Layout}
+use Rattle.slots.specs.Slot.{Slot, Holds, Written}
+use Rattle.slots.specs.Keep.{Aside}
+use Rattle.answers.specs.Operate.{operate}
+use Rattle.answers.specs.Stage.{Ready, StageDone, answerOf, InSlot}
+use Rattle.answers.specs.declared.Limits.{Limits}
+use Rattle.answers.specs.declared.Staged.{Staged}
+use Rattle.answers.specs.declared.Staged.the-variants.{TooManySets, TooManyStates}
+use Rattle.operands.specs.Stack.{needs, slotAt, Below, fills, slot-same, slot-below}
+use Rattle.operands.specs.Operand.{operandIn, OperandReady, Shelves, Bringing, Brought, copied, written-aside}
+use Rattle.operands.specs.declared.Layout.{Layout}
 use Rattle.codes.specs.declared.Source.{Source}
 use Rattle.operations.specs.declared.apply.Stepped.{Stepped}
 use Rattle.operations.specs.declared.apply.Stepped.the-variants.{Next, Refused, Stuck}
@@ -94,6 +94,12 @@ pub record Makes (l : Layout) (m left : ℕ) (s t : List ℕ) (r : Stepped) (X :
 
 -- ---- one operation
 
+-- What a stage's answer says of a stack that ends with its machine.
+abbrev pub toldOf : ℕ → Staged → Stepped
+toldOf left (Rattle.answers.specs.declared.Staged.the-variants.Made n q) = Next (left + 1) n
+toldOf left TooManySets = Refused 8
+toldOf left TooManyStates = Refused 9
+
 abbrev pub limitsOf : Layout → Limits
 limitsOf l = record { sets = l .sets; states = l .states }
 
@@ -118,20 +124,15 @@ module _ (op : ℕ) (l : Layout) (m left right : ℕ) (s t : List ℕ) where
   abbrev answer : Made
   answer = operate (formatOf l) m (operationOf op) (slotAt (l .states) (suc m) (l .size) s left) (slotAt (l .states) (suc m) (l .size) s right)
 
-  pub apply-made : (n q : ℕ) (r : Staged) → StageDone op m (limitsOf l) (left * l .size) (right * l .size) s t r → r ≡ Rattle.stages.specs.declared.stage.Staged.the-variants.Made n q
-      → Makes l m left s t (Next (left + 1) n) answer
-  apply-made n q r D e =
+  made-told : (r : Staged) → StageDone op m (limitsOf l) (left * l .size) (right * l .size) s t r → Makes l m left s t (toldOf left r) answer
+  made-told (Rattle.answers.specs.declared.Staged.the-variants.Made n q) D =
       let w : n ≡ max n 0 = omega arith in
-      record {
-        answer = (add-one left, n ∷ [], sym w, D .answer (formatOf l) refl refl ∙ ap (answerOf (l .states) (suc m) (drop (left * l .size) t)) e, subst (InSlot (l .states) (suc m) (drop (left * l .size) t)) e (D .slot) .0);
-        below = aside-below (D .aside);
-      }
+      record { answer = (add-one left, n ∷ [], sym w, D .answer (formatOf l) refl refl, D .slot .0); below = aside-below (D .aside) }
+  made-told TooManySets D = record { answer = D .answer (formatOf l) refl refl; below = aside-below (D .aside) }
+  made-told TooManyStates D = record { answer = D .answer (formatOf l) refl refl; below = aside-below (D .aside) }
 
-  pub apply-sets : (r : Staged) → StageDone op m (limitsOf l) (left * l .size) (right * l .size) s t r → r ≡ TooManySets → Makes l m left s t (Refused 8) answer
-  apply-sets r D e = record { answer = D .answer (formatOf l) refl refl ∙ ap (answerOf (l .states) (suc m) (drop (left * l .size) t)) e; below = aside-below (D .aside) }
-
-  pub apply-states : (r : Staged) → StageDone op m (limitsOf l) (left * l .size) (right * l .size) s t r → r ≡ TooManyStates → Makes l m left s t (Refused 9) answer
-  apply-states r D e = record { answer = D .answer (formatOf l) refl refl ∙ ap (answerOf (l .states) (suc m) (drop (left * l .size) t)) e; below = aside-below (D .aside) }
+  pub apply-done : (r : Staged) → StageDone op m (limitsOf l) (left * l .size) (right * l .size) s t r → (x : Stepped) → x ≡ toldOf left r → Makes l m left s t x answer
+  apply-done r D x e = subst (λ x. Makes l m left s t x answer) (sym e) (made-told r D)
 
 -- ---- the top moved up
 
@@ -215,84 +216,85 @@ pub greatest-both : (a b : List ℕ) → greatest (a ++ b) ≡ max (greatest a) 
 greatest-both [] b = omega arith
 greatest-both (c ∷ a) b = omega (arith, greatest-both a b)
 
+-- The answer of a stage behind one that made n sets.
+abbrev pub behindOf : ℕ → Stepped → Stepped
+behindOf n (Next h q) = Next h (max n q)
+behindOf n (Refused r) = Refused r
+behindOf n Stuck = Stuck
+
+-- A is in its slot still, and `A*` is made above it.
+pub record Starred (l : Layout) (m top : ℕ) (s t : List ℕ) (r : Stepped) : Type 0 where
+  pub under : Holds (l .states) (suc m) (drop (top * l .size) t) (slotAt (l .states) (suc m) (l .size) s top)
+  pub star : MadeBy l m (top + 1) t r (starStage (formatOf l) (suc m) (slotAt (l .states) (suc m) (l .size) s top))
+  pub below : Below (top * l .size) s t
+
 module _ {l : Layout} {m top : ℕ} {s rows table work : List ℕ} (D : Doubling l m top s rows table work) where
-  abbrev A : Machine
-  A = slotAt (l .states) (suc m) (l .size) s top
-
-  abbrev starred : Made
-  starred = starStage (formatOf l) (suc m) A
-
-  abbrev plussed : Made
-  plussed = thenMade starred λ B. concatStage (formatOf l) (suc m) A B
-
-  pub plus-first : {t : List ℕ} → Raised l m top s t → Applying l m (top + 1) (top + 1) t rows table work
-  plus-first R = record { lent = lent-kept (D .lent) (R .below .long) refl refl refl; low = D .low; high = D .low; leftSlot = R .holds .slot; rightSlot = R .holds .slot }
+  pub star-asks : {t : List ℕ} → Raised l m top s t → Applying l m (top + 1) (top + 1) t rows table work
+  star-asks R = record { lent = lent-kept (D .lent) (R .below .long) refl refl refl; low = D .low; high = D .low; leftSlot = R .holds .slot; rightSlot = R .holds .slot }
 
   two : {t : List ℕ} → Raised l m top s t → (top + 1) * l .size ≤ length t
   two R = omega (arith, double-room D, next-place top (l .size), R .below .long)
 
-  module _ {t u : List ℕ} {r : Stepped} (R : Raised l m top s t) (S : Makes l m (top + 1) t u r (starStage (formatOf l) (suc m) (slotAt (l .states) (suc m) (l .size) t (top + 1)))) where
-    -- A, behind both
-    under : Holds (l .states) (suc m) (drop (top * l .size) u) A
-    under =
-        let a = slot-below (l .size) (top + 1) s t top (D .lent .slot) (omega (arith, two R, R .below .long)) (omega arith) (R .below) (D .slot) in
-        let b = slot-below (l .size) (top + 1) t u top (D .lent .slot) (two R) (omega arith) (S .below) (a .slot) in
-        record { slot = b .slot; machine = b .machine ∙ a .machine }
-
-    star-is : MadeBy l m (top + 1) u r starred
-    star-is = subst (MadeBy l m (top + 1) u r) (ap (starStage (formatOf l) (suc m)) (R .holds .machine)) (S .answer)
-
-    under-all : Below (top * l .size) s u
-    under-all = record {
-      long = S .below .long ∙ R .below .long;
-      same = λ j h. S .below .same j (omega (arith, next-place top (l .size))) ∙ R .below .same j (omega (arith, next-place top (l .size)));
-    }
-
-    pub plus-refused : (n : ℕ) → r ≡ Refused n → Makes l m top s u (Refused n) plussed
-    plus-refused n e = record { answer = ap (λ X. thenMade X λ B. concatStage (formatOf l) (suc m) A B) (subst (λ r. MadeBy l m (top + 1) u r starred) e star-is); below = under-all }
-
-    pub plus-stuck : r ≡ Stuck → ⊥
-    plus-stuck e = subst (λ r. MadeBy l m (top + 1) u r starred) e star-is
-
-    module _ (h n : ℕ) (e : r ≡ Next h n) where
-      star-made : MadeBy l m (top + 1) u (Next h n) starred
-      star-made = subst (λ r. MadeBy l m (top + 1) u r starred) e star-is
-
-      pub plus-second : {rows′ table′ work′ : List ℕ} → length rows′ ≡ length rows → length table′ ≡ length table → length work′ ≡ length work → Applying l m top (top + 1) u rows′ table′ work′
-      plus-second a b c = record {
-        lent = lent-kept (D .lent) (S .below .long ∙ R .below .long) a b c;
-        low = omega (arith, D .low);
-        high = D .low;
-        leftSlot = under .slot;
-        rightSlot = star-made .4;
+  pub starred : {t u : List ℕ} {r : Stepped} → Raised l m top s t → Makes l m (top + 1) t u r (starStage (formatOf l) (suc m) (slotAt (l .states) (suc m) (l .size) t (top + 1))) → Starred l m top s u r
+  starred {t} {u} {r} R S =
+      let a = slot-below (l .size) (top + 1) s t top (D .lent .slot) (omega (arith, two R, R .below .long)) (omega arith) (R .below) (D .slot) in
+      let b = slot-below (l .size) (top + 1) t u top (D .lent .slot) (two R) (omega arith) (S .below) (a .slot) in
+      record {
+        under = record { slot = b .slot; machine = b .machine ∙ a .machine };
+        star = subst (MadeBy l m (top + 1) u r) (ap (starStage (formatOf l) (suc m)) (R .holds .machine)) (S .answer);
+        below = record {
+          long = S .below .long ∙ R .below .long;
+          same = λ j h. S .below .same j (omega (arith, next-place top (l .size))) ∙ R .below .same j (omega (arith, next-place top (l .size)));
+        };
       }
 
-      module _ {v : List ℕ} {q : Stepped} (T : Makes l m top u v q (concatStage (formatOf l) (suc m) (slotAt (l .states) (suc m) (l .size) u top) (slotAt (l .states) (suc m) (l .size) u (top + 1)))) where
-        counts : List ℕ
-        counts = star-made .1
+  abbrev A : Machine
+  A = slotAt (l .states) (suc m) (l .size) s top
 
-        joined : plussed ≡ after counts (concatStage (formatOf l) (suc m) (slotAt (l .states) (suc m) (l .size) u top) (slotAt (l .states) (suc m) (l .size) u (top + 1)))
-        unfolding counts
-        joined = ap (λ X. thenMade X λ B. concatStage (formatOf l) (suc m) A B) (star-made .3)
-            ∙ ap (λ Y. after counts (concatStage (formatOf l) (suc m) Y (slotAt (l .states) (suc m) (l .size) u (top + 1)))) (sym (under .machine))
+  abbrev plussed : Made
+  plussed = thenMade (starStage (formatOf l) (suc m) A) λ B. concatStage (formatOf l) (suc m) A B
 
-        below : Below (top * l .size) s v
-        below = record { long = T .below .long ∙ under-all .long; same = λ j h. T .below .same j h ∙ under-all .same j h }
+  module _ {u : List ℕ} {r : Stepped} (S : Starred l m top s u r) where
+    star-is : (x : Stepped) → r ≡ x → MadeBy l m (top + 1) u x (starStage (formatOf l) (suc m) A)
+    star-is x e = subst (λ r. MadeBy l m (top + 1) u r (starStage (formatOf l) (suc m) A)) e (S .star)
 
-        pub plus-both : (h′ n′ z : ℕ) → q ≡ Next h′ n′ → z ≡ max n n′ → Makes l m top s v (Next h′ z) plussed
-        unfolding counts
-        plus-both h′ n′ z f w =
-            let (a, cs, g, b, d) = subst (λ q. MadeBy l m top v q (concatStage (formatOf l) (suc m) (slotAt (l .states) (suc m) (l .size) u top) (slotAt (l .states) (suc m) (l .size) u (top + 1)))) f (T .answer) in
-            record {
-              answer = (a, counts ++ cs, greatest-both counts cs ∙ ap₂ max (star-made .2) g ∙ sym w, joined ∙ ap (after counts) b, d);
-              below = below;
-            }
+    pub plus-refused : (n : ℕ) → r ≡ Refused n → Makes l m top s u (Refused n) plussed
+    plus-refused n e = record { answer = ap (λ X. thenMade X λ B. concatStage (formatOf l) (suc m) A B) (star-is (Refused n) e); below = S .below }
 
-        pub plus-refused-2 : (n′ : ℕ) → q ≡ Refused n′ → Makes l m top s v (Refused n′) plussed
-        plus-refused-2 n′ f = record {
-          answer = joined ∙ ap (after counts) (subst (λ q. MadeBy l m top v q (concatStage (formatOf l) (suc m) (slotAt (l .states) (suc m) (l .size) u top) (slotAt (l .states) (suc m) (l .size) u (top + 1)))) f (T .answer));
-          below = below;
-        }
+    pub plus-stuck : r ≡ Stuck → ⊥
+    plus-stuck e = star-is Stuck e
 
-        pub plus-stuck-2 : q ≡ Stuck → ⊥
-        plus-stuck-2 f = subst (λ q. MadeBy l m top v q (concatStage (formatOf l) (suc m) (slotAt (l .states) (suc m) (l .size) u top) (slotAt (l .states) (suc m) (l .size) u (top + 1)))) f (T .answer)
+    module _ (h n : ℕ) (e : r ≡ Next h n) where
+      pub plus-second : {rows′ table′ work′ : List ℕ} → length rows′ ≡ length rows → length table′ ≡ length table → length work′ ≡ length work → Applying l m top (top + 1) u rows′ table′ work′
+      plus-second a b c = record {
+        lent = lent-kept (D .lent) (S .below .long) a b c;
+        low = omega (arith, D .low);
+        high = D .low;
+        leftSlot = S .under .slot;
+        rightSlot = star-is (Next h n) e .4;
+      }
+
+      abbrev joining : Made
+      joining = concatStage (formatOf l) (suc m) (slotAt (l .states) (suc m) (l .size) u top) (slotAt (l .states) (suc m) (l .size) u (top + 1))
+
+      counts : List ℕ
+      counts = star-is (Next h n) e .1
+
+      joined : plussed ≡ after counts joining
+      unfolding counts
+      joined = ap (λ X. thenMade X λ B. concatStage (formatOf l) (suc m) A B) (star-is (Next h n) e .3)
+          ∙ ap (λ Y. after counts (concatStage (formatOf l) (suc m) Y (slotAt (l .states) (suc m) (l .size) u (top + 1)))) (sym (S .under .machine))
+
+      behind-below : {v : List ℕ} → Below (top * l .size) u v → Below (top * l .size) s v
+      behind-below B = record { long = B .long ∙ S .below .long; same = λ j h. B .same j h ∙ S .below .same j h }
+
+      made-behind : {v : List ℕ} (q : Stepped) → Makes l m top u v q joining → Makes l m top s v (behindOf n q) plussed
+      unfolding counts
+      made-behind (Next h′ n′) T =
+          let (a, cs, g, b, d) = T .answer in
+          record { answer = (a, counts ++ cs, greatest-both counts cs ∙ ap₂ max (star-is (Next h n) e .2) g, joined ∙ ap (after counts) b, d); below = behind-below (T .below) }
+      made-behind (Refused n′) T = record { answer = joined ∙ ap (after counts) (T .answer); below = behind-below (T .below) }
+      made-behind Stuck T = absurd (T .answer)
+
+      pub plus-done : {v : List ℕ} (q : Stepped) → Makes l m top u v q joining → (x : Stepped) → x ≡ behindOf n q → Makes l m top s v x plussed
+      plus-done {v} q T x f = subst (λ x. Makes l m top s v x plussed) (sym f) (made-behind q T)

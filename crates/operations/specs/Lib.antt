@@ -1,4 +1,2 @@
--- The stack in slots of bytes, and what is brought into them and made of them.
-pub mod Stack
-pub mod Operand
+-- Operations on machines of a stack in slots: what they ask of the lent buffers, and what they leave.
 pub mod Apply

@@ -1,12 +1,2 @@
-// Operands brought into slots of a stack of machines, and operations on them. These are parts: callers give slots that hold machines and buffers that
-// are long enough.
+// Operations on the machines of a stack in slots. These are parts: callers give slots that hold machines and buffers that are long enough.
 pub mod apply;
-pub mod operand;
-pub mod slots;
-
-// The most sets that a stage may make, the most states that a kept machine may have, and the bytes of a slot.
-pub struct Layout {
-    pub sets: usize,
-    pub states: usize,
-    pub size: usize,
-}

@@ -1,27 +1,16 @@
 // A stage: the sets that an operation on two machines reaches are counted, and their smallest machine is kept.
-use crate::keep;
-use crate::slot;
-use crate::slot::Sizes;
+use answers::Limits;
+use answers::Staged;
 use explore::Explored;
 use explore::Shape;
 use minimise::Kept;
+use slots::keep;
+use slots::slot;
+use slots::slot::Sizes;
 ghost use mathlib.Core.Path.{_≡_};
 ghost use Prim.Native.Nat.{_≤_};
 ghost use Rattle.sets.specs.Operations.{operationOf, rowWidth};
-ghost use Rattle.stages.specs.Stage.{Reaches, Reached, Ready, StageDone};
-
-// The most sets that a stage may make, and the most states that a kept machine may have.
-pub struct Limits {
-    pub sets: usize,
-    pub states: usize,
-}
-
-// The numbers of sets and of states, or a refusal: more sets than the limit, or else more states.
-pub enum Staged {
-    Made(usize, usize),
-    TooManySets,
-    TooManyStates,
-}
+ghost use Rattle.answers.specs.Stage.{Reaches, Reached, Ready, StageDone};
 
 // The bytes of a row of the operation, for operands of na and nb states.
 fn width(op: u8, na: usize, nb: usize) -> usize

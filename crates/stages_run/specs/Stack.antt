@@ -9,13 +9,13 @@ use lib.Seq.{getD-drop}
 use Rattle.automata.specs.Basics.{LtCases, lt-cases, SameCases, same-cases, nat-test}
 use Rattle.automata.specs.Machine.{Machine}
 use Rattle.explore.specs.Rows.{numberAt}
-use Rattle.stages.specs.declared.stage.Staged.{Staged}
-use Rattle.stages.specs.declared.stage.Staged.the-variants.{Made, TooManySets, TooManyStates}
+use Rattle.answers.specs.declared.Staged.{Staged}
+use Rattle.answers.specs.declared.Staged.the-variants.{Made, TooManySets, TooManyStates}
 use Rattle.stages_run.specs.declared.Turn.{Turn}
 use Rattle.stages_run.specs.declared.Turn.the-variants.{Next, Stop}
-use Rattle.stages.specs.Slot.{Slot, Holds, Written, table-same}
-use Rattle.stages.specs.Keep.{Aside}
-use Rattle.stages.specs.Stage.{Ready, StageDone}
+use Rattle.slots.specs.Slot.{Slot, Holds, Written, table-same}
+use Rattle.slots.specs.Keep.{Aside}
+use Rattle.answers.specs.Stage.{Ready, StageDone}
 
 -- the first d slots hold machines
 pub record Stack (d : ℕ) (s : List ℕ) : Type 0 where

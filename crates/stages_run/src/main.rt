@@ -1,8 +1,8 @@
 // The stages on real buffers, over the letter a and the mark. A line for each word of codes in postfix form (`a` the letter, `;` joins, `*` star, `+`
 // once or more, `&` both): the numbers of sets and of states that its last stage makes, or the number of the refusal.
+use answers::Limits;
+use answers::Staged;
 use libc::STDOUT_FILENO;
-use stages::stage::Limits;
-use stages::stage::Staged;
 ghost use mathlib.Core.Path.{_≡_};
 ghost use Prim.Native.Nat.{_+_, _*_, _<_, _≤_};
 ghost use lib.ListN.{length};
@@ -40,7 +40,7 @@ fn push(slots: &mut [u8], depth: usize)
     ensures { λ _. ⌜ Stack (depth + 1) (now (slots .exit)) ⌝ }
 {
     let at = depth * 362;
-    stages::given::letter(&mut slots[at..at + 362], 120, 1, 0);
+    slots::given::letter(&mut slots[at..at + 362], 120, 1, 0);
 }
 
 // The stage of the operation on two machines of the stack, with the first in place of what it makes.

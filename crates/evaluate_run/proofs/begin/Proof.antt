@@ -4,8 +4,8 @@ use Prim.Native.Nat.{_≤_, _-_, _*_, _+_, suc}
 use native.Mathlib.Omega.{arith}
 use borrow.Author.Needs.{needs}
 use lib.ListN.{length}
-use Rattle.stages.specs.Keep.{part-at}
-use Rattle.operations.specs.Stack.{Slots}
+use Rattle.slots.specs.Keep.{part-at}
+use Rattle.operands.specs.Stack.{Slots}
 use Rattle.evaluate_run.specs.ReadyLaws.{slots-none, slots-next}
 use Rattle.evaluate_run.proofs.begin.Statement.{statement}
 use Rattle.evaluate_run.proofs.begin.Tie as tie

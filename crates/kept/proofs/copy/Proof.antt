@@ -1,5 +1,5 @@
 -- `kept::copy` meets its contract. The loop's invariant: the bytes before i are copied.
-use Rattle.stages.specs.Slot.{Written, written-none, written-more}
+use Rattle.slots.specs.Slot.{Written, written-none, written-more}
 use lib.ListN.{getD}
 use borrow.Author.Needs.{needs}
 use native.Mathlib.Omega.{arith}

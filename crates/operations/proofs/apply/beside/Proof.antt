@@ -1,4 +1,4 @@
-use mathlib.Core.Path.{refl}
+use mathlib.Core.Path.{refl, _∙_}
 use native.Mathlib.Omega.{arith}
 use Rattle.operations.specs.Apply.{lent-columns, double-room, raise-asks, raised, beside-bring, beside-apply, beside-makes}
 use borrow.Author.Needs.{needs}
@@ -20,6 +20,18 @@ bring-requires c κs = beside-bring (c .before .before .before .before .before .
 apply-requires : tie.Need-apply-requires
 apply-requires c κs = beside-apply (c .before .before .before .before .before .before .before .before .before .before .before .before .before .before .before .before .before .before .before .before .pre) (raised (c .before .before .before .before .before .before .before .before .before .before .before .before .before .before .before .before .before .before .before .before .pre .doubling) _ (c .before .before .before .before .before .before .before .before .before .before .raise .ensures)) (c .before .before .before .before .before .before .bring .ensures) refl refl refl
 
+same-length : tie.Need-same-length
+same-length c = c .before .before .before .before .before .before .before .before .apply .kept .1 .1 .1 .1 .1 .0 ∙ c .before .before .before .before .before .before .before .before .before .before .before .before .before .before .before .bring .kept .1 .1 .1 .1 .1 .1 .0 ∙ c .before .before .before .before .before .before .before .before .before .before .before .before .before .before .before .before .before .before .before .raise .kept .0
+
+same-length-2 : tie.Need-same-length-2
+same-length-2 c = c .before .before .before .before .before .before .before .before .apply .kept .1 .1 .1 .1 .1 .1 .0
+
+same-length-3 : tie.Need-same-length-3
+same-length-3 c = c .before .before .before .before .before .before .before .before .apply .kept .1 .1 .1 .1 .1 .1 .1 .0
+
+same-length-4 : tie.Need-same-length-4
+same-length-4 c = c .before .before .before .before .before .before .before .before .apply .kept .1 .1 .1 .1 .1 .1 .1 .1 .0
+
 returns : tie.Need-returns
 returns c = beside-makes (c .before .before .before .before .before .before .before .before .before .before .before .before .before .before .before .before .before .before .before .before .before .before .before .before .before .before .before .before .before .pre) (c .before .before .before .before .before .before .before .before .before .before .before .before .before .before .before .before .before .before .before .before .before .before .before .before .before .before .before .before .before .args .op) (raised (c .before .before .before .before .before .before .before .before .before .before .before .before .before .before .before .before .before .before .before .before .before .before .before .before .before .before .before .before .before .pre .doubling) _ (c .before .before .before .before .before .before .before .before .before .before .before .before .before .before .before .before .before .before .before .raise .ensures)) (c .before .before .before .before .before .before .before .before .before .before .before .before .before .before .before .bring .ensures) (c .before .before .before .before .before .before .before .before .apply .ensures)
 
@@ -33,8 +45,8 @@ beside-spec =
     bring-requires
     (λ c. search needs)
     apply-requires
-    (λ c. search needs)
-    (λ c. search needs)
-    (λ c. search needs)
-    (λ c. search needs)
+    same-length
+    same-length-2
+    same-length-3
+    same-length-4
     returns)

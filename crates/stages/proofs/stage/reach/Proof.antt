@@ -5,7 +5,7 @@ use native.Mathlib.Omega.{arith}
 use lib.ListN.{length-replicate}
 use lib.Seq.{length-take-le}
 use borrow.Author.Needs.{needs}
-use Rattle.stages.specs.StageLaws.{reach-half, reach-width, reach-asks, reach-lists, reach-found}
+use Rattle.answers.specs.StageLaws.{reach-half, reach-width, reach-asks, reach-lists, reach-found}
 use Rattle.stages.proofs.stage.reach.Statement.{statement}
 use Rattle.stages.proofs.stage.reach.Tie as tie
 

@@ -1,6 +1,6 @@
 -- `stages::stage::stage` meets its contract.
 use native.Mathlib.Omega.{arith}
-use Rattle.stages.specs.StageLaws.{ready-columns, ready-load, ready-reach, ready-keep, done-many, done-large, done-made}
+use Rattle.answers.specs.StageLaws.{ready-columns, ready-load, ready-reach, ready-keep, done-many, done-large, done-made}
 use borrow.Author.Needs.{needs}
 use Rattle.stages.proofs.stage.stage.Statement.{statement}
 use Rattle.stages.proofs.stage.stage.Tie as tie

@@ -2,7 +2,7 @@
 use Prim.Native.Nat.{_≤_}
 use native.Mathlib.Numerals.{add-one}
 use native.Mathlib.Omega.{arith}
-use Rattle.stages.specs.Stage.{width-pairs, width-erase}
+use Rattle.answers.specs.Stage.{width-pairs, width-erase}
 use borrow.Author.Needs.{needs}
 use Rattle.stages.proofs.stage.width.Statement.{statement}
 use Rattle.stages.proofs.stage.width.Tie as tie
