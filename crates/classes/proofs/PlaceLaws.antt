@@ -14,7 +14,7 @@ use Rattle.automata.specs.Table.{tableMachine}
 use Rattle.entries.specs.Entries.{classOf}
 use Rattle.entries.specs.Classes.{next, Led, leaders}
 use Rattle.leaders.specs.Round.{link, Together, Placed, Latest, Linked, Under, Leads}
-use Rattle.classes.specs.Refine.{Placing}
+use Rattle.classes.specs.Refine.{Entered, Placing}
 use Rattle.leaders.proofs.RoundLaws.{together-refl, together-sym, together-trans, class-read, class-low}
 
 -- ---- placing a state
@@ -148,6 +148,21 @@ module _ (k n : ℕ) (M : Machine) (f g g′ : ℕ → ℕ) (p r : ℕ) (D : Led
   unfolding leaders
   leaders-joins e = rw (ne-eqb (g′ p) p (λ z. e (sym here ∙ z)), leaders-same p (le-refl p)) (omega arith)
 
+-- ---- what is stored
+
+pub keep-both : (n p : ℕ) (w w₁ w₂ : List ℕ) → w₁ ≡ set w (n + p) p → w₂ ≡ set w₁ (n + (n + p)) p → w₂ ≡ set (set w (n + p) p) (n + (n + p)) p
+keep-both n p w w₁ w₂ e₁ e₂ = e₂ ∙ ap (λ l. set l (n + (n + p)) p) e₁
+
+module _ (n c r p : ℕ) (w w₁ : List ℕ) (e₁ : w₁ ≡ set w (n + p) r) where
+  pub entered-joins : r < p → Entered n c r p w w₁ 0
+  entered-joins h = record { joins = λ _. (e₁, refl); leads = λ b. absurd (omega arith) }
+
+  pub entered-leads : (s : ℕ) (w₂ w₃ : List ℕ) → p ≤ r → s ≡ link n w₁ c → w₂ ≡ set w₁ (n + (n + p)) s → w₃ ≡ set w₂ (n + (n + c)) p → Entered n c r p w w₃ 1
+  entered-leads s w₂ w₃ h es e₂ e₃ = record {
+    joins = λ b. absurd (omega arith);
+    leads = λ _. (e₃ ∙ ap (λ l. set l (n + (n + c)) p) (e₂ ∙ ap (λ x. set w₁ (n + (n + p)) x) es ∙ ap (λ l. set l (n + (n + p)) (link n l c)) e₁), refl);
+  }
+
 -- ---- placing a state in the arrays
 
 module _ {base n k p : ℕ} {t w : List ℕ} (U : Under base n k p t w) where
@@ -280,3 +295,10 @@ module _ {base n k p : ℕ} {t w : List ℕ} (U : Under base n k p t w) where
         same q v i =
             let j : q ≢ c = λ o. i (o ∙ class-read U c e) in
             getD-set-other W₂ (n + (n + c)) (n + (n + q)) p 0 (omega arith) ∙ getD-set-other W₁ (n + (n + p)) (n + (n + q)) x 0 (omega arith) ∙ link₁ q
+
+    pub place-entered : (w′ : List ℕ) (x : ℕ) → Entered n c r p w w′ x → Placing base n k p t w w′ x
+    place-entered w′ x E = go (lt-cases r p)
+      where
+        go : LtCases r p → Placing base n k p t w w′ x
+        go (inl y) = let z = E .joins (y .0) in rw (z .1) (place-joins w′ (z .0) (y .0))
+        go (inr y) = let z = E .leads (y .0) in rw (z .1) (place-leads (link n (set w (n + p) r) c) (set w (n + p) r) (set (set w (n + p) r) (n + (n + p)) (link n (set w (n + p) r) c)) w′ refl (y .0) refl refl (z .0))

@@ -4,13 +4,13 @@ use mathlib.Core.Bool.{Bool, true, false, cond}
 use mathlib.Core.Logic.{_≢_}
 use mathlib.Core.List.{List}
 use Prim.Native.Nat.{ℕ, suc, _+_, _≤_, _<_}
-use lib.ListN.{getD, take}
+use lib.ListN.{getD, take, set}
 use lib.Dec.{eqb}
 use Rattle.automata.specs.Partition.{classes}
 use Rattle.automata.specs.Table.{tableMachine}
 use Rattle.entries.specs.Entries.{classOf, flagBit}
 use Rattle.entries.specs.Classes.{next, Led, Told, leaders, Sized, Refining}
-use Rattle.leaders.specs.Round.{Placed, Partial}
+use Rattle.leaders.specs.Round.{link, Placed, Partial}
 
 -- r is the first of the n states that does not answer as state 0 does, or n.
 pub record FirstOther (n : ℕ) (t : List ℕ) (r : ℕ) : Type 0 where
@@ -38,6 +38,11 @@ pub record Begun (base n k : ℕ) (t w : List ℕ) : Type 0 where
   pub sized : Sized base n k t w
   pub led : Led n (classOf (take n w))
   pub told : Told n (tableMachine base n k t) (classOf (take n w))
+
+-- State p of class c is entered under leader r: an earlier one, or itself, and is then linked as the latest leader of its old class.
+pub record Entered (n c r p : ℕ) (w w′ : List ℕ) (x : ℕ) : Type 0 where
+  pub joins : r < p → (w′ ≡ set w (n + p) r) × (x ≡ 0)
+  pub leads : p ≤ r → (w′ ≡ set (set (set w (n + p) r) (n + (n + p)) (link n (set w (n + p) r) c)) (n + (n + c)) p) × (x ≡ 1)
 
 -- State p is placed, and r counts it where it leads.
 pub record Placing (base n k p : ℕ) (t w w′ : List ℕ) (r : ℕ) : Type 0 where

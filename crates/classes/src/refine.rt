@@ -1,6 +1,6 @@
-// Partition refinement over a table (Moore's algorithm, with a split by distances where it drags on): each state's class, rounds that part the classes, until a round parts none. A class goes by its first
-// state, its leader. In a round a state is compared only with the leaders that its old class has so far, which are linked. The work list holds three arrays of
-// n entries: the classes, the classes after the round, the links.
+// Partition refinement over a table (Moore's algorithm, with a split by distances where it drags on): each state's class, rounds that part the classes, until
+// a round parts none. A class goes by its first state, its leader. In a round a state is compared only with the leaders that its old class has so far, which
+// are linked. The work list holds three arrays of n entries: the classes, the classes after the round, the links.
 use entries::at;
 use entries::flag;
 use entries::put;
@@ -8,28 +8,30 @@ use leaders::leader;
 use spread::spread;
 ghost use mathlib.Core.Path.{_≡_};
 ghost use Prim.Native.Nat.{ℕ, _+_, _≤_, _<_};
-ghost use lib.ListN.{length, getD, take};
+ghost use lib.ListN.{length, getD, take, set};
 ghost use Rattle.automata.specs.Partition.{classes};
 ghost use Rattle.automata.specs.Table.{tableMachine};
 ghost use Rattle.entries.specs.Classes.{next, Sized, Refining};
 ghost use Rattle.leaders.specs.Round.{Under};
-ghost use Rattle.classes.specs.Refine.{FirstOther, sideOf, Parted, Begun, Placing, Rounded, Turned};
+ghost use Rattle.classes.specs.Refine.{FirstOther, sideOf, Parted, Begun, Entered, Placing, Rounded, Turned};
 
 // Rounds before the distances are looked at. No stage of the books in bench/books takes more than 22.
 const FIRST_ROUNDS: usize = 24;
 
-// State p is placed; 1 where it leads a class of its own.
-fn place(table: &[u16], base: usize, n: usize, k: usize, work: &mut [u16], p: usize) -> usize
-    requires { ⌜ Under base n k p (now table) (now work) ⌝ }
-    ensures { λ r. ⌜ Placing base n k p (now (table .entry)) (now (work .entry)) (now (work .exit)) r ⌝ }
+// State p leads its class as before.
+fn keep(n: usize, work: &mut [u16], p: usize)
+    requires { ⌜ (p < n) × (n + (n + n) ≤ length (now work)) × (n < 65536) ⌝ }
+    ensures { λ _. ⌜ now (work .exit) ≡ set (set (now (work .entry)) (n + p) p) (n + (n + p)) p ⌝ }
 {
-    let c = at(&work[..], p);
-    if c == p {
-        put(work, n + p, p);
-        put(work, n + (n + p), p);
-        return 1;
-    }
-    let r = leader(table, base, n, k, &work[..], p);
+    put(work, n + p, p);
+    put(work, n + (n + p), p);
+}
+
+// State p of class c is entered under leader r: an earlier one, or itself, and is then the latest leader of its old class. 1 where it leads.
+fn enter(n: usize, work: &mut [u16], c: usize, r: usize, p: usize) -> usize
+    requires { ⌜ (c < n) × (r < n) × (p < n) × (n + (n + n) ≤ length (now work)) × (n < 65536) ⌝ }
+    ensures { λ x. ⌜ Entered n c r p (now (work .entry)) (now (work .exit)) x ⌝ }
+{
     put(work, n + p, r);
     if r < p {
         return 0;
@@ -38,6 +40,20 @@ fn place(table: &[u16], base: usize, n: usize, k: usize, work: &mut [u16], p: us
     put(work, n + (n + p), s);
     put(work, n + (n + c), p);
     1
+}
+
+// State p is placed; 1 where it leads a class of its own.
+fn place(table: &[u16], base: usize, n: usize, k: usize, work: &mut [u16], p: usize) -> usize
+    requires { ⌜ Under base n k p (now table) (now work) ⌝ }
+    ensures { λ r. ⌜ Placing base n k p (now (table .entry)) (now (work .entry)) (now (work .exit)) r ⌝ }
+{
+    let c = at(&work[..], p);
+    if c == p {
+        keep(n, work, p);
+        return 1;
+    }
+    let r = leader(table, base, n, k, &work[..], p);
+    enter(n, work, c, r, p)
 }
 
 // One round: each state is placed. How many classes there are then.
