@@ -2,8 +2,8 @@
 
 use crate::names::Names;
 use crate::symbols;
-use lexer::kinds::KindTable;
 use forms::Code;
+use lexer::kinds::KindTable;
 use scans::ends;
 use scans::tests;
 ghost use Prim.Native.Nat.{_<_, _*_, _+_, _≤_};
