@@ -2,7 +2,7 @@
 use mathlib.Core.Path.{_∙_}
 use native.Mathlib.Omega.{arith}
 use borrow.Author.Needs.{needs}
-use Rattle.choice.specs.BufferLaws.{grown-more}
+use Rattle.signs.specs.BufferLaws.{grown-more}
 use Rattle.choice.specs.ReadingLaws.{read-to, choice-bad}
 use Rattle.reader.proofs.FormLaws.{rule-none, rule-start, form-grown}
 use Rattle.reader.proofs.forms.rule.Statement.{statement}
