@@ -5,21 +5,29 @@ use Prim.Native.Nat.{ℕ, _<_, _≤_}
 use native.Mathlib.Omega.{arith}
 use lib.ListN.{length, take, drop}
 use Rattle.book.specs.Kind.{letterKind, openKind, closeKind}
-use Rattle.book.specs.Reader.{got, bad, closed, repeated}
+use Rattle.book.specs.Reader.{Read, got, bad, closed, repeated}
 use Rattle.book.specs.Text.{tokens}
 use Rattle.lexer.specs.Token.{At, kindAhead}
-use Rattle.choice.specs.BufferLaws.{grown-more}
-use Rattle.choice.specs.Reading.{a-choice, an-item, an-atom, left, Reads}
+use Rattle.signs.specs.BufferLaws.{grown-more}
+use Rattle.signs.specs.Spots.{left}
+use Rattle.choice.specs.Reading.{a-choice, an-item, an-atom, Is, Reads}
 use Rattle.choice.specs.ReadingLaws.{read-to, read-not}
-use Rattle.choice.specs.Steps.{Put, Suffixed, complements, Nots, Negated}
-use Rattle.choice.specs.declared.Spot.{Spot}
+use Rattle.signs.specs.Steps.{Put, Suffixed, complements, Item, Nots, Negated}
+use Rattle.signs.specs.declared.Spot.{Spot}
 use Rattle.lexer.specs.declared.Cursor.{Cursor}
 use Rattle.choice.specs.declared.Made.{Made}
 use Rattle.choice.specs.declared.Made.the-variants.{Done, Refused}
 use Rattle.lexer.proofs.TokenLaws.{at-fewer}
 use Rattle.choice.proofs.ReadLaws.{stop, seq}
 use Rattle.choice.proofs.KindLaws.{item-atom, atom-leaf, atom-bracket, atom-none, closed-not, closed-to}
-use Rattle.choice.proofs.StepLaws.{same-left, negated-got, negated-bad}
+use Rattle.signs.proofs.StepLaws.{same-left, negated-got, negated-bad}
+
+-- an item of the definitions' reader, in the words of its signs and of the five
+as-item : {ts : List ℕ} {X : Read} → Is an-item ts X → Item ts X
+as-item i = record { run = i .run }
+
+is-item : {ts : List ℕ} {X : Read} → Item ts X → Is an-item ts X
+is-item i = record { run = i .run }
 
 -- ---- an item: k `!`, an atom, the signs behind it, k codes of `!`
 
@@ -29,7 +37,7 @@ module _ {s o o₁ : List ℕ} {c : Spot} {n : Cursor} {k : ℕ} {a : Made} (x :
       let y = read-not d q in
       record {
         says = record {
-          reads = rw negated-bad at (x .passed .goes bad (seq (λ f. repeated) (y .reads) (item-atom _ (x .none)) (omega arith) (λ f h. refl)));
+          reads = is-item (rw negated-bad at (x .passed .goes bad (as-item (seq (λ f. repeated) (y .reads) (item-atom _ (x .none)) (omega arith) (λ f h. refl)))));
           before = y .before;
         };
       }
@@ -42,7 +50,7 @@ module _ {s o o₁ : List ℕ} {c : Spot} {n : Cursor} {k : ℕ} {a : Made} (x :
       record {
         says = record {
           expr = complements k (z .expr);
-          reads = rw (there, ← negated-got k) (x .passed .goes (got (z .expr) (left s m)) (seq (λ f. repeated) (t .reads) (item-atom _ (x .none)) (omega arith) (λ f h. z .reads)));
+          reads = is-item (rw (there, ← negated-got k) (x .passed .goes (got (z .expr) (left s m)) (as-item (seq (λ f. repeated) (t .reads) (item-atom _ (x .none)) (omega arith) (λ f h. z .reads)))));
           code = v .goes (take (c .pos) o) (z .expr) (z .code-is);
           grown = grown-more (t .grown) (grown-more (u .grown) (v .grown));
           fewer = omega (arith, ap length there, u .fewer, t .fewer, x .passed .fewer);

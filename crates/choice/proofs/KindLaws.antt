@@ -5,19 +5,19 @@ use mathlib.Core.Logic.{inl, inr}
 use mathlib.Core.List.{List, [], _∷_, _++_}
 use Prim.Native.Nat.{ℕ, zero, suc, _<_, _≤_}
 use native.Mathlib.Omega.{arith}
-use borrow.Author.Tests.{eq-eqb, ne-eqb, le-leb, lt-leb}
+use borrow.Author.Tests.{ne-eqb, le-leb, lt-leb}
 use lib.Dec.{eqb, leb}
 use lib.ListN.{drop}
 use Rattle.automata.specs.Basics.{SameCases, nat-test, same-cases}
 use Rattle.automata.specs.Stages.{either, both, without}
-use Rattle.language.specs.Expression.{Expr, letter, name, dot, empty, pair, join, star, plus, option}
-use Rattle.book.specs.Kind.{kindOf, itemKind, sign-byte, letterKind, nameKind, dotKind, atKind, openKind, bangKind, starKind, plusKind, questionKind, ampersandKind, minusKind, barKind, closeKind}
-use Rattle.book.specs.Reader.{got, bad, andThen, closed, repeats, repeated}
+use Rattle.language.specs.Expression.{Expr, letter, name, dot, empty, pair, join}
+use Rattle.book.specs.Kind.{kindOf, itemKind, sign-byte, letterKind, nameKind, dotKind, atKind, openKind, bangKind, ampersandKind, minusKind, barKind, closeKind}
+use Rattle.book.specs.Reader.{got, bad, andThen, closed, repeated}
 use Rattle.book.specs.Text.{tokens}
 use Rattle.book.specs.Program.{postfix}
 use Rattle.lexer.specs.Token.{At, kindAhead}
+use Rattle.lexer.proofs.TokenLaws.{token-is, token-is-not}
 use Rattle.choice.specs.Reading.{a-choice, a-blend, a-chain, an-item, an-atom, more-choices, more-blends, more-chains, read}
-use Rattle.choice.specs.Steps.{complemented}
 use Rattle.choice.proofs.ReadLaws.{Stops, Turn}
 
 -- ---- where a row of parts ends
@@ -47,21 +47,11 @@ above-items k h = go (leb letterKind k) (lt-leb k bangKind h)
 item-inside : (k : ℕ) → letterKind ≤ k → k ≤ bangKind → itemKind k ≡ true
 item-inside k h h′ = rw (le-leb letterKind k h, le-leb k bangKind h′)
 
-pub repeats-stop : (ts : List ℕ) (k : ℕ) (e : Expr) → k ≡ kindAhead ts → (k ≡ starKind → ⊥) → (k ≡ plusKind → ⊥) → (k ≡ questionKind → ⊥) → repeats ts e ≡ got e ts
-repeats-stop [] k e q h h′ h″ = refl
-repeats-stop (b ∷ ts) k e q h h′ h″ = rw (ne-eqb (kindOf b) starKind (λ z. h (q ∙ z)), ne-eqb (kindOf b) plusKind (λ z. h′ (q ∙ z)), ne-eqb (kindOf b) questionKind (λ z. h″ (q ∙ z)))
-
 -- ---- one part more
 
 module _ {s : List ℕ} {at k b n : ℕ} (x : At s at k b n) where
-  is : (i : ℕ) → k ≡ i → eqb (kindOf b) i ≡ true
-  is i e = eq-eqb (kindOf b) i (sym (x .kind-is) ∙ e)
-
-  is-not : (i : ℕ) → (k ≡ i → ⊥) → eqb (kindOf b) i ≡ false
-  is-not i h = ne-eqb (kindOf b) i (λ z. h (x .kind-is ∙ z))
-
   pub choices-turn : k ≡ barKind → Turn more-choices a-blend (pair either) (tokens (drop at s)) (tokens (drop n s))
-  choices-turn e f g = rw (x .rest-is, is barKind e)
+  choices-turn e f g = rw (x .rest-is, token-is x barKind e)
 
   pub chains-turn : letterKind ≤ k → k ≤ bangKind → Turn more-chains an-item join (tokens (drop at s)) (tokens (drop at s))
   chains-turn h h′ f g =
@@ -80,49 +70,18 @@ blends-turn {s} {at} {k} {b} {n} x h h′ = go (same-cases nat-test k ampersandK
     go : SameCases nat-test k ampersandKind → Blending b (tokens (drop at s)) (tokens (drop n s))
     go (inl p) = record {
       op = pair both;
-      turn = λ f e. rw (x .rest-is, is x ampersandKind (p .0));
-      code = λ e g. rw (sign-byte b 7 (is x ampersandKind (p .0)));
+      turn = λ f e. rw (x .rest-is, token-is x ampersandKind (p .0));
+      code = λ e g. rw (sign-byte b 7 (token-is x ampersandKind (p .0)));
     }
     go (inr p) =
         let z : k ≡ minusKind = omega (arith, p .0) in
         record {
           op = pair without;
-          turn = λ f e. rw (x .rest-is, is-not x ampersandKind (p .0), is x minusKind z);
-          code = λ e g. rw (sign-byte b 8 (is x minusKind z));
-        }
-
--- `*`, `+` or `?`: the operator, whose code is its own byte
-pub record Repeating (b : ℕ) (ts us : List ℕ) : Type 0 where
-  pub op : Expr → Expr
-  pub turn : (e : Expr) → repeats ts e ≡ repeats us (op e)
-  pub code : (e : Expr) → postfix (op e) ≡ postfix e ++ (b ∷ [])
-
-pub repeats-turn : {s : List ℕ} {at k b n : ℕ} → At s at k b n → starKind ≤ k → k ≤ questionKind → Repeating b (tokens (drop at s)) (tokens (drop n s))
-repeats-turn {s} {at} {k} {b} {n} x h h′ = go (same-cases nat-test k starKind) (same-cases nat-test k plusKind)
-  where
-    go : SameCases nat-test k starKind → SameCases nat-test k plusKind → Repeating b (tokens (drop at s)) (tokens (drop n s))
-    go (inl p) q = record {
-      op = star;
-      turn = λ e. rw (x .rest-is, is x starKind (p .0));
-      code = λ e. rw (sign-byte b 4 (is x starKind (p .0)));
-    }
-    go (inr p) (inl q) = record {
-      op = plus;
-      turn = λ e. rw (x .rest-is, is-not x starKind (p .0), is x plusKind (q .0));
-      code = λ e. rw (sign-byte b 5 (is x plusKind (q .0)));
-    }
-    go (inr p) (inr q) =
-        let z : k ≡ questionKind = omega (arith, p .0, q .0) in
-        record {
-          op = option;
-          turn = λ e. rw (x .rest-is, is-not x starKind (p .0), is-not x plusKind (q .0), is x questionKind z);
-          code = λ e. rw (sign-byte b 6 (is x questionKind z));
+          turn = λ f e. rw (x .rest-is, token-is-not x ampersandKind (p .0), token-is x minusKind z);
+          code = λ e g. rw (sign-byte b 8 (token-is x minusKind z));
         }
 
 -- ---- items and atoms
-
-pub item-not : {s : List ℕ} {at k b n : ℕ} → At s at k b n → k ≡ bangKind → (f : ℕ) → read (suc f) an-item (tokens (drop at s)) ≡ andThen (read f an-item (tokens (drop n s))) complemented
-item-not x e f = rw (x .rest-is, is x bangKind e)
 
 pub item-atom : (ts : List ℕ) → (kindAhead ts ≡ bangKind → ⊥) → (f : ℕ) → read (suc f) an-item ts ≡ andThen (read f an-atom ts) repeated
 item-atom [] h zero = refl
@@ -139,24 +98,24 @@ pub atom-leaf : {s : List ℕ} {at k b n : ℕ} → At s at k b n → letterKind
 atom-leaf {s} {at} {k} {b} {n} x h h′ = go (same-cases nat-test k letterKind) (same-cases nat-test k nameKind) (same-cases nat-test k dotKind)
   where
     go : SameCases nat-test k letterKind → SameCases nat-test k nameKind → SameCases nat-test k dotKind → Leaf b (tokens (drop at s)) (tokens (drop n s))
-    go (inl p) q r = record { expr = letter b; reads = λ f. rw (x .rest-is, is x letterKind (p .0)); code = refl }
-    go (inr p) (inl q) r = record { expr = name b; reads = λ f. rw (x .rest-is, is-not x letterKind (p .0), is x nameKind (q .0)); code = refl }
+    go (inl p) q r = record { expr = letter b; reads = λ f. rw (x .rest-is, token-is x letterKind (p .0)); code = refl }
+    go (inr p) (inl q) r = record { expr = name b; reads = λ f. rw (x .rest-is, token-is-not x letterKind (p .0), token-is x nameKind (q .0)); code = refl }
     go (inr p) (inr q) (inl r) = record {
       expr = dot;
-      reads = λ f. rw (x .rest-is, is-not x letterKind (p .0), is-not x nameKind (q .0), is x dotKind (r .0));
-      code = rw (sign-byte b 0 (is x dotKind (r .0)));
+      reads = λ f. rw (x .rest-is, token-is-not x letterKind (p .0), token-is-not x nameKind (q .0), token-is x dotKind (r .0));
+      code = rw (sign-byte b 0 (token-is x dotKind (r .0)));
     }
     go (inr p) (inr q) (inr r) =
         let z : k ≡ atKind = omega (arith, p .0, q .0, r .0) in
         record {
           expr = empty;
-          reads = λ f. rw (x .rest-is, is-not x letterKind (p .0), is-not x nameKind (q .0), is-not x dotKind (r .0), is x atKind z);
-          code = rw (sign-byte b 1 (is x atKind z));
+          reads = λ f. rw (x .rest-is, token-is-not x letterKind (p .0), token-is-not x nameKind (q .0), token-is-not x dotKind (r .0), token-is x atKind z);
+          code = rw (sign-byte b 1 (token-is x atKind z));
         }
 
 pub atom-bracket : {s : List ℕ} {at k b n : ℕ} → At s at k b n → k ≡ openKind → (f : ℕ) → read (suc f) an-atom (tokens (drop at s)) ≡ andThen (read f a-choice (tokens (drop n s))) closed
 atom-bracket x e f =
-    rw (x .rest-is, is-not x letterKind (λ z. omega arith), is-not x nameKind (λ z. omega arith), is-not x dotKind (λ z. omega arith), is-not x atKind (λ z. omega arith), is x openKind e)
+    rw (x .rest-is, token-is-not x letterKind (λ z. omega arith), token-is-not x nameKind (λ z. omega arith), token-is-not x dotKind (λ z. omega arith), token-is-not x atKind (λ z. omega arith), token-is x openKind e)
 
 -- nothing else is an atom
 pub atom-none : (ts : List ℕ) (k : ℕ) → k ≡ kindAhead ts → (letterKind ≤ k → openKind < k) → (f : ℕ) → read (suc f) an-atom ts ≡ bad
@@ -171,4 +130,4 @@ closed-not e [] k q h = refl
 closed-not e (b ∷ ts) k q h = rw (ne-eqb (kindOf b) closeKind (λ z. h (q ∙ z)))
 
 pub closed-to : {s : List ℕ} {at k b n : ℕ} (e : Expr) → At s at k b n → k ≡ closeKind → closed e (tokens (drop at s)) ≡ got e (tokens (drop n s))
-closed-to e x q = rw (x .rest-is, is x closeKind q)
+closed-to e x q = rw (x .rest-is, token-is x closeKind q)

@@ -1,5 +1,4 @@
--- What the proofs of several functions use, here and in the crates above.
+-- What the proof of the five uses.
 mod ReadLaws
 mod KindLaws
-mod StepLaws
 mod ItemLaws

@@ -8,11 +8,12 @@ use lib.ListN.{length, take}
 use Rattle.language.specs.Expression.{Expr}
 use Rattle.book.specs.Reader.{Read, got, bad, andThen}
 use Rattle.book.specs.Program.{postfix}
-use Rattle.choice.specs.Buffer.{Grown}
-use Rattle.choice.specs.BufferLaws.{grown-none, grown-before, grown-more}
-use Rattle.choice.specs.Reading.{Part, a-choice, a-blend, a-chain, an-item, an-atom, more-choices, more-blends, more-chains, read, rank, Is, left, To, Not, Reads}
-use Rattle.choice.specs.Steps.{Put, PutIf}
-use Rattle.choice.specs.declared.Spot.{Spot}
+use Rattle.signs.specs.Buffer.{Grown}
+use Rattle.signs.specs.BufferLaws.{grown-none, grown-before, grown-more}
+use Rattle.signs.specs.Spots.{left}
+use Rattle.choice.specs.Reading.{Part, a-choice, a-blend, a-chain, an-item, an-atom, more-choices, more-blends, more-chains, read, rank, Is, To, Not, Reads}
+use Rattle.signs.specs.Steps.{Put, PutIf}
+use Rattle.signs.specs.declared.Spot.{Spot}
 use Rattle.choice.specs.declared.Made.the-variants.{Done, Refused}
 
 rank-positive : (p : Part) → 0 < rank p

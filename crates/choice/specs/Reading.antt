@@ -2,13 +2,13 @@
 use mathlib.Core.Path.{_≡_}
 use mathlib.Core.List.{List, _++_}
 use Prim.Native.Nat.{ℕ, _+_, _*_, _-_, _<_, _≤_}
-use lib.ListN.{length, take, drop}
+use lib.ListN.{length, take}
 use Rattle.language.specs.Expression.{Expr}
 use Rattle.book.specs.Reader.{Read, got, bad, choice, choices, blend, blends, chain, chains, item, atom}
-use Rattle.book.specs.Text.{tokens}
 use Rattle.book.specs.Program.{postfix}
-use Rattle.choice.specs.Buffer.{Grown}
-use Rattle.choice.specs.declared.Spot.{Spot}
+use Rattle.signs.specs.Buffer.{Grown}
+use Rattle.signs.specs.Spots.{left}
+use Rattle.signs.specs.declared.Spot.{Spot}
 use Rattle.choice.specs.declared.Made.{Made}
 use Rattle.choice.specs.declared.Made.the-variants.{Done, Refused}
 
@@ -41,14 +41,6 @@ rank (more-chains e) = 3
 -- The tokens ts, read as the part p, come to X, with any fuel that is enough.
 pub record Is (p : Part) (ts : List ℕ) (X : Read) : Type 0 where
   pub run : (f : ℕ) → 6 * length ts + rank p ≤ f → read f p ts ≡ X
-
--- the tokens from a spot on
-abbrev pub left : List ℕ → Spot → List ℕ
-left s c = tokens (drop (c .cursor .at) s)
-
--- two bytes of the buffer for each byte left
-abbrev pub Room : List ℕ → List ℕ → Spot → Type 0
-Room s o c = c .pos + 2 * (length s - c .cursor .at) ≤ length o
 
 -- The part p was read from c up to n; the code, of which the buffer o held what lies before c, goes on with that of the expression; what lies past
 -- it is as it was. Of the line's bytes at least one is used, and of the two bytes of code that each of them may have at least one is not.

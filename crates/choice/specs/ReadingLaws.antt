@@ -5,8 +5,9 @@ use Prim.Native.Nat.{ℕ, _+_, _*_}
 use native.Mathlib.Nat.{le-refl}
 use lib.ListN.{length}
 use Rattle.book.specs.Reader.{got, bad, readChoice}
-use Rattle.choice.specs.Reading.{Part, a-choice, left, To, Not, Reads}
-use Rattle.choice.specs.declared.Spot.{Spot}
+use Rattle.signs.specs.Spots.{left}
+use Rattle.signs.specs.declared.Spot.{Spot}
+use Rattle.choice.specs.Reading.{Part, a-choice, To, Not, Reads}
 use Rattle.choice.specs.declared.Made.{Made}
 use Rattle.choice.specs.declared.Made.the-variants.{Done, Refused}
 

@@ -1,9 +1,8 @@
 // Reads a choice of a line and writes its postfix code into a lent buffer: choice, blend, chain, item and atom call each other. Each call is at a
-// later byte of the line, or of a smaller part: only brackets make calls deeper. What goes before or behind an item is passed by loops. Each of the
-// five is called from one place alone, so that they become one function in the machine code, and only a bracket is a call.
+// later byte of the line, or of a smaller part: only brackets make calls deeper. What goes before or behind an item is passed by loops (`signs`). Each of
+// the five is called from one place alone, so that they become one function in the machine code, and only a bracket is a call.
 // `choice` is a part below the entries: its caller lends the table of kinds, has counted the brackets and lends two bytes of code for each byte that
 // is left of the line.
-use book::codes::COMPLEMENT_CODE;
 use book::codes::EITHER_CODE;
 use book::codes::JOIN_CODE;
 use book::kinds::AMPERSAND_KIND;
@@ -13,56 +12,20 @@ use book::kinds::CLOSE_KIND;
 use book::kinds::LETTER_KIND;
 use book::kinds::MINUS_KIND;
 use book::kinds::OPEN_KIND;
-use book::kinds::QUESTION_KIND;
-use book::kinds::STAR_KIND;
-use lexer::Cursor;
 use lexer::kinds::KindTable;
-ghost use Prim.Native.Nat.{_+_, _<_, _≤_};
-ghost use lib.ListN.{length};
+use signs::Spot;
+use signs::negate;
+use signs::nots;
+use signs::put;
+use signs::put_if;
+use signs::suffixed;
 ghost use Rattle.lexer.specs.Kinds.{Kinds};
-ghost use Rattle.choice.specs.Reading.{Room, Reads, a-choice, a-blend, a-chain, an-item, an-atom};
-ghost use Rattle.choice.specs.Steps.{Put, PutIf, Suffixed, Nots, Negated};
-
-// How far the line is read, and how far the code is written.
-pub struct Spot {
-    pub cursor: Cursor,
-    pub pos: usize,
-}
+ghost use Rattle.signs.specs.Spots.{Room};
+ghost use Rattle.choice.specs.Reading.{Reads, a-choice, a-blend, a-chain, an-item, an-atom};
 
 pub enum Made {
     Done(Spot),
     Refused,
-}
-
-// How many '!' stand in a row, and where they end.
-struct Negations {
-    cursor: Cursor,
-    count: usize,
-}
-
-// One more byte of code.
-fn put(out: &mut [u8], c: Spot, b: u8) -> Spot
-    requires { ⌜ c .pos < length (now out) ⌝ }
-    ensures { λ r. ⌜ Put (now (out .entry)) c b (now (out .exit)) r ⌝ }
-{
-    let cursor = c.cursor;
-    let pos = c.pos;
-    out[pos] = b;
-    Spot {
-        cursor,
-        pos: pos + 1,
-    }
-}
-
-// The same behind a part of a row, if there are more: the first part of a row has no operator before it.
-fn put_if(out: &mut [u8], c: Spot, more: bool, b: u8) -> Spot
-    requires { ⌜ c .pos < length (now out) ⌝ }
-    ensures { λ r. ⌜ PutIf more (now (out .entry)) c b (now (out .exit)) r ⌝ }
-{
-    if more {
-        return put(out, c, b);
-    }
-    c
 }
 
 // Blends separated by '|'.
@@ -163,75 +126,6 @@ fn item(kinds: &KindTable, s: &[u8], out: &mut [u8], c: Spot) -> Made
     };
     let m = suffixed(kinds, s, out, n);
     Made::Done(negate(out, m, first.count))
-}
-
-// Past any number of '!', counting them, and past the spaces behind them.
-fn nots(kinds: &KindTable, s: &[u8], from: Cursor) -> Negations
-    requires { ⌜ Kinds (now kinds) ⌝ }
-    ensures { λ r. ⌜ Nots (now (s .entry)) (from .at) (r .cursor .at) (r .count) ⌝ }
-{
-    let mut here = from;
-    let mut count: usize = 0;
-    loop {
-        let t = here.token(kinds, s);
-        let k = t.kind;
-        if k != BANG_KIND {
-            let cursor = t.start;
-            return Negations { cursor, count };
-        }
-        count += 1;
-        here = t.next;
-    }
-}
-
-// Past any number of '*', '+' and '?', each of which is its own code, and past the spaces behind them: the calls above look at the next token at once.
-fn suffixed(kinds: &KindTable, s: &[u8], out: &mut [u8], c: Spot) -> Spot
-    requires { ⌜ Kinds (now kinds) × Room (now s) (now out) c ⌝ }
-    ensures { λ r. ⌜ Suffixed (now (s .entry)) (now (out .entry)) c (now (out .exit)) r ⌝ }
-{
-    let mut here = c;
-    loop {
-        let behind = here.cursor;
-        let t = behind.token(kinds, s);
-        let k = t.kind;
-        let cursor = t.start;
-        if k < STAR_KIND {
-            return Spot {
-                cursor,
-                pos: here.pos,
-            };
-        }
-        if QUESTION_KIND < k {
-            return Spot {
-                cursor,
-                pos: here.pos,
-            };
-        }
-        let sign = t.byte;
-        let next = t.next;
-        here = put(
-            out,
-            Spot {
-                cursor: next,
-                pos: here.pos,
-            },
-            sign,
-        );
-    }
-}
-
-// The code of `count` complements, one after the other.
-fn negate(out: &mut [u8], c: Spot, count: usize) -> Spot
-    requires { ⌜ c .pos + count ≤ length (now out) ⌝ }
-    ensures { λ r. ⌜ Negated (now (out .entry)) c count (now (out .exit)) r ⌝ }
-{
-    let mut here = c;
-    let mut due = count;
-    while 0 < due {
-        here = put(out, here, COMPLEMENT_CODE);
-        due -= 1;
-    }
-    here
 }
 
 // A letter, a name, '.' or '@', each of which is its own code; or a choice in brackets.

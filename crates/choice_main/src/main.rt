@@ -1,9 +1,9 @@
 // Reads choices and writes their code, or `refused`. What is left of the line behind the choice follows in a second column.
 use choice::Made;
-use choice::Spot;
 use lexer::Cursor;
 use lexer::kinds::KindTable;
 use libc::STDOUT_FILENO;
+use signs::Spot;
 ghost use Rattle.lexer.specs.Kinds.{Kinds};
 
 // The code of the choice at the start of the line s, with the buffer `out` for it.

@@ -10,9 +10,9 @@ use Rattle.book.specs.Kind.{isName, underscoreKind}
 use Rattle.book.specs.Reader.{got, bad, readChoice}
 use Rattle.book.specs.Text.{countOf, Form, define, rule, malformed, formOf, contextsOf, onRead, tailAt}
 use Rattle.book.specs.Program.{postfix, program, patternProgram, contextProgram}
-use Rattle.choice.specs.Buffer.{Grown}
-use Rattle.choice.specs.Reading.{left}
-use Rattle.choice.specs.declared.Spot.{Spot}
+use Rattle.signs.specs.Buffer.{Grown}
+use Rattle.signs.specs.Spots.{left}
+use Rattle.signs.specs.declared.Spot.{Spot}
 use Rattle.choice.specs.declared.Made.{Made}
 use Rattle.choice.specs.declared.Made.the-variants.{Done, Refused}
 use Rattle.forms.specs.declared.Code.{Code}

@@ -1,9 +1,11 @@
 -- Laws of `tokens` and of what the lexer gives.
 use mathlib.Core.Path.{_≡_, refl, sym, ap, _∙_}
+use mathlib.Core.Bool.{true, false}
 use mathlib.Core.List.{List, [], _∷_}
 use Prim.Native.Nat.{ℕ, suc, _+_, _<_, _≤_}
 use native.Mathlib.Numerals.{add-one}
 use borrow.Author.Tests.{eq-eqb, ne-eqb}
+use lib.Dec.{eqb}
 use lib.ListN.{length, drop, drop-of-length-le, getD}
 use lib.Seq.{drop-cons}
 use Rattle.book.specs.Kind.{kindOf, spaceKind, lineEndKind}
@@ -48,3 +50,11 @@ start-kind d = d .kind-is ∙ ap kindAhead (sym (d .start .same))
 -- a token is one of the tokens left
 pub at-fewer : {s : List ℕ} {at k b n : ℕ} → At s at k b n → length (tokens (drop at s)) ≡ suc (length (tokens (drop n s)))
 at-fewer x = ap length (x .rest-is)
+
+-- whether its kind is i
+module _ {s : List ℕ} {at k b n : ℕ} (x : At s at k b n) (i : ℕ) where
+  pub token-is : k ≡ i → eqb (kindOf b) i ≡ true
+  token-is e = eq-eqb (kindOf b) i (sym (x .kind-is) ∙ e)
+
+  pub token-is-not : (k ≡ i → ⊥) → eqb (kindOf b) i ≡ false
+  token-is-not h = ne-eqb (kindOf b) i (λ z. h (x .kind-is ∙ z))

@@ -31,11 +31,11 @@ use Rattle.choice.proofs.item.Reads as item
 use Rattle.choice.proofs.item.Kinds as item-kinds
 use Rattle.choice.proofs.+atom+blend+chain+choice+item.Lts-item as item-lts
 use Rattle.lexer.proofs.Cursor.token.Reads as token-reads
-use Rattle.choice.proofs.negate.Reads as negate-reads
-use Rattle.choice.proofs.nots.Reads as nots-reads
-use Rattle.choice.proofs.put.Reads as put-reads
-use Rattle.choice.proofs.put_if.Reads as put-if-reads
-use Rattle.choice.proofs.suffixed.Reads as suffixed-reads
+use Rattle.signs.proofs.negate.Reads as negate-reads
+use Rattle.signs.proofs.nots.Reads as nots-reads
+use Rattle.signs.proofs.put.Reads as put-reads
+use Rattle.signs.proofs.put_if.Reads as put-if-reads
+use Rattle.signs.proofs.suffixed.Reads as suffixed-reads
 use Rattle.choice.proofs.+atom+blend+chain+choice+item.{statement}
 use Rattle.choice.proofs.+atom+blend+chain+choice+item.Tie.{close}
 

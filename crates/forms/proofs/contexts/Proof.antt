@@ -5,8 +5,8 @@ use native.Mathlib.Omega.{arith}
 use borrow.Author.Needs.{needs}
 use lib.ListN.{length}
 use Rattle.lexer.proofs.TokenLaws.{past-token, past-end}
-use Rattle.choice.specs.Buffer.{Grown}
-use Rattle.choice.specs.BufferLaws.{grown-none, grown-more}
+use Rattle.signs.specs.Buffer.{Grown}
+use Rattle.signs.specs.BufferLaws.{grown-none, grown-more}
 use Rattle.forms.specs.Forms.{Ruled}
 use Rattle.forms.proofs.FormLaws.{rule-other, rule-half, rule-next, context-to, context-not, contexts-end}
 use Rattle.forms.proofs.contexts.Statement.{statement}

@@ -1,8 +1,8 @@
--- `choice::negate` meets its contract: the complements that are due, of what is written, stay the same expression.
+-- `signs::negate` meets its contract: the complements that are due, of what is written, stay the same expression.
 use native.Mathlib.Omega.{arith}
-use Rattle.choice.proofs.StepLaws.{Negating, negating-start, negating-turn, negating-done}
-use Rattle.choice.proofs.negate.Statement.{statement}
-use Rattle.choice.proofs.negate.Tie as tie
+use Rattle.signs.proofs.StepLaws.{Negating, negating-start, negating-turn, negating-done}
+use Rattle.signs.proofs.negate.Statement.{statement}
+use Rattle.signs.proofs.negate.Tie as tie
 
 abbrev Inv-loop : tie.InvT-loop
 Inv-loop out₀ count here₀ due₀ out here due = Negating out₀ here₀ count out here due

@@ -1,4 +1,4 @@
--- What the small functions below the five promise: a byte of code, the signs behind an atom, the `!` before it.
+-- What the functions promise: a byte of code, the signs behind an atom, the `!` before it.
 use mathlib.Core.Path.{_≡_}
 use mathlib.Core.Bool.{Bool, true, false}
 use mathlib.Core.List.{List, [], _∷_, _++_}
@@ -6,13 +6,13 @@ use Prim.Native.Nat.{ℕ, zero, suc, _+_, _*_, _-_, _≤_}
 use lib.ListN.{length, take, drop}
 use Rattle.language.specs.Expression.{Expr, complement}
 use Rattle.book.specs.Kind.{bangKind}
-use Rattle.book.specs.Reader.{Read, got, andThen, repeats}
+use Rattle.book.specs.Reader.{Read, got, andThen, repeats, item}
 use Rattle.book.specs.Text.{tokens}
 use Rattle.book.specs.Program.{postfix}
 use Rattle.lexer.specs.Token.{kindAhead}
-use Rattle.choice.specs.Buffer.{Grown}
-use Rattle.choice.specs.Reading.{Is, an-item, left}
-use Rattle.choice.specs.declared.Spot.{Spot}
+use Rattle.signs.specs.Buffer.{Grown}
+use Rattle.signs.specs.Spots.{left}
+use Rattle.signs.specs.declared.Spot.{Spot}
 
 -- the code with one byte more
 pub record Put (o : List ℕ) (c : Spot) (b : ℕ) (o′ : List ℕ) (n : Spot) : Type 0 where
@@ -52,9 +52,13 @@ abbrev pub negated : ℕ → Read → Read
 negated zero X = X
 negated (suc k) X = negated k (andThen X complemented)
 
+-- The tokens ts, read as an item, come to X, with any fuel that is enough.
+pub record Item (ts : List ℕ) (X : Read) : Type 0 where
+  pub run : (f : ℕ) → 6 * length ts + 2 ≤ f → item f ts ≡ X
+
 -- From `at` up to n stand k `!`: an item from `at` on is the complement, taken k times, of the item from n on.
 pub record Passed (s : List ℕ) (at n k : ℕ) : Type 0 where
-  pub goes : (X : Read) → Is an-item (tokens (drop n s)) X → Is an-item (tokens (drop at s)) (negated k X)
+  pub goes : (X : Read) → Item (tokens (drop n s)) X → Item (tokens (drop at s)) (negated k X)
   pub fewer : length (tokens (drop n s)) ≤ length (tokens (drop at s))
   pub falls : length s - n + k ≤ length s - at
 

@@ -1,14 +1,14 @@
--- `choice::suffixed` meets its contract: each turn writes the code of one sign.
+-- `signs::suffixed` meets its contract: each turn writes the code of one sign.
 use mathlib.Core.Path.{refl}
 use Prim.Native.Nat.{_-_}
 use native.Mathlib.Omega.{arith}
 use borrow.Author.Needs.{needs}
 use lib.ListN.{length}
 use Rattle.lexer.proofs.TokenLaws.{start-kind}
-use Rattle.choice.proofs.KindLaws.{repeats-stop}
-use Rattle.choice.proofs.StepLaws.{Suffixing, suffixing-start, suffixing-spaces, suffixing-turn, suffixing-done}
-use Rattle.choice.proofs.suffixed.Statement.{statement}
-use Rattle.choice.proofs.suffixed.Tie as tie
+use Rattle.signs.proofs.KindLaws.{repeats-stop}
+use Rattle.signs.proofs.StepLaws.{Suffixing, suffixing-start, suffixing-spaces, suffixing-turn, suffixing-done}
+use Rattle.signs.proofs.suffixed.Statement.{statement}
+use Rattle.signs.proofs.suffixed.Tie as tie
 
 abbrev Inv-loop : tie.InvT-loop
 Inv-loop kinds s out₀ here₀ out here = Suffixing s out₀ here₀ out here

@@ -1,11 +1,11 @@
--- `choice::put` meets its contract.
+-- `signs::put` meets its contract.
 use mathlib.Core.Path.{refl}
 use native.Mathlib.Numerals.{add-one}
 use lib.Seq.{take-suc-set}
 use borrow.Author.Needs.{needs}
-use Rattle.choice.specs.BufferLaws.{grown-byte}
-use Rattle.choice.proofs.put.Statement.{statement}
-use Rattle.choice.proofs.put.Tie as tie
+use Rattle.signs.specs.BufferLaws.{grown-byte}
+use Rattle.signs.proofs.put.Statement.{statement}
+use Rattle.signs.proofs.put.Tie as tie
 
 returns : tie.Need-returns
 returns c = record { at-is = refl; pos-is = refl; code-is = rw (add-one, take-suc-set _ _ _ (c .before .pre)); grown = grown-byte _ _ _ }

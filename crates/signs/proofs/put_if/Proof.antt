@@ -1,9 +1,9 @@
--- `choice::put_if` meets its contract.
+-- `signs::put_if` meets its contract.
 use mathlib.Core.Bool.{true≢false}
 use mathlib.Core.Path.{refl, sym, _∙_}
 use borrow.Author.Needs.{needs}
-use Rattle.choice.proofs.put_if.Statement.{statement}
-use Rattle.choice.proofs.put_if.Tie as tie
+use Rattle.signs.proofs.put_if.Statement.{statement}
+use Rattle.signs.proofs.put_if.Tie as tie
 
 returns : tie.Need-returns
 returns c =

@@ -1,14 +1,14 @@
--- `choice::nots` meets its contract: the loop keeps that only `!` were passed, and how many.
+-- `signs::nots` meets its contract: the loop keeps that only `!` were passed, and how many.
 use mathlib.Core.Path.{_∙_}
 use Prim.Native.Nat.{_-_}
 use native.Mathlib.Omega.{arith}
 use borrow.Author.Needs.{needs}
 use lib.ListN.{length}
-use Rattle.choice.specs.Steps.{Passed}
+use Rattle.signs.specs.Steps.{Passed}
 use Rattle.lexer.proofs.TokenLaws.{start-kind}
-use Rattle.choice.proofs.StepLaws.{passed-start, passed-spaces, passed-turn}
-use Rattle.choice.proofs.nots.Statement.{statement}
-use Rattle.choice.proofs.nots.Tie as tie
+use Rattle.signs.proofs.StepLaws.{passed-start, passed-spaces, passed-turn}
+use Rattle.signs.proofs.nots.Statement.{statement}
+use Rattle.signs.proofs.nots.Tie as tie
 
 abbrev Inv-loop : tie.InvT-loop
 Inv-loop kinds s here₀ count₀ here count = Passed s (here₀ .at) (here .at) count

@@ -5,7 +5,7 @@ use Prim.Native.Nat.{ℕ, _+_, _-_}
 use native.Mathlib.Omega.{arith}
 use lib.ListN.{take, drop, set}
 use lib.Seq.{take-set-le, drop-set-lt, take-take, drop-drop}
-use Rattle.choice.specs.Buffer.{Grown}
+use Rattle.signs.specs.Buffer.{Grown}
 
 pub grown-none : (o : List ℕ) (a : ℕ) → Grown o a o a
 grown-none o a = record { up = omega arith; before = refl; past = refl }

@@ -1,4 +1,4 @@
--- Laws of the small functions below the five: how their loops go on, and what the five make of them.
+-- How the loops over signs go on, and what an item makes of them.
 use mathlib.Core.Path.{_≡_, refl, sym, ap, _∙_, subst}
 use mathlib.Core.List.{List, [], _∷_, _++_, append-assoc}
 use Prim.Native.Nat.{ℕ, zero, suc, _+_, _*_, _-_, _<_, _≤_}
@@ -7,19 +7,18 @@ use native.Mathlib.Omega.{arith}
 use lib.ListN.{length, take, drop}
 use Rattle.language.specs.Expression.{Expr, complement}
 use Rattle.book.specs.Kind.{bangKind, starKind, questionKind}
-use Rattle.book.specs.Reader.{got, bad, andThen, repeats}
+use Rattle.book.specs.Reader.{Read, got, bad, andThen, repeats, item}
 use Rattle.book.specs.Text.{tokens}
 use Rattle.book.specs.Program.{complementCode, postfix}
 use Rattle.lexer.specs.Token.{At, Past}
-use Rattle.choice.specs.Buffer.{Grown}
-use Rattle.choice.specs.BufferLaws.{grown-none, grown-more}
-use Rattle.choice.specs.Reading.{Is, an-item, left}
-use Rattle.choice.specs.Steps.{Put, Suffixed, complements, complemented, negated, Passed, Negated}
-use Rattle.choice.specs.declared.Spot.{Spot}
+use Rattle.signs.specs.Buffer.{Grown}
+use Rattle.signs.specs.BufferLaws.{grown-none, grown-more}
+use Rattle.signs.specs.Spots.{left}
+use Rattle.signs.specs.Steps.{Put, Suffixed, complements, complemented, negated, Item, Passed, Negated}
+use Rattle.signs.specs.declared.Spot.{Spot}
 use Rattle.lexer.specs.declared.Cursor.{Cursor}
 use Rattle.lexer.proofs.TokenLaws.{at-fewer}
-use Rattle.choice.proofs.ReadLaws.{seq}
-use Rattle.choice.proofs.KindLaws.{repeats-turn, item-not}
+use Rattle.signs.proofs.KindLaws.{repeats-turn, item-not}
 
 -- the tokens left depend on how far the line is read alone
 pub same-left : (s : List ℕ) (c n : Spot) → n .cursor .at ≡ c .cursor .at → left s n ≡ left s c
@@ -102,7 +101,7 @@ passed-start s at = record { goes = λ X i. i; fewer = omega arith; falls = omeg
 
 pub passed-spaces : {s : List ℕ} {at n j i : ℕ} → Passed s at n j → Past s n i → Passed s at i j
 passed-spaces g p = record {
-  goes = λ X d. g .goes X (subst (λ (ts : List ℕ). Is an-item ts X) (p .same) d);
+  goes = λ X d. g .goes X (subst (λ (ts : List ℕ). Item ts X) (p .same) d);
   fewer = omega (arith, g .fewer, ap length (p .same));
   falls = omega (arith, g .falls, p .up);
 }
@@ -110,10 +109,14 @@ passed-spaces g p = record {
 pub passed-turn : {s : List ℕ} {at n j k b n′ : ℕ} → Passed s at n j → At s n k b n′ → k ≡ bangKind → Passed s at n′ (j + 1)
 passed-turn {s} {at} {n} {j} {k} {b} {n′} g x q =
     rw add-one (record {
-      goes = λ X i. g .goes (andThen X complemented) (seq (λ f. complemented) i (item-not x q) (omega (arith, at-fewer x)) (λ f h. refl));
+      goes = λ X i. g .goes (andThen X complemented) (record { run = turn X i });
       fewer = omega (arith, g .fewer, at-fewer x);
       falls = omega (arith, g .falls, x .falls);
     })
+  where
+    turn : (X : Read) → Item (tokens (drop n′ s)) X → (f : ℕ) → 6 * length (tokens (drop n s)) + 2 ≤ f → item f (tokens (drop n s)) ≡ andThen X complemented
+    turn X i zero h = absurd (omega arith)
+    turn X i (suc f) h = item-not x q f ∙ ap (λ (r : Read). andThen r complemented) (i .run f (omega (arith, at-fewer x)))
 
 pub negated-got : (k : ℕ) (e : Expr) (us : List ℕ) → negated k (got e us) ≡ got (complements k e) us
 negated-got zero e us = refl
