@@ -7,8 +7,7 @@ use lib.ListN.{length, getD}
 use Rattle.automata.specs.Automaton.{Automaton, Reachable}
 use Rattle.automata.specs.Stage.{MoreThan}
 use Rattle.rows.specs.Rows.{rowAt, bit}
-use Rattle.sets.specs.Fits.{Fits, RowFits}
-use Rattle.sets.specs.Operations.{operationOf}
+use Rattle.sets.specs.Fits.{Fits}
 use Rattle.sets.specs.declared.Shape.{Shape}
 use Rattle.turns.specs.Partial.{Room}
 use Rattle.turns.specs.declared.Explored.{Explored}
@@ -34,16 +33,3 @@ pub record AllRows (R : Automaton (List ℕ)) (k w limit n : ℕ) (rows table : 
 abbrev pub Answers : Automaton (List ℕ) → ℕ → ℕ → ℕ → List ℕ → List ℕ → Explored → Type 0
 Answers R k w limit rows table (Sets n) = AllRows R k w limit n rows table
 Answers R k w limit rows table TooMany = MoreThan k R limit
-
--- all that the flags ask: rows that are there, and a place for each flag before the limit
-pub record Flagging (s : Shape) (a b : List ℕ) (count : ℕ) (rows table : List ℕ) : Type 0 where
-  pub fits : Fits s a b
-  pub within : count ≤ s .limit
-  pub rowsLong : count * s .w ≤ length rows
-  pub tableLong : count ≤ length table
-  pub sources : (p : ℕ) → p < count → RowFits (operationOf (s .op)) (s .na) (s .nb) (rowAt (s .w) p rows)
-
--- The flags of the rows are set, and nothing from the limit on is changed.
-pub record Flagged (R : Automaton (List ℕ)) (w limit n : ℕ) (rows table table′ : List ℕ) : Type 0 where
-  pub set : (p : ℕ) → p < n → getD table′ p 0 ≡ bit (R .accepting (rowAt w p rows))
-  pub kept : (i : ℕ) → limit ≤ i → getD table′ i 0 ≡ getD table i 0

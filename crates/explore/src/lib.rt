@@ -4,50 +4,8 @@ use repeats::columns;
 use rows::chains;
 pub use sets::Shape;
 pub use turns::Explored;
-ghost use mathlib.Core.Path.{_≡_};
-ghost use Prim.Native.Nat.{_+_, _*_, _<_, _≤_};
-ghost use lib.ListN.{length};
-ghost use Rattle.rows.specs.Rows.{rowAt};
-ghost use Rattle.sets.specs.Fits.{Listed, Listing, rowsFor, RowFits};
-ghost use Rattle.sets.specs.Operations.{rowWidth, operationOf};
-ghost use Rattle.explore.specs.Answer.{Flagging, Flagged, Explores, Answers};
-
-// The same for the row `state`, where it is not done for an earlier column.
-fn list(
-    s: Shape,
-    rows: &[u8],
-    state: usize,
-    column: usize,
-    held: usize,
-    members: &mut [u16],
-) -> usize
-    requires { ⌜ s .w ≡ rowWidth (operationOf (s .op)) (s .na) (s .nb) ⌝ }
-    requires { ⌜ (state * s .w + s .w ≤ length (now rows)) × RowFits (operationOf (s .op)) (s .na) (s .nb) (rowAt (s .w) state (now rows)) ⌝ }
-    requires { ⌜ Listing s (now members) ⌝ }
-    requires { ⌜ (0 < column → Listed (operationOf (s .op)) (s .na) (s .nb) (rowAt (s .w) state (now rows)) held (now members)) ⌝ }
-    ensures { λ r. ⌜ Listed (operationOf (s .op)) (s .na) (s .nb) (rowAt (s .w) state (now (rows .entry))) r (now (members .exit)) ⌝ }
-{
-    if 0 < column {
-        return held;
-    }
-    let w = s.w;
-    let at = state * w;
-    sets::gather(s, &rows[at..at + w], members)
-}
-
-// Lays out the flags of the first `count` rows.
-fn flag_rows(a: &[u16], b: &[u16], s: Shape, rows: &[u8], table: &mut [u16], count: usize)
-    requires { ⌜ Flagging s (now a) (now b) count (now rows) (now table) ⌝ }
-    ensures { λ _. ⌜ Flagged (rowsFor s (now (a .entry)) (now (b .entry))) (s .w) (s .limit) count (now (rows .entry)) (now (table .entry)) (now (table .exit)) ⌝ }
-{
-    let w = s.w;
-    let mut p = 0;
-    while p < count {
-        let at = p * w;
-        table[p] = sets::flag(a, b, s, &rows[at..at + w]);
-        p += 1;
-    }
-}
+ghost use Rattle.sets.specs.Fits.{Listing, rowsFor};
+ghost use Rattle.explore.specs.Answer.{Explores, Answers};
 
 // All sets that are reached, each once, with their transitions and flags.
 pub fn explore(
@@ -78,9 +36,9 @@ pub fn explore(
     let mut q = 0;
     let mut held = 0;
     while state < count {
-        held = list(s, &rows[..], state, column, held, members);
+        held = readings::list(s, &rows[..], state, column, held, members);
         let twin = columns::twin(&twins, column);
-        let Explored::Sets(n) = turns::advance(
+        let Explored::Sets(n) = advance::advance(
             a,
             b,
             s,
@@ -106,6 +64,6 @@ pub fn explore(
             state += 1;
         }
     }
-    flag_rows(a, b, s, &rows[..], table, count);
+    readings::flag_rows(a, b, s, &rows[..], table, count);
     Explored::Sets(count)
 }

@@ -2,9 +2,9 @@
 use mathlib.Core.Path.{refl}
 use native.Mathlib.Omega.{arith}
 use borrow.Author.Needs.{needs}
 use Rattle.turns.proofs.TurnLaws.{turn-cell, turn-asking, turn-repeats}
-use Rattle.turns.proofs.advance.Statement.{statement}
-use Rattle.turns.proofs.advance.Tie as tie
+use Rattle.advance.proofs.advance.Statement.{statement}
+use Rattle.advance.proofs.advance.Tie as tie
 
 earlier-requires : tie.Need-earlier-requires
 earlier-requires c κs = let a = c .before .before .before .before .before .before .before .args in (turn-asking (a .s) (a .a .now) (a .b .now) (a .rows .now) (a .row .now) (a .table .now) (a .heads .now) (a .count) (a .state) (a .column) (a .q) (c .before .before .before .before .before .before .before .pre .0) (a .held) (a .members .now) (c .before .before .before .before .before .before .before .pre .1 .0), c .before .before .before .before .before .before .before .pre .1 .1)

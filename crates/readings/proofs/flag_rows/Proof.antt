@@ -2,14 +2,14 @@
 use Prim.Native.Nat.{_-_, _<_, _≤_}
 use Rattle.sets.specs.Fits.{rowsFor}
 use Rattle.sets.proofs.FitLaws.{row-source}
-use Rattle.explore.specs.Answer.{Flagged}
-use Rattle.explore.proofs.FlaggedLaws.{flagged-none, flagged-more, flagging-row}
+use Rattle.readings.specs.Flagged.{Flagged}
+use Rattle.readings.proofs.FlaggedLaws.{flagged-none, flagged-more, flagging-row}
 use borrow.Author.Needs.{needs}
 use lib.ListN.{length, length-set}
 use mathlib.Core.Path.{_≡_, refl}
 use native.Mathlib.Omega.{arith}
-use Rattle.explore.proofs.flag_rows.Statement.{statement}
-use Rattle.explore.proofs.flag_rows.Tie as tie
+use Rattle.readings.proofs.flag_rows.Statement.{statement}
+use Rattle.readings.proofs.flag_rows.Tie as tie
 
 abbrev Inv-loop : tie.InvT-loop
 Inv-loop a b s rows table₀ count w p₀ table p = (p ≤ count) × Flagged (rowsFor s a b) (s .w) (s .limit) p rows table₀ table × (length table ≡ length table₀)

@@ -2,8 +2,8 @@
 use borrow.Author.Needs.{needs}
 use Rattle.rows.proofs.RowLaws.{row-part}
 use Rattle.sets.proofs.FitLaws.{row-source}
-use Rattle.explore.proofs.list.Statement.{statement}
-use Rattle.explore.proofs.list.Tie as tie
+use Rattle.readings.proofs.list.Statement.{statement}
+use Rattle.readings.proofs.list.Tie as tie
 
 returns : tie.Need-returns
 returns c = c .before .before .before .pre .1 .1 .1 (c .if1 .taken)

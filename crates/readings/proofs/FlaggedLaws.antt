@@ -11,7 +11,7 @@ use Rattle.automata.specs.Automaton.{Automaton}
 use Rattle.rows.specs.Rows.{rowAt, bit}
 use Rattle.rows.proofs.RowLaws.{row-within, row-part}
 use Rattle.sets.specs.declared.Shape.{Shape}
-use Rattle.explore.specs.Answer.{Flagging, Flagged}
+use Rattle.readings.specs.Flagged.{Flagging, Flagged}
 
 pub flagged-none : (R : Automaton (List ℕ)) (w limit : ℕ) (rows table : List ℕ) → Flagged R w limit 0 rows table table
 flagged-none R w limit rows table = record { set = λ p h. absurd (omega arith); kept = λ i h. refl }

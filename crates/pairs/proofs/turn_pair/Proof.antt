@@ -6,9 +6,9 @@ use lib.ListN.{length}
 use borrow.Author.Needs.{needs}
 use Rattle.rows.specs.Rows.{pairRow}
 use Rattle.rows.proofs.SumLaws.{hash-is}
 use Rattle.turns.proofs.TurnLaws.{turn-rows, turn-links, turn-append, turn-cell, turn-found, turn-new, turn-full, two-width, two-room, two-left, two-right, two-small, two-next, two-chained, two-looked, two-appended}
-use Rattle.turns.proofs.turn_pair.Statement.{statement}
-use Rattle.turns.proofs.turn_pair.Tie as tie
+use Rattle.pairs.proofs.turn_pair.Statement.{statement}
+use Rattle.pairs.proofs.turn_pair.Tie as tie
 
 read-requires : tie.Need-read-requires
 read-requires c κs = let a = c .before .before .before .before .before .before .args in omega (arith, two-room (a .s) (a .a .now) (a .b .now) (a .rows .now) (a .row .now) (a .table .now) (a .heads .now) (a .count) (a .state) (a .column) (a .q) (c .before .before .before .before .before .before .pre .0) (c .before .before .before .before .before .before .pre .1))

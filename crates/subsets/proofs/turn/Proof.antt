@@ -4,9 +4,9 @@ use native.Mathlib.Omega.{arith}
 use borrow.Author.Needs.{needs}
 use Rattle.rows.proofs.RowLaws.{row-part}
 use Rattle.rows.proofs.SumLaws.{hash-is}
 use Rattle.turns.proofs.TurnLaws.{turn-row, turn-rows, turn-links, turn-append, turn-cell, turn-step, turn-found, turn-new, turn-full}
-use Rattle.turns.proofs.turn.Statement.{statement}
-use Rattle.turns.proofs.turn.Tie as tie
+use Rattle.subsets.proofs.turn.Statement.{statement}
+use Rattle.subsets.proofs.turn.Tie as tie
 
 mul-at : tie.Need-mul-at
 mul-at c = let a = c .before .before .before .before .before .before .args in omega (arith, turn-row (a .s) (a .a .now) (a .b .now) (a .rows .now) (a .row .now) (a .table .now) (a .heads .now) (a .count) (a .state) (a .column) (a .q) (c .before .before .before .before .before .before .pre .0))

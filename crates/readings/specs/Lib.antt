@@ -1,0 +1,2 @@
+-- The flags of the rows of a stage.
+pub mod Flagged
