@@ -5,7 +5,7 @@ ghost use Rattle.card.specs.Answer.{loadNumbers, stepNumbers, replyNumbers};
 ghost use Rattle.run.specs.Reading.{replyOf};
 ghost use Rattle.board.specs.Answers.{loading, stepping};
 ghost use Rattle.plans.specs.Many.{manyOf};
-ghost use Rattle.driver.specs.Entry.{reading};
+ghost use Rattle.frame.specs.Frame.{reading};
 ghost use Rattle.answers.specs.Handed.{handed, numbers, answerNumbers};
 
 // The number handed back, and three numbers in `out`.
@@ -62,11 +62,11 @@ pub fn counted(answer: plans::Many, out: &mut [u64; 3]) -> u64
 }
 
 // Compiling: 0, and 0, the card's length, the peak; or the number of a refusal, and its line, 0, 0.
-pub fn compiled(answer: driver::Compiled, out: &mut [u64; 3]) -> u64
+pub fn compiled(answer: frame::Compiled, out: &mut [u64; 3]) -> u64
     ensures { λ r. ⌜ handed r (now (out .exit)) ≡ answerNumbers (reading answer) ⌝ }
 {
     match answer {
-        driver::Compiled::Card(length, peak) => put(out, 0, 0, length as u64, peak as u64),
-        driver::Compiled::Refused(number, line) => put(out, number as u64, line as u64, 0, 0),
+        frame::Compiled::Card(length, peak) => put(out, 0, 0, length as u64, peak as u64),
+        frame::Compiled::Refused(number, line) => put(out, number as u64, line as u64, 0, 0),
     }
 }

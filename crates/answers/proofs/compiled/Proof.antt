@@ -2,7 +2,7 @@
 use mathlib.Core.Path.{sym}
 use Rattle.answers.specs.HandedLaws.{handed-as}
 use Rattle.answers.specs.Handed.{answerNumbers}
-use Rattle.driver.specs.Entry.{reading}
+use Rattle.frame.specs.Frame.{reading}
 use borrow.Author.Needs.{needs}
 use Rattle.answers.proofs.compiled.Statement.{statement}
 use Rattle.answers.proofs.compiled.Tie as tie
