@@ -5,7 +5,7 @@ use Prim.Native.Nat.{ℕ}
 use Rattle.compiler.specs.Outcome.{Outcome, answer, bufferAfter}
 use Rattle.frame.specs.declared.Compiled.{Compiled}
 use Rattle.driver.specs.Entry.{Answers, reading}
-use Rattle.answers.specs.Handed.{handed, answerNumbers}
+use Rattle.numbers.specs.Handed.{handed, answerNumbers}
 
 -- The numbers of an outcome, and the card buffer behind it.
 pub record Compiles (o : Outcome) (card card′ : List ℕ) (r : ℕ) (out : List ℕ) : Type 0 where

@@ -5,7 +5,7 @@ use Prim.Native.Nat.{ℕ}
 use lib.ListN.{length}
 use Rattle.plans.specs.declared.Many.{Many}
 use Rattle.plans.specs.Many.{manyNumbers, manyReplies, manyOf, JudgesLines}
-use Rattle.answers.specs.Handed.{handed, numbers}
+use Rattle.numbers.specs.Handed.{handed, numbers}
 
 -- How many plans were judged and the bytes they took, or 21 to 26; and the answers, three numbers a plan, in front of what stood there.
 pub record JudgesMany (c s old new : List ℕ) (r : ℕ) (out : List ℕ) : Type 0 where

@@ -10,7 +10,7 @@ ghost use Rattle.card.specs.Step.{stepOn};
 ghost use lib.ListN.{length};
 ghost use Rattle.compiler.specs.Outcome.{outcome};
 ghost use Rattle.driver.specs.Entry.{documented, lentLengths};
-ghost use Rattle.answers.specs.Handed.{handed, numbers};
+ghost use Rattle.numbers.specs.Handed.{handed, numbers};
 ghost use Rattle.capi.specs.Compiles.{Compiles};
 
 // Loading: 0, and letters, states, 0; or 21 to 26.
@@ -18,7 +18,7 @@ ghost use Rattle.capi.specs.Compiles.{Compiles};
 pub extern "C" fn pier_load(card: &[u8], out: &mut [u64; 3]) -> u64
     ensures { λ r. ⌜ handed r (now (out .exit)) ≡ numbers (loadNumbers (load narrow (now (card .entry)))) ⌝ }
 {
-    answers::loaded(board::load(card), out)
+    numbers::loaded(board::load(card), out)
 }
 
 // One step: 0, and the next state, its marks byte, 0; or 21, 27, 28 or 23.
@@ -26,7 +26,7 @@ pub extern "C" fn pier_load(card: &[u8], out: &mut [u64; 3]) -> u64
 pub extern "C" fn pier_step(card: &[u8], state: usize, letter: u8, out: &mut [u64; 3]) -> u64
     ensures { λ r. ⌜ handed r (now (out .exit)) ≡ numbers (stepNumbers (stepOn narrow (now (card .entry)) state letter)) ⌝ }
 {
-    answers::stepped(board::step(card, state, letter), out)
+    numbers::stepped(board::step(card, state, letter), out)
 }
 
 // Judging: 0, and the verdict (1 allowed, 0 unfinished, 2 hopeless), the place of hopeless, 0; or 21 to 26; or 27, and 0, the letters before the first
@@ -35,7 +35,7 @@ pub extern "C" fn pier_step(card: &[u8], state: usize, letter: u8, out: &mut [u6
 pub extern "C" fn pier_judge(card: &[u8], plan: &[u8], out: &mut [u64; 3]) -> u64
     ensures { λ r. ⌜ handed r (now (out .exit)) ≡ numbers (replyNumbers (judge narrow (now (card .entry)) (now (plan .entry)))) ⌝ }
 {
-    answers::judged(board::judge(card, plan), out)
+    numbers::judged(board::judge(card, plan), out)
 }
 
 // Compiling: 0, and 0, the card's length, the peak; or the number of a refusal, and its line, 0, 0. The card stands in front of the card buffer, or the
@@ -68,5 +68,5 @@ pub extern "C" fn pier_compile(
         work,
         code,
     );
-    answers::compiled(answer, out)
+    numbers::compiled(answer, out)
 }

@@ -12,5 +12,5 @@ pub extern "C" fn pier_judge_lines(
 ) -> u64
     ensures { λ r. ⌜ JudgesMany (now (card .entry)) (now (lines .entry)) (now (replies .entry)) (now (replies .exit)) r (now (out .exit)) ⌝ }
 {
-    answers::counted(plans::judge_lines(card, lines, replies), out)
+    numbers::counted(plans::judge_lines(card, lines, replies), out)
 }

@@ -1,6 +1,6 @@
 -- `capi::pier_step` meets its contract.
-use Rattle.answers.specs.Handed.{numbers}
-use Rattle.answers.specs.HandedLaws.{handed-as}
+use Rattle.numbers.specs.Handed.{numbers}
+use Rattle.numbers.specs.HandedLaws.{handed-as}
 use Rattle.card.specs.Answer.{stepNumbers}
 use borrow.Author.Needs.{needs}
 use Rattle.capi.proofs.pier_step.Statement.{statement}

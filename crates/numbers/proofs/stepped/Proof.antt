@@ -1,12 +1,12 @@
--- `answers::stepped` meets its contract.
+-- `numbers::stepped` meets its contract.
 use mathlib.Core.Path.{sym}
-use Rattle.answers.specs.HandedLaws.{handed-as}
-use Rattle.answers.specs.Handed.{numbers}
+use Rattle.numbers.specs.HandedLaws.{handed-as}
+use Rattle.numbers.specs.Handed.{numbers}
 use Rattle.card.specs.Answer.{stepNumbers}
 use Rattle.board.specs.Answers.{stepping}
 use borrow.Author.Needs.{needs}
-use Rattle.answers.proofs.stepped.Statement.{statement}
-use Rattle.answers.proofs.stepped.Tie as tie
+use Rattle.numbers.proofs.stepped.Statement.{statement}
+use Rattle.numbers.proofs.stepped.Tie as tie
 
 returns : tie.Need-returns
 returns c = handed-as (λ a. numbers (stepNumbers (stepping a))) _ _ _ (c .put .ensures) (sym (c .before .before .before .answer .given .1))

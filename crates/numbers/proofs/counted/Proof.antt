@@ -1,11 +1,11 @@
--- `answers::counted` meets its contract.
+-- `numbers::counted` meets its contract.
 use mathlib.Core.Path.{sym}
-use Rattle.answers.specs.HandedLaws.{handed-as}
-use Rattle.answers.specs.Handed.{numbers}
+use Rattle.numbers.specs.HandedLaws.{handed-as}
+use Rattle.numbers.specs.Handed.{numbers}
 use Rattle.plans.specs.Many.{manyOf}
 use borrow.Author.Needs.{needs}
-use Rattle.answers.proofs.counted.Statement.{statement}
-use Rattle.answers.proofs.counted.Tie as tie
+use Rattle.numbers.proofs.counted.Statement.{statement}
+use Rattle.numbers.proofs.counted.Tie as tie
 
 returns : tie.Need-returns
 returns c = handed-as (λ a. numbers (manyOf a)) _ _ _ (c .put .ensures) (sym (c .before .before .before .answer .given .1))

@@ -1,13 +1,13 @@
--- `answers::judged` meets its contract.
+-- `numbers::judged` meets its contract.
 use mathlib.Core.Path.{sym, ap, _∙_}
-use Rattle.answers.specs.HandedLaws.{handed-as}
-use Rattle.answers.specs.Handed.{numbers}
+use Rattle.numbers.specs.HandedLaws.{handed-as}
+use Rattle.numbers.specs.Handed.{numbers}
 use Rattle.card.specs.Answer.{replyNumbers}
 use Rattle.run.specs.Reading.{replyOf}
 use Rattle.run.specs.declared.Answer.the-variants.{Judged}
 use borrow.Author.Needs.{needs}
-use Rattle.answers.proofs.judged.Statement.{statement}
-use Rattle.answers.proofs.judged.Tie as tie
+use Rattle.numbers.proofs.judged.Statement.{statement}
+use Rattle.numbers.proofs.judged.Tie as tie
 
 returns : tie.Need-returns
 returns c = handed-as (λ a. numbers (replyNumbers (replyOf a))) _ _ _ (c .put .ensures) (sym (c .before .before .before .answer .given .1))

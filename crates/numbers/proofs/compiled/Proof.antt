@@ -1,11 +1,11 @@
--- `answers::compiled` meets its contract.
+-- `numbers::compiled` meets its contract.
 use mathlib.Core.Path.{sym}
-use Rattle.answers.specs.HandedLaws.{handed-as}
-use Rattle.answers.specs.Handed.{answerNumbers}
+use Rattle.numbers.specs.HandedLaws.{handed-as}
+use Rattle.numbers.specs.Handed.{answerNumbers}
 use Rattle.frame.specs.Frame.{reading}
 use borrow.Author.Needs.{needs}
-use Rattle.answers.proofs.compiled.Statement.{statement}
-use Rattle.answers.proofs.compiled.Tie as tie
+use Rattle.numbers.proofs.compiled.Statement.{statement}
+use Rattle.numbers.proofs.compiled.Tie as tie
 
 returns : tie.Need-returns
 returns c = handed-as (λ a. answerNumbers (reading a)) _ _ _ (c .put .ensures) (sym (c .before .before .before .answer .given .1))

@@ -1,12 +1,12 @@
--- `answers::loaded` meets its contract.
+-- `numbers::loaded` meets its contract.
 use mathlib.Core.Path.{sym}
-use Rattle.answers.specs.HandedLaws.{handed-as}
-use Rattle.answers.specs.Handed.{numbers}
+use Rattle.numbers.specs.HandedLaws.{handed-as}
+use Rattle.numbers.specs.Handed.{numbers}
 use Rattle.card.specs.Answer.{loadNumbers}
 use Rattle.board.specs.Answers.{loading}
 use borrow.Author.Needs.{needs}
-use Rattle.answers.proofs.loaded.Statement.{statement}
-use Rattle.answers.proofs.loaded.Tie as tie
+use Rattle.numbers.proofs.loaded.Statement.{statement}
+use Rattle.numbers.proofs.loaded.Tie as tie
 
 returns : tie.Need-returns
 returns c = handed-as (λ a. numbers (loadNumbers (loading a))) _ _ _ (c .put .ensures) (sym (c .before .before .before .answer .given .1))

@@ -6,7 +6,7 @@ ghost use Rattle.run.specs.Reading.{replyOf};
 ghost use Rattle.board.specs.Answers.{loading, stepping};
 ghost use Rattle.plans.specs.Many.{manyOf};
 ghost use Rattle.frame.specs.Frame.{reading};
-ghost use Rattle.answers.specs.Handed.{handed, numbers, answerNumbers};
+ghost use Rattle.numbers.specs.Handed.{handed, numbers, answerNumbers};
 
 // The number handed back, and three numbers in `out`.
 fn put(out: &mut [u64; 3], number: u64, first: u64, second: u64, third: u64) -> u64
