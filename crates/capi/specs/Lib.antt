@@ -1,4 +1,3 @@
 -- What the entries for Rust and C hand back.
-pub mod Handed
-pub mod HandedLaws
+pub mod Compiles
 pub mod Lines

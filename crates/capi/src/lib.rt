@@ -3,7 +3,6 @@
 mod lines;
 
 ghost use mathlib.Core.Path.{_≡_};
-ghost use mathlib.Core.List.{_∷_, []};
 ghost use Rattle.automata.specs.Format.{narrow};
 ghost use Rattle.card.specs.Answer.{load, loadNumbers, stepNumbers, replyNumbers};
 ghost use Rattle.card.specs.Judge.{judge};
@@ -11,25 +10,15 @@ ghost use Rattle.card.specs.Step.{stepOn};
 ghost use lib.ListN.{length};
 ghost use Rattle.compiler.specs.Outcome.{outcome};
 ghost use Rattle.driver.specs.Entry.{documented, lentLengths};
-ghost use Rattle.capi.specs.Handed.{handed, numbers, Compiles};
-
-// The number handed back, and three numbers in `out`.
-fn put(out: &mut [u64; 3], number: u64, first: u64, second: u64, third: u64) -> u64
-    ensures { λ r. ⌜ handed r (now (out .exit)) ≡ handed number (first ∷ second ∷ third ∷ []) ⌝ }
-{
-    *out = [first, second, third];
-    number
-}
+ghost use Rattle.numbers.specs.Handed.{handed, numbers};
+ghost use Rattle.capi.specs.Compiles.{Compiles};
 
 // Loading: 0, and letters, states, 0; or 21 to 26.
 #[no_mangle]
 pub extern "C" fn pier_load(card: &[u8], out: &mut [u64; 3]) -> u64
     ensures { λ r. ⌜ handed r (now (out .exit)) ≡ numbers (loadNumbers (load narrow (now (card .entry)))) ⌝ }
 {
-    match board::load(card) {
-        board::Loaded::Accepted(m, n) => put(out, 0, m as u64, n as u64, 0),
-        board::Loaded::Refused(number) => put(out, number as u64, 0, 0, 0),
-    }
+    numbers::loaded(board::load(card), out)
 }
 
 // One step: 0, and the next state, its marks byte, 0; or 21, 27, 28 or 23.
@@ -37,10 +26,7 @@ pub extern "C" fn pier_load(card: &[u8], out: &mut [u64; 3]) -> u64
 pub extern "C" fn pier_step(card: &[u8], state: usize, letter: u8, out: &mut [u64; 3]) -> u64
     ensures { λ r. ⌜ handed r (now (out .exit)) ≡ numbers (stepNumbers (stepOn narrow (now (card .entry)) state letter)) ⌝ }
 {
-    match board::step(card, state, letter) {
-        board::Stepped::Moved(next, mark) => put(out, 0, next as u64, mark as u64, 0),
-        board::Stepped::Stopped(number) => put(out, number as u64, 0, 0, 0),
-    }
+    numbers::stepped(board::step(card, state, letter), out)
 }
 
 // Judging: 0, and the verdict (1 allowed, 0 unfinished, 2 hopeless), the place of hopeless, 0; or 21 to 26; or 27, and 0, the letters before the first
@@ -49,14 +35,7 @@ pub extern "C" fn pier_step(card: &[u8], state: usize, letter: u8, out: &mut [u6
 pub extern "C" fn pier_judge(card: &[u8], plan: &[u8], out: &mut [u64; 3]) -> u64
     ensures { λ r. ⌜ handed r (now (out .exit)) ≡ numbers (replyNumbers (judge narrow (now (card .entry)) (now (plan .entry)))) ⌝ }
 {
-    match board::judge(card, plan) {
-        run::Answer::Refused(number, before) => put(out, number as u64, 0, before as u64, 0),
-        run::Answer::Judged(verdict) => match verdict {
-            run::Verdict::Allowed => put(out, 0, 1, 0, 0),
-            run::Verdict::Unfinished => put(out, 0, 0, 0, 0),
-            run::Verdict::Hopeless(k) => put(out, 0, 2, k as u64, 0),
-        },
-    }
+    numbers::judged(board::judge(card, plan), out)
 }
 
 // Compiling: 0, and 0, the card's length, the peak; or the number of a refusal, and its line, 0, 0. The card stands in front of the card buffer, or the
@@ -77,7 +56,7 @@ pub extern "C" fn pier_compile(
 ) -> u64
     ensures { λ r. ⌜ Compiles (outcome narrow documented (now (text .entry)) (lentLengths (now (low .entry)) (now (high .entry)) (now (registers .entry)) (now (stack .entry)) (now (rows .entry)) (now (table .entry)) (now (work .entry)) (now (code .entry))) (length (now (card .entry)))) (now (card .entry)) (now (card .exit)) r (now (out .exit)) ⌝ }
 {
-    match driver::compile(
+    let answer = driver::compile(
         text,
         card,
         low,
@@ -88,8 +67,6 @@ pub extern "C" fn pier_compile(
         table,
         work,
         code,
-    ) {
-        driver::Compiled::Card(length, peak) => put(out, 0, 0, length as u64, peak as u64),
-        driver::Compiled::Refused(number, line) => put(out, number as u64, line as u64, 0, 0),
-    }
+    );
+    numbers::compiled(answer, out)
 }

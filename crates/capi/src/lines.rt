@@ -1,6 +1,5 @@
 // Many plans on one card.
 ghost use Rattle.capi.specs.Lines.{JudgesMany};
-use crate::put;
 
 // Judging the lines of lent bytes, three numbers a plan in `replies`, as many plans as it has room for: 0, and how many, the bytes they took, 0; or 21 to 26,
 // and nothing is written.
@@ -13,8 +12,5 @@ pub extern "C" fn pier_judge_lines(
 ) -> u64
     ensures { λ r. ⌜ JudgesMany (now (card .entry)) (now (lines .entry)) (now (replies .entry)) (now (replies .exit)) r (now (out .exit)) ⌝ }
 {
-    match plans::judge_lines(card, lines, replies) {
-        plans::Many::Judged(count, used) => put(out, 0, count as u64, used as u64, 0),
-        plans::Many::Refused(number) => put(out, number as u64, 0, 0, 0),
-    }
+    numbers::counted(plans::judge_lines(card, lines, replies), out)
 }

@@ -5,8 +5,8 @@ use Prim.Native.Nat.{ℕ, _≤_, _<_}
 use native.Mathlib.Omega.{arith}
 use lib.ListN.{length, take}
 use lib.Seq.{take-all, take-length}
-use Rattle.driver.specs.declared.Compiled.{Compiled}
-use Rattle.driver.specs.declared.Compiled.the-variants.{Card, Refused}
+use Rattle.frame.specs.declared.Compiled.{Compiled}
+use Rattle.frame.specs.declared.Compiled.the-variants.{Card, Refused}
 use Rattle.automata.specs.Format.{narrow}
 use Rattle.compiler.specs.Outcome.{outcome}
 use Rattle.driver.specs.Entry.{documented, Answers}

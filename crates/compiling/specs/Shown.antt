@@ -5,8 +5,8 @@ use Prim.Native.Nat.{ℕ, _≤_}
 use lib.ListN.{length, take}
 use Rattle.automata.specs.Format.{narrow}
 use Rattle.compiler.specs.Outcome.{outcome}
-use Rattle.driver.specs.declared.Compiled.{Compiled}
-use Rattle.driver.specs.declared.Compiled.the-variants.{Card, Refused}
+use Rattle.frame.specs.declared.Compiled.{Compiled}
+use Rattle.frame.specs.declared.Compiled.the-variants.{Card, Refused}
 use Rattle.driver.specs.Entry.{documented, Answers}
 use Rattle.stream.specs.Text.{decimal}
 

@@ -2,7 +2,7 @@
 ghost use Prim.Native.Nat.{_≤_};
 ghost use lib.ListN.{length};
 ghost use Rattle.compiling.specs.Shown.{longest, Shows, Prints};
-use driver::Compiled;
+use frame::Compiled;
 use libc::STDERR_FILENO;
 use libc::STDOUT_FILENO;
 

@@ -21,7 +21,7 @@ use Rattle.run.specs.declared.Answer as R
 use Rattle.run.specs.Reading.{replyOf}
 use Rattle.board.specs.declared.Loaded as B
 use Rattle.board.specs.Answers.{loading}
-use Rattle.driver.specs.declared.Compiled as C
+use Rattle.frame.specs.declared.Compiled as C
 use Rattle.driver.specs.Entry.{documented, reading, Answers}
 use Rattle.promises.specs.Demands.{bookAllows}
 use Rattle.promises.specs.Today.{card-keeps-demand, rules-obeyed, one-card}

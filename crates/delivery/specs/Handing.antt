@@ -5,8 +5,8 @@ use lib.ListN.{length, take}
 use Rattle.automata.specs.Format.{narrow}
 use Rattle.card.specs.Answer.{load}
 use Rattle.card.specs.Judge.{judge}
-use Rattle.driver.specs.declared.Compiled.{Compiled}
-use Rattle.driver.specs.declared.Compiled.the-variants.{Card, Refused}
+use Rattle.frame.specs.declared.Compiled.{Compiled}
+use Rattle.frame.specs.declared.Compiled.the-variants.{Card, Refused}
 use Rattle.delivery.specs.Answers.{boardSays, Delivery, card, refused}
 
 -- The card is within its buffer.

@@ -1,7 +1,7 @@
 // The whole way: a book is compiled, just its card's bytes are handed to the board, the board loads them and judges a plan, each by the real entry. The
 // contract is demand 3 for these arguments. It asks nothing of the caller.
 use board::Loaded;
-use driver::Compiled;
+use frame::Compiled;
 ghost use mathlib.Core.Path.{_≡_};
 ghost use Rattle.automata.specs.Format.{narrow};
 ghost use Rattle.card.specs.Answer.{load};

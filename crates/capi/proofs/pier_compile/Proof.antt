@@ -1,50 +1,51 @@
-use mathlib.Core.Path.{sym}
-use Rattle.capi.specs.HandedLaws.{compiled-as}
-use borrow.Author.Needs.{needs}
+-- `capi::pier_compile` meets its contract.
+use Rattle.capi.specs.Compiles.{compiled-as}
 use Rattle.capi.proofs.pier_compile.Statement.{statement}
 use Rattle.capi.proofs.pier_compile.Tie as tie
-use Rattle.capi.proofs.pier_compile.Reads as reads
-use Rattle.capi.proofs.pier_compile.Lts as lts
-use Rattle.capi.proofs.put.Reads as put-reads
-use Rattle.driver.proofs.compile.Reads as compile-reads
 
--- src/lib.rt:62:1
 returns : tie.Need-returns
-returns c =
-    compiled-as _ _ _ _ _ _ _ (sym (c .before .before .before .length .given .1)) (c .before .before .before .before .before .before .before .before .before .before .before .before .before .before .before .before .before .before .before .before .before .before .before .compile .ensures) (c .put .ensures)
+returns c = compiled-as _ _ _ _ _ _ (c .before .before .before .before .before .before .before .before .before .before .before .before .before .before .before .before .before .before .before .before .compile .ensures) (c .compiled .ensures)
 
--- src/lib.rt:62:1
-returns-2 : tie.Need-returns-2
-returns-2 c =
-    compiled-as _ _ _ _ _ _ _ (sym (c .before .before .before .number .given .1)) (c .before .before .before .before .before .before .before .before .before .before .before .before .before .before .before .before .before .before .before .before .before .before .before .compile .ensures) (c .put2 .ensures)
+same-length : tie.Need-same-length
+same-length c = c .before .before .before .before .before .before .before .before .before .before .before .before .before .before .before .before .before .before .before .before .compile .kept .1 .0
+
+same-length-2 : tie.Need-same-length-2
+same-length-2 c = c .before .before .before .before .before .before .before .before .before .before .before .before .before .before .before .before .before .before .before .before .compile .kept .1 .1 .0
+
+same-length-3 : tie.Need-same-length-3
+same-length-3 c = c .before .before .before .before .before .before .before .before .before .before .before .before .before .before .before .before .before .before .before .before .compile .kept .1 .1 .1 .0
+
+same-length-4 : tie.Need-same-length-4
+same-length-4 c = c .before .before .before .before .before .before .before .before .before .before .before .before .before .before .before .before .before .before .before .before .compile .kept .1 .1 .1 .1 .0
+
+same-length-5 : tie.Need-same-length-5
+same-length-5 c = c .before .before .before .before .before .before .before .before .before .before .before .before .before .before .before .before .before .before .before .before .compile .kept .1 .1 .1 .1 .1 .0
+
+same-length-6 : tie.Need-same-length-6
+same-length-6 c = c .before .before .before .before .before .before .before .before .before .before .before .before .before .before .before .before .before .before .before .before .compile .kept .1 .1 .1 .1 .1 .1 .0
+
+same-length-7 : tie.Need-same-length-7
+same-length-7 c = c .before .before .before .before .before .before .before .before .before .before .before .before .before .before .before .before .before .before .before .before .compile .kept .1 .1 .1 .1 .1 .1 .1 .0
+
+same-length-8 : tie.Need-same-length-8
+same-length-8 c = c .before .before .before .before .before .before .before .before .before .before .before .before .before .before .before .before .before .before .before .before .compile .kept .1 .1 .1 .1 .1 .1 .1 .1 .0
+
+same-length-9 : tie.Need-same-length-9
+same-length-9 c = c .before .before .before .before .before .before .before .before .before .before .before .before .before .before .before .before .before .before .before .before .compile .kept .1 .1 .1 .1 .1 .1 .1 .1 .1 .0
 
 pub pier-compile-spec : {M : Type 1} → statement M
 pier-compile-spec =
     tie.close
     (tie.spec
-    (λ c κs. search needs)
-    (λ c. search needs)
-    (λ c κs. search needs)
-    (λ c. search needs)
-    (λ c. search needs)
-    (λ c κs. search needs)
-    (λ c. search needs)
-    (λ c. search needs)
-    (λ c. search needs)
-    (λ c. search needs)
-    (λ c. search needs)
-    (λ c. search needs)
-    (λ c. search needs)
-    (λ c. search needs)
-    (λ c. search needs)
-    returns
-    (λ c. search needs)
-    (λ c. search needs)
-    (λ c. search needs)
-    (λ c. search needs)
-    (λ c. search needs)
-    (λ c. search needs)
-    (λ c. search needs)
-    (λ c. search needs)
-    (λ c. search needs)
-    returns-2)
+    (λ c κs. tt)
+    (λ c κs. tt)
+    same-length
+    same-length-2
+    same-length-3
+    same-length-4
+    same-length-5
+    same-length-6
+    same-length-7
+    same-length-8
+    same-length-9
+    returns)

@@ -1,9 +1,9 @@
--- `driver::put_card` meets its contract: the writer's answer as the entry's.
-use Rattle.driver.proofs.EntryLaws.{slot-long, kept, puts-card, puts-none}
+-- `frame::put_card` meets its contract: the writer's answer as the entry's.
+use Rattle.frame.proofs.FrameLaws.{slot-long, kept, puts-card, puts-none}
 use native.Mathlib.Omega.{arith}
 use borrow.Author.Needs.{needs}
-use Rattle.driver.proofs.put_card.Statement.{statement}
-use Rattle.driver.proofs.put_card.Tie as tie
+use Rattle.frame.proofs.put_card.Statement.{statement}
+use Rattle.frame.proofs.put_card.Tie as tie
 
 number-requires : tie.Need-number-requires
 number-requires c κs = omega (arith, slot-long (c .before .before .before .pre))

@@ -1,9 +1,9 @@
--- `driver::first_line` meets its contract: line 1 is read, or refused.
-use Rattle.driver.proofs.EntryLaws.{no-bytes, headed, head-stops}
+-- `frame::first_line` meets its contract: line 1 is read, or refused.
+use Rattle.frame.proofs.FrameLaws.{no-bytes, headed, head-stops}
 use native.Mathlib.Omega.{arith}
 use borrow.Author.Needs.{needs}
-use Rattle.driver.proofs.first_line.Statement.{statement}
-use Rattle.driver.proofs.first_line.Tie as tie
+use Rattle.frame.proofs.first_line.Statement.{statement}
+use Rattle.frame.proofs.first_line.Tie as tie
 
 returns : tie.Need-returns
 returns c = no-bytes (c .before .before .args .text .now) (omega arith)

@@ -1,9 +1,8 @@
 -- What an entry for Rust and C hands back.
 use Prim.Native.Nat.{ℕ}
-use mathlib.Core.Path.{_≡_}
 use mathlib.Core.List.{List, [], _∷_}
 use Rattle.card.specs.Answer.{Numbers}
-use Rattle.compiler.specs.Outcome.{Outcome, Answer, answer, bufferAfter}
+use Rattle.compiler.specs.Outcome.{Answer}
 
 -- The function's own result, which is the paper's number or 0, and the three numbers of `out`.
 pub record Handed : Type 0 where
@@ -20,8 +19,3 @@ numbers n = handed (n .number) (n .first ∷ n .second ∷ 0 ∷ [])
 -- what compiling returns: line, length, peak
 abbrev pub answerNumbers : Answer → Handed
 answerNumbers a = handed (a .number) (a .line ∷ a .length ∷ a .peak ∷ [])
-
--- The numbers of an outcome, and the card buffer behind it.
-pub record Compiles (o : Outcome) (card card′ : List ℕ) (r : ℕ) (out : List ℕ) : Type 0 where
-  pub numbers : handed r out ≡ answerNumbers (answer o)
-  pub buffer : card′ ≡ bufferAfter o card

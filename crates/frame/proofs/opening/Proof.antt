@@ -1,11 +1,11 @@
--- `driver::opening` meets its contract: 1 and 2 come first.
-use Rattle.driver.proofs.EntryLaws.{too-long, too-short, opens}
+-- `frame::opening` meets its contract: 1 and 2 come first.
+use Rattle.frame.proofs.FrameLaws.{too-long, too-short, opens}
 use native.Mathlib.Omega.{arith}
 use borrow.Author.Tests.{not-true, not-false}
 use mathlib.Core.Path.{sym, _∙_}
 use borrow.Author.Needs.{needs}
-use Rattle.driver.proofs.opening.Statement.{statement}
-use Rattle.driver.proofs.opening.Tie as tie
+use Rattle.frame.proofs.opening.Statement.{statement}
+use Rattle.frame.proofs.opening.Tie as tie
 
 returns : tie.Need-returns
 returns c = too-long (c .before .before .args .text .now) _ (omega arith)

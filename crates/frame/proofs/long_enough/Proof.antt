@@ -1,8 +1,8 @@
--- `driver::long_enough` meets its contract: each of the eight lengths is tested.
-use Rattle.driver.proofs.EntryLaws.{short-1, short-2, short-3, short-4, short-5, short-6, short-7, short-8, all-long}
+-- `frame::long_enough` meets its contract: each of the eight lengths is tested.
+use Rattle.frame.proofs.FrameLaws.{short-1, short-2, short-3, short-4, short-5, short-6, short-7, short-8, all-long}
 use native.Mathlib.Omega.{arith}
-use Rattle.driver.proofs.long_enough.Statement.{statement}
-use Rattle.driver.proofs.long_enough.Tie as tie
+use Rattle.frame.proofs.long_enough.Statement.{statement}
+use Rattle.frame.proofs.long_enough.Tie as tie
 
 returns : tie.Need-returns
 returns c = short-1 (c .before .args .low) (c .before .args .high) (c .before .args .registers) (c .before .args .stack) (c .before .args .rows) (c .before .args .table) (c .before .args .work) (c .before .args .code) (omega arith)

@@ -1,0 +1,2 @@
+-- What stands before a book's lines and behind them.
+pub mod Frame

@@ -1,0 +1,3 @@
+-- The numbers that are handed over.
+pub mod Handed
+pub mod HandedLaws
