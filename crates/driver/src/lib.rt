@@ -1,7 +1,7 @@
 // The compiler's entry: the lines of a book in order, their stages, and the card. It has no requires; all below it are its parts.
-use lexer::kinds::KindTable;
 use frame::Compiled;
 use frame::Opened;
+use lexer::kinds::KindTable;
 use lines::Ended;
 ghost use lib.ListN.{length};
 ghost use Rattle.automata.specs.Format.{narrow};
