@@ -1,4 +1,5 @@
--- What partition refinement works on: marks bytes, one a state, and moves, state by state and letter by letter; and the machine that they hold.
+-- What partition refinement works on: marks bytes, one a state, and moves, state by state and letter by letter; the machine that they hold; keys that say
+-- which states accept.
 use mathlib.Core.Path.{_≡_}
 use mathlib.Core.List.{List}
 use Prim.Native.Nat.{ℕ, _+_, _*_, _≤_, _<_}
@@ -19,3 +20,9 @@ pub record Holds (m : ℕ) (ms bs : List ℕ) (M : Machine) : Type 0 where
   pub states : size M ≡ length ms
   pub accepting : (p : ℕ) → p < length ms → automaton M .accepting p ≡ eqb 1 (getD ms p 0)
   pub step : (p i : ℕ) → p < length ms → i < m → automaton M .step p i ≡ getD bs (p * m + i) 0
+
+-- Two states have the same key just when both accept or neither does.
+pub record AcceptKeys (ms ks : List ℕ) : Type 0 where
+  pub long : length ks ≡ 120
+  pub sound : (p q : ℕ) → p < length ms → q < length ms → getD ks p 0 ≡ getD ks q 0 → eqb 1 (getD ms p 0) ≡ eqb 1 (getD ms q 0)
+  pub whole : (p q : ℕ) → p < length ms → q < length ms → eqb 1 (getD ms p 0) ≡ eqb 1 (getD ms q 0) → getD ks p 0 ≡ getD ks q 0

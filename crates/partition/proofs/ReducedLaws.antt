@@ -11,10 +11,11 @@ use lib.Dec.{eqb}
 use Rattle.automata.specs.Basics.{LtCases, lt-cases}
 use Rattle.automata.specs.Machine.{Machine, Equivalent, Reduced}
 use Rattle.automata.specs.Refinement.{Settled, settled-equivalent, coarse-apart}
-use Rattle.moves.specs.Holds.{Table, Holds}
-use Rattle.sweeps.specs.Change.{AcceptKeys, Alike}
-use Rattle.partition.specs.Classes.{Named, owned, Split, Columns, Refined, ReducedExactly, Classed, Stretch, ClassesExactly}
-use Rattle.partition.proofs.ClassLaws.{none-linked, owned-le, owned-all, owned-some, owned-mono, owned-same}
+use Rattle.moves.specs.Holds.{Table, Holds, AcceptKeys}
+use Rattle.sweeps.specs.Change.{Alike}
+use Rattle.splits.specs.Splits.{Named, owned, Split, Columns, Refined}
+use Rattle.partition.specs.Classes.{ReducedExactly, Classed, Stretch, ClassesExactly}
+use Rattle.splits.proofs.ClassLaws.{none-linked, owned-le, owned-all, owned-some, owned-mono, owned-same}
 use Rattle.moves.specs.TableLaws.{move-inside}
 
 -- After the columns below c of a pass that began with `before` classes, there are k. Equivalent states share a class, and states of one class accept

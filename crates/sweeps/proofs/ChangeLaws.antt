@@ -11,9 +11,9 @@ use lib.Seq.{getD-set-same, getD-set-other}
 use Rattle.automata.specs.Basics.{LtCases, lt-cases}
 use Rattle.automata.specs.Machine.{Machine, Equivalent}
 use Rattle.distance.specs.DistanceLaws as laws
-use Rattle.moves.specs.Holds.{Table, Holds}
+use Rattle.moves.specs.Holds.{Table, Holds, AcceptKeys}
 use Rattle.moves.specs.TableLaws.{move-inside}
-use Rattle.sweeps.specs.Change.{AcceptKeys, leads, entry, after, Nearest, Lowered, Backed, Swept, Alike}
+use Rattle.sweeps.specs.Change.{leads, entry, after, Nearest, Lowered, Backed, Swept, Alike}
 
 -- ---- the least of some moves
 

@@ -4,17 +4,10 @@ use mathlib.Core.Bool.{Bool, true, false}
 use mathlib.Core.List.{List}
 use Prim.Native.Nat.{ℕ, suc, _+_, _*_, _≤_, _<_}
 use lib.ListN.{length, getD, set}
-use lib.Dec.{eqb}
 use Rattle.automata.specs.Machine.{Machine, Equivalent}
 use Rattle.distance.specs.Distance as distance
 use Rattle.distance.specs.Distance.{behind}
 use Rattle.moves.specs.Holds.{Holds}
-
--- Two states have the same key just when both accept or neither does.
-pub record AcceptKeys (ms ks : List ℕ) : Type 0 where
-  pub long : length ks ≡ 120
-  pub sound : (p q : ℕ) → p < length ms → q < length ms → getD ks p 0 ≡ getD ks q 0 → eqb 1 (getD ms p 0) ≡ eqb 1 (getD ms q 0)
-  pub whole : (p q : ℕ) → p < length ms → q < length ms → eqb 1 (getD ms p 0) ≡ eqb 1 (getD ms q 0) → getD ks p 0 ≡ getD ks q 0
 
 -- Where letter i leads from state p.
 abbrev pub leads : ℕ → List ℕ → ℕ → ℕ → ℕ

@@ -8,8 +8,8 @@ ghost use mathlib.Core.Path.{_≡_};
 ghost use Prim.Native.Nat.{ℕ, _+_, _≤_, _<_};
 ghost use lib.ListN.{length, getD, replicate};
 ghost use Rattle.distance.specs.Distance.{behind as behindOf};
-ghost use Rattle.moves.specs.Holds.{Table};
-ghost use Rattle.sweeps.specs.Change.{AcceptKeys, Nearest, Lowered, Backed, Swept, Alike};
+ghost use Rattle.moves.specs.Holds.{Table, AcceptKeys};
+ghost use Rattle.sweeps.specs.Change.{Nearest, Lowered, Backed, Swept, Alike};
 
 // So many pairs of sweeps at most.
 const PAIRS: usize = 8;

@@ -1,8 +1,8 @@
 -- `refine` meets its contract.
 use borrow.Author.Needs.{needs}
-use Rattle.partition.proofs.KeyLaws.{refined}
-use Rattle.partition.proofs.equivalence.refine.Statement.{statement}
-use Rattle.partition.proofs.equivalence.refine.Tie as tie
+use Rattle.splits.proofs.KeyLaws.{refined}
+use Rattle.splits.proofs.refine.Statement.{statement}
+use Rattle.splits.proofs.refine.Tie as tie
 
 returns : tie.Need-returns
 returns c = (refined _ _ _ _ _ _ _ _ (c .before .before .before .column-keys .ensures) (c .split .ensures), c .before .before .before .column-keys .ensures .long)

@@ -11,7 +11,7 @@ use lib.Dec.{eqb}
 use Rattle.automata.specs.Booleans.{bool-cases, not-true}
 use Rattle.automata.specs.Decide.{contradict}
 use Rattle.automata.specs.Basics.{LtCases, lt-cases, nat-test}
-use Rattle.partition.specs.Classes.{Links, Reach, here, there, Found, owned}
+use Rattle.splits.specs.Splits.{Links, Reach, here, there, Found, owned}
 
 -- ---- along the links
 

@@ -3,10 +3,10 @@ use Prim.Native.Nat.{_≤_, _-_}
 use native.Mathlib.Nat.{le-refl}
 use native.Mathlib.Omega.{arith}
 use borrow.Author.Needs.{needs}
-use Rattle.partition.proofs.ClassLaws.{owned-le, none-linked}
-use Rattle.partition.proofs.SplitLaws.{SplitUpto, split-start, split-links, split-least, split-joins, split-new, split-done}
-use Rattle.partition.proofs.equivalence.split.Statement.{statement}
-use Rattle.partition.proofs.equivalence.split.Tie as tie
+use Rattle.splits.proofs.ClassLaws.{owned-le, none-linked}
+use Rattle.splits.proofs.SplitLaws.{SplitUpto, split-start, split-links, split-least, split-joins, split-new, split-done}
+use Rattle.splits.proofs.split.Statement.{statement}
+use Rattle.splits.proofs.split.Tie as tie
 
 abbrev Inv-loop : tie.InvT-loop
 Inv-loop n keys classes₀ link₀ count₀ p₀ classes link count p = (p ≤ n) × SplitUpto 120 keys classes₀ classes link count p

@@ -9,8 +9,8 @@ use native.Mathlib.Omega.{arith}
 use lib.ListN.{length, getD, set, length-set}
 use lib.Seq.{getD-set-same, getD-set-other, set-getD}
 use Rattle.automata.specs.Basics.{LtCases, lt-cases}
-use Rattle.partition.specs.Classes.{Links, Reach, here, there, Found, Named, owned, Split}
-use Rattle.partition.proofs.ClassLaws.{reach-on, owned-yes, owned-no, owned-ext}
+use Rattle.splits.specs.Splits.{Links, Reach, here, there, Found, Named, owned, Split}
+use Rattle.splits.proofs.ClassLaws.{reach-on, owned-yes, owned-no, owned-ext}
 
 abbrev pub at : List ℕ → ℕ → ℕ
 at l i = getD l i 0

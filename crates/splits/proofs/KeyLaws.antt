@@ -13,8 +13,8 @@ use lib.Dec.{eqb}
 use Rattle.automata.specs.Booleans.{not-true}
 use Rattle.automata.specs.Basics.{LtCases, lt-cases, nat-test}
 use Rattle.automata.specs.Partition.{bit}
-use Rattle.sweeps.specs.Change.{AcceptKeys}
-use Rattle.partition.specs.Classes.{Split, Columns, ColumnKeys, Refined}
+use Rattle.moves.specs.Holds.{AcceptKeys}
+use Rattle.splits.specs.Splits.{Split, Columns, ColumnKeys, Refined}
 
 below : (p q : ℕ) → q < p + 1 → (q < p) ⊎ (q ≡ p)
 below p q h = go (lt-cases q p)

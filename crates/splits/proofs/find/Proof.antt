@@ -1,9 +1,9 @@
 -- `find` meets its contract: each state with the key is still ahead.
 use Prim.Native.Nat.{_-_}
 use native.Mathlib.Omega.{arith}
-use Rattle.partition.proofs.ClassLaws.{FindUpto, find-start, find-key, find-end, link-on, link-low, find-next}
-use Rattle.partition.proofs.equivalence.find.Statement.{statement}
-use Rattle.partition.proofs.equivalence.find.Tie as tie
+use Rattle.splits.proofs.ClassLaws.{FindUpto, find-start, find-key, find-end, link-on, link-low, find-next}
+use Rattle.splits.proofs.find.Statement.{statement}
+use Rattle.splits.proofs.find.Tie as tie
 
 abbrev Inv-loop : tie.InvT-loop
 Inv-loop keys link start key n r₀ r = FindUpto keys link start key n r

@@ -3,9 +3,9 @@ use mathlib.Core.Path.{_≡_}
 use Prim.Native.Nat.{_+_, _*_, _≤_, _-_}
 use native.Mathlib.Omega.{arith}
 use borrow.Author.Needs.{needs}
-use Rattle.partition.proofs.KeyLaws.{KeysUpto, keys-start, keys-set, columnKey, column-place, column-start, column-room, column-done}
-use Rattle.partition.proofs.equivalence.column_keys.Statement.{statement}
-use Rattle.partition.proofs.equivalence.column_keys.Tie as tie
+use Rattle.splits.proofs.KeyLaws.{KeysUpto, keys-start, keys-set, columnKey, column-place, column-start, column-room, column-done}
+use Rattle.splits.proofs.column_keys.Statement.{statement}
+use Rattle.splits.proofs.column_keys.Tie as tie
 
 abbrev Inv-loop : tie.InvT-loop
 Inv-loop moves m n c classes keys₀ at₀ p₀ keys at p = (p ≤ n) × (at ≡ p * m + c) × KeysUpto 120 (columnKey m moves c classes) keys p

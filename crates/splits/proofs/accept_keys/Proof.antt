@@ -3,9 +3,9 @@ use Prim.Native.Nat.{_≤_, _-_}
 use native.Mathlib.Omega.{arith}
 use lib.ListN.{length}
 use borrow.Author.Needs.{needs}
-use Rattle.partition.proofs.KeyLaws.{KeysUpto, keys-start, keys-set, acceptKey, accept-yes, accept-no, accept-done}
-use Rattle.partition.proofs.equivalence.accept_keys.Statement.{statement}
-use Rattle.partition.proofs.equivalence.accept_keys.Tie as tie
+use Rattle.splits.proofs.KeyLaws.{KeysUpto, keys-start, keys-set, acceptKey, accept-yes, accept-no, accept-done}
+use Rattle.splits.proofs.accept_keys.Statement.{statement}
+use Rattle.splits.proofs.accept_keys.Tie as tie
 
 abbrev Inv-loop : tie.InvT-loop
 Inv-loop marks keys₀ p₀ keys p = (p ≤ length marks) × KeysUpto 120 (acceptKey marks) keys p
