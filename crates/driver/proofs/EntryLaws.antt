@@ -37,8 +37,8 @@ use Rattle.reader.specs.declared.head.Head.{Head}
 use Rattle.reader.specs.declared.head.Head as head
 use Rattle.kept.specs.Stored.{InSlot}
 use Rattle.lines.specs.Lines.{linesFrom, Lent, LinesSay, CompilesLines}
-use Rattle.lines.specs.declared.Ended.{Ended}
-use Rattle.lines.specs.declared.Ended.the-variants as ended
+use Rattle.progress.specs.declared.Ended.{Ended}
+use Rattle.progress.specs.declared.Ended.the-variants as ended
 use Rattle.driver.specs.Entry.{documented, lentLengths, Answers, Writable, cardOrStop, PutsCard, Headed, FirstLine, Heads, OpensSay, Opens}
 use Rattle.driver.specs.declared.Compiled.{Compiled}
 use Rattle.driver.specs.declared.Compiled.the-variants.{Card, Refused}

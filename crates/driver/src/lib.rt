@@ -1,6 +1,6 @@
 // The compiler's entry: the lines of a book in order, their stages, and the card. It has no requires; all below it are its parts.
 use choice::kinds::KindTable;
-use lines::Ended;
+use progress::Ended;
 use reader::ends;
 use reader::head;
 use reader::head::Head;
