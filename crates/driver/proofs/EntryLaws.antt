@@ -15,8 +15,8 @@ use Rattle.compiler.specs.Book.{done, stopped, compileBook}
 use Rattle.compiler.specs.BookLaws.{accepted-right}
 use Rattle.compiler.specs.Outcome.{stop, written, outcome, enough}
 use Rattle.lines.specs.Lines.{Lent, LinesSay, CompilesLines}
-use Rattle.lines.specs.declared.Ended.{Ended}
-use Rattle.lines.specs.declared.Ended.the-variants as ended
+use Rattle.progress.specs.declared.Ended.{Ended}
+use Rattle.progress.specs.declared.Ended.the-variants as ended
 use Rattle.driver.specs.Entry.{documented, lentLengths, Answers}
 use Rattle.frame.proofs.FrameLaws.{stops}
 use Rattle.frame.specs.Frame.{Writable, cardOrStop, PutsCard, Headed, FirstLine, OpensSay, Opens}

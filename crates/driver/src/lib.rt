@@ -2,7 +2,7 @@
 use frame::Compiled;
 use frame::Opened;
 use lexer::kinds::KindTable;
-use lines::Ended;
+use progress::Ended;
 ghost use lib.ListN.{length};
 ghost use Rattle.automata.specs.Format.{narrow};
 ghost use Rattle.compiler.specs.Book.{compileBook};

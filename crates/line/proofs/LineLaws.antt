@@ -28,20 +28,17 @@ use Rattle.evaluate.specs.declared.run.Evaluated.the-variants as evaluated
 use Rattle.kept.specs.Stored.{InSlot, Registers, Keeps, Right}
 use Rattle.kept.specs.declared.Place.{Place}
 use Rattle.kept.specs.declared.Place.the-variants as place
-use Rattle.line.specs.Line.{Behind, Program, Runs, Drafted, FormSays, CompilesForm, IsForm, tellOf, Going, LineSays, CompilesLine}
-use Rattle.line.specs.declared.progress.Book.{Book}
-use Rattle.line.specs.declared.Told.{Told}
-use Rattle.line.specs.declared.Next.{Next}
+use Rattle.line.specs.Line.{Program, Runs, Drafted, FormSays, CompilesForm, IsForm, Going, LineSays, CompilesLine}
+use Rattle.progress.specs.Progress.{Behind, tellOf}
+use Rattle.progress.specs.declared.Book.{Book}
+use Rattle.progress.specs.declared.Told.{Told}
+use Rattle.progress.specs.declared.Next.{Next}
 use Rattle.line.proofs.RunLaws.{layout, stages-made, stages-stopped}
 
 -- The peak of two rows of stages is the greater of their peaks.
 most-append : (cs ds : List ℕ) → most (cs ++ ds) ≡ max (most cs) (most ds)
 most-append [] ds = omega arith
 most-append (c ∷ cs) ds = let e : most (cs ++ ds) ≡ max (most cs) (most ds) = most-append cs ds in omega arith
-
--- the book behind a line, by its place
-pub behind-at : (b : Book) (next p : ℕ) (r : Book) (pl q : Place) → pl ≡ q → Behind q b next p r → Behind pl b next p r
-behind-at b next p r pl q e U = subst (λ q. Behind q b next p r) (sym e) U
 
 -- ---- forms
 

@@ -2,7 +2,7 @@
 use mathlib.Core.Path.{_≡_}
 use mathlib.Core.Bool.{Bool, true, false}
 use mathlib.Core.List.{List, []}
-use Prim.Native.Nat.{ℕ, suc, _+_, _*_, _≤_, _<_, max}
+use Prim.Native.Nat.{ℕ, suc, _+_, _*_, _≤_, _<_}
 use lib.ListN.{length, take}
 use Rattle.automata.specs.Format.{narrow}
 use Rattle.automata.specs.Machine.{Machine}
@@ -15,43 +15,13 @@ use Rattle.book.specs.StackLaws.{FormHeld}
 use Rattle.book.specs.LineLaws.{KnownForm}
 use Rattle.compiler.specs.Book.{Draft, on, off, compileForm, compileLine}
 use Rattle.compiler.specs.Outcome.{most}
-use Rattle.reader.specs.Names.{Holds, More}
+use Rattle.reader.specs.Names.{Holds}
 use Rattle.scans.specs.Lines.{lineAt, Ends}
-use Rattle.reader.specs.declared.line.LineAnswer.{LineAnswer}
-use Rattle.reader.specs.declared.line.LineAnswer.the-variants as answer
 use Rattle.kept.specs.Stored.{Stored}
 use Rattle.kept.specs.declared.Place.{Place}
 use Rattle.kept.specs.declared.Place.the-variants as place
-use Rattle.line.specs.declared.progress.Book.{Book}
-use Rattle.line.specs.declared.Told.{Told}
-use Rattle.line.specs.declared.Next.{Next}
-
--- The book behind line 1.
-pub record Starts (next : ℕ) (r : Book) : Type 0 where
-  pub at : r .at ≡ next
-  pub line : r .line ≡ 2
-  pub names : Holds (r .names) []
-  pub ruled : r .ruled ≡ false
-  pub peak : r .peak ≡ 0
-
--- The book behind a definition, and behind a rule.
-pub record Defined (b : Book) (x next p : ℕ) (r : Book) : Type 0 where
-  pub at : r .at ≡ next
-  pub line : r .line ≡ suc (b .line)
-  pub names : More (b .names) x (r .names)
-  pub ruled : r .ruled ≡ b .ruled
-  pub peak : r .peak ≡ max (b .peak) p
-
-pub record Ruled (b : Book) (next p : ℕ) (r : Book) : Type 0 where
-  pub at : r .at ≡ next
-  pub line : r .line ≡ suc (b .line)
-  pub names : r .names ≡ b .names
-  pub ruled : r .ruled ≡ true
-  pub peak : r .peak ≡ max (b .peak) p
-
-abbrev pub Behind : Place → Book → ℕ → ℕ → Book → Type 0
-Behind (place.Name x) b next p r = Defined b x next p r
-Behind place.Book b next p r = Ruled b next p r
+use Rattle.progress.specs.declared.Book.{Book}
+use Rattle.progress.specs.declared.Next.{Next}
 
 -- ---- the lent buffers
 
@@ -108,12 +78,6 @@ IsForm (place.Name x) F = (e : Expr) × (F ≡ define x e)
 IsForm place.Book F = (p : Expr) × (cs : List (Expr × Expr)) × (F ≡ rule restricts p cs)
 
 -- ---- lines
-
--- what the reader says of a line
-abbrev pub tellOf : LineAnswer → Told
-tellOf (answer.Define x len next) = record { on = true; number = 0; place = place.Name x; len = len; next = next }
-tellOf (answer.Rule len next) = record { on = true; number = 0; place = place.Book; len = len; next = next }
-tellOf (answer.Refused n) = record { on = false; number = n; place = place.Book; len = 0; next = 0 }
 
 -- A book with a draft, in buffers that are long enough, at a place in the text.
 pub record Going (text ls : List ℕ) (b : Book) (low high registers stack rows table work code : List ℕ) : Type 0 where

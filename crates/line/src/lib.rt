@@ -1,94 +1,25 @@
 // One line of a book: it is read, its stages are made, and its machine is kept. These are parts: callers give a book in the making and buffers that are
 // long enough.
-pub mod progress;
-
+use lexer::kinds::KindTable;
 use evaluate::run;
 use evaluate::run::Evaluated;
 use kept::Place;
 use lexer::kinds::KindTable;
 use operands::Layout;
 use progress::Book;
+use progress::Next;
 use reader::line;
 use reader::line::LineAnswer;
-ghost use mathlib.Core.Path.{_≡_};
-ghost use mathlib.Core.Bool.{true, false};
 ghost use Prim.Native.Nat.{_<_};
 ghost use lib.ListN.{length};
 ghost use Rattle.lexer.specs.Kinds.{Kinds};
 ghost use Rattle.kept.specs.Stored.{Right};
-ghost use Rattle.line.specs.Line.{Behind, Runs, CompilesForm, IsForm, tellOf, Going, CompilesLine};
+ghost use Rattle.line.specs.Line.{Runs, CompilesForm, IsForm, Going, CompilesLine};
 
 // The most sets that a stage may make, and the most states that a kept machine may have.
 pub const SETS: usize = 512;
 
 pub const STATES: usize = 120;
-
-// What the reader says of a line: whether it was read; then where its machine is kept, the length of its program and where the next line starts; else
-// the number of a refusal.
-struct Told {
-    on: bool,
-    number: u8,
-    place: Place,
-    len: usize,
-    next: usize,
-}
-
-fn tell(answer: LineAnswer) -> Told
-    ensures { λ r. ⌜ r ≡ tellOf answer ⌝ }
-{
-    match answer {
-        LineAnswer::Define(name, len, next) => Told {
-            on: true,
-            number: 0,
-            place: Place::Name(name),
-            len: len,
-            next: next,
-        },
-        LineAnswer::Rule(len, next) => Told {
-            on: true,
-            number: 0,
-            place: Place::Book,
-            len: len,
-            next: next,
-        },
-        LineAnswer::Refused(n) => Told {
-            on: false,
-            number: n,
-            place: Place::Book,
-            len: 0,
-            next: 0,
-        },
-    }
-}
-
-// Whether the book goes on; then the book behind the line, else the number of a refusal.
-pub struct Next {
-    pub on: bool,
-    pub number: u8,
-    pub book: Book,
-}
-
-fn goes(place: Place, book: Book, next: usize, peak: usize) -> Next
-    requires { ⌜ Right place × (book .line < 65536) ⌝ }
-    ensures { λ r. ⌜ (r .on ≡ true) × Behind place book next peak (r .book) ⌝ }
-{
-    let behind = book.behind(place, next, peak);
-    Next {
-        on: true,
-        number: 0,
-        book: behind,
-    }
-}
-
-fn stops(book: Book, n: u8) -> Next
-    ensures { λ r. ⌜ (r .on ≡ false) × (r .number ≡ n) ⌝ }
-{
-    Next {
-        on: false,
-        number: n,
-        book: book,
-    }
-}
 
 // A line by its program: its stages are made, and its machine is kept at its place.
 fn form(
@@ -130,9 +61,9 @@ fn form(
     ) {
         Evaluated::Made(peak) => {
             kept::keep(place, &stack[..], low, high, registers);
-            goes(place, book, next, peak)
+            progress::goes(place, book, next, peak)
         }
-        Evaluated::Refused(n) => stops(book, n),
+        Evaluated::Refused(n) => progress::stops(book, n),
     }
 }
 
@@ -158,9 +89,9 @@ pub fn one_line(
 {
     let at = book.at;
     let names = book.names;
-    let read = tell(line::read_line(kinds, text, at, letters, names, code));
+    let read = progress::tell(line::read_line(kinds, text, at, letters, names, code));
     if !read.on {
-        return stops(book, read.number);
+        return progress::stops(book, read.number);
     }
     let place = read.place;
     form(

@@ -1,6 +1,6 @@
 -- The lines in their order: each line compiled brings the draft that the definitions have behind it.
 use mathlib.Core.Path.{_≡_, refl, sym, ap, ap₂, _∙_, subst}
-use mathlib.Core.Bool.{Bool, true, false, false≢true}
+use mathlib.Core.Bool.{Bool, true, false, cond, false≢true}
 use mathlib.Core.List.{List}
 use Prim.Native.Nat.{ℕ, suc, _+_, _≤_, _<_}
 use native.Mathlib.Omega.{arith}
@@ -11,11 +11,13 @@ use Rattle.book.specs.Text.{linesOf}
 use Rattle.compiler.specs.Book.{Draft, LineResult, on, off, afterLine, compileLine, compileLines, done, stopped, startDraft}
 use Rattle.scans.specs.Lines.{lineAt}
 use Rattle.kept.specs.Stored.{Begins}
-use Rattle.line.specs.Line.{Starts, Drafted, Going, LineSays, CompilesLine}
-use Rattle.line.specs.declared.progress.Book.{Book}
-use Rattle.line.specs.declared.Next.{Next}
+use Rattle.progress.specs.Progress.{Starts, endOf}
+use Rattle.line.specs.Line.{Drafted, Going, LineSays, CompilesLine}
+use Rattle.progress.specs.declared.Book.{Book}
+use Rattle.progress.specs.declared.Next.{Next}
+use Rattle.progress.specs.declared.Ended.{Ended}
 use Rattle.lines.specs.Lines.{linesFrom, Placed, Lent, CompilesLines}
-use Rattle.lines.specs.declared.Ended.the-variants.{Done, Refused}
+use Rattle.progress.specs.declared.Ended.the-variants.{Done, Refused}
 
 -- The lines before the book's place are compiled: what is left of the lines, with the draft that the buffers hold, gives what all the lines give.
 pub record Reached (text ls : List ℕ) (next : ℕ) (b : Book) (low high registers : List ℕ) : Type 0 where
@@ -83,15 +85,22 @@ module _ (text ls : List ℕ) (next : ℕ) (b : Book) (low high registers : List
     unfolding compileLines
     at-end = R .says ∙ ap (λ s. compileLines narrow ls (linesOf s) (b .line) (R .draft)) (drop-of-length-le text {i = b .at} h)
 
-    pub lines-done : b .ruled ≡ true → CompilesLines text ls next registers (Done (b .peak))
+    lines-done : b .ruled ≡ true → CompilesLines text ls next registers (Done (b .peak))
     lines-done t =
         let z : R .draft .ruled ≡ true = sym (R .drafted .ruled) ∙ t in
         record { says = (R .draft, at-end ∙ ap (λ v. choose v (λ _. done ls (R .draft)) (λ _. stopped 10 0)) z, R .drafted .peak, R .drafted .stored .registers .book) }
 
-    pub lines-none : b .ruled ≡ false → CompilesLines text ls next registers (Refused 10 0)
+    lines-none : b .ruled ≡ false → CompilesLines text ls next registers (Refused 10 0)
     lines-none t =
         let z : R .draft .ruled ≡ false = sym (R .drafted .ruled) ∙ t in
         record { says = at-end ∙ ap (λ v. choose v (λ _. done ls (R .draft)) (λ _. stopped 10 0)) z }
+
+    pub lines-end : (r : Ended) → r ≡ endOf b → CompilesLines text ls next registers r
+    lines-end r e = subst (CompilesLines text ls next registers) (sym e) (go (b .ruled) refl)
+      where
+        go : (v : Bool) → b .ruled ≡ v → CompilesLines text ls next registers (cond v (Done (b .peak)) (Refused 10 0))
+        go true t = lines-done t
+        go false t = lines-none t
 
 -- the buffers behind the start
 pub lent-begun : {low high registers registers′ stack stack′ rows table work code : List ℕ} → Lent low high registers stack rows table work code → length registers′ ≡ length registers

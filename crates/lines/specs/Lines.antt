@@ -9,8 +9,8 @@ use Rattle.compiler.specs.Book.{BookResult, Draft, done, stopped, compileLines,
 use Rattle.compiler.specs.Outcome.{most}
 use Rattle.kept.specs.Stored.{InSlot}
 use Rattle.line.specs.Line.{Room}
-use Rattle.lines.specs.declared.Ended.{Ended}
-use Rattle.lines.specs.declared.Ended.the-variants.{Done, Refused}
+use Rattle.progress.specs.declared.Ended.{Ended}
+use Rattle.progress.specs.declared.Ended.the-variants.{Done, Refused}
 
 -- the lines of a text from a place on, where line 2 starts
 abbrev pub linesFrom : List ℕ → List ℕ → ℕ → BookResult

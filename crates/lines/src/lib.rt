@@ -1,14 +1,9 @@
 // The lines of a book in their order, behind line 1. This is a part: its caller gives the letters of line 1 and buffers that are long enough.
 use lexer::kinds::KindTable;
-use line::progress::Book;
+use progress::Book;
+use progress::Ended;
 ghost use Rattle.lexer.specs.Kinds.{Kinds};
 ghost use Rattle.lines.specs.Lines.{Lent, Placed, CompilesLines};
-
-// The most sets that a stage made, or the number of a refusal with its line.
-pub enum Ended {
-    Done(usize),
-    Refused(u8, usize),
-}
 
 // Compiles the lines from line 2 on, which starts at a place. The machine of the book is left in the first register.
 pub fn lines(
@@ -35,10 +30,7 @@ pub fn lines(
     loop {
         let at = book.at;
         if text.len() <= at {
-            if book.ruled {
-                return Ended::Done(book.peak);
-            }
-            return Ended::Refused(10, 0);
+            return book.end();
         }
         let number = book.line;
         let next = line::one_line(

@@ -1,6 +1,6 @@
 -- `lines::lines` meets its contract. The loop's invariant: the lines that are left, with the draft that the buffers hold, give what all the lines give. The
 -- measure is what is left of the text.
-use Rattle.lines.proofs.LinesLaws.{Lengths, Reached, reached-start, reached-next, lines-off, lines-done, lines-none, lent-begun, going}
+use Rattle.lines.proofs.LinesLaws.{Lengths, Reached, reached-start, reached-next, lines-off, lines-end, lent-begun, going}
 use borrow.Author.Tests.{not-true, not-false}
 use borrow.Author.Needs.{needs}
 use lib.ListN.{length}
@@ -49,70 +49,43 @@ same-length-8 : tie.Need-same-length-8 Inv-loop μ-loop
 same-length-8 c = c .before .before .loop .inv .0 .code≡
 
 returns : tie.Need-returns Inv-loop μ-loop
-returns c = lines-done (c .before .before .before .before .before .before .before .before .before .before .before .before .before .before .before .before .before .before .before .before .before .args .text .now) (c .before .before .before .before .before .before .before .before .before .before .before .before .before .before .before .before .before .before .before .before .before .args .letters .now) (c .before .before .before .before .before .before .before .before .before .before .before .before .before .before .before .before .before .before .before .before .before .args .next) (c .before .before .loop .book) (c .before .before .loop .low) (c .before .before .loop .high) (c .before .before .loop .registers) (c .before .before .loop .inv .1) (omega arith) (c .if2 .taken)
-
-same-length-9 : tie.Need-same-length-9 Inv-loop μ-loop
-same-length-9 c = c .before .before .loop .inv .0 .low≡
-
-same-length-10 : tie.Need-same-length-10 Inv-loop μ-loop
-same-length-10 c = c .before .before .loop .inv .0 .high≡
-
-same-length-11 : tie.Need-same-length-11 Inv-loop μ-loop
-same-length-11 c = c .before .before .loop .inv .0 .registers≡ ∙ c .before .before .before .before .before .before .before .before .begin .kept .1 .0
-
-same-length-12 : tie.Need-same-length-12 Inv-loop μ-loop
-same-length-12 c = c .before .before .loop .inv .0 .stack≡ ∙ c .before .before .before .before .before .before .before .before .begin .kept .1 .1 .0
-
-same-length-13 : tie.Need-same-length-13 Inv-loop μ-loop
-same-length-13 c = c .before .before .loop .inv .0 .rows≡
-
-same-length-14 : tie.Need-same-length-14 Inv-loop μ-loop
-same-length-14 c = c .before .before .loop .inv .0 .table≡
-
-same-length-15 : tie.Need-same-length-15 Inv-loop μ-loop
-same-length-15 c = c .before .before .loop .inv .0 .work≡
-
-same-length-16 : tie.Need-same-length-16 Inv-loop μ-loop
-same-length-16 c = c .before .before .loop .inv .0 .code≡
-
-returns-2 : tie.Need-returns-2 Inv-loop μ-loop
-returns-2 c = lines-none (c .before .before .before .before .before .before .before .before .before .before .before .before .before .before .before .before .before .before .before .before .before .args .text .now) (c .before .before .before .before .before .before .before .before .before .before .before .before .before .before .before .before .before .before .before .before .before .args .letters .now) (c .before .before .before .before .before .before .before .before .before .before .before .before .before .before .before .before .before .before .before .before .before .args .next) (c .before .before .loop .book) (c .before .before .loop .low) (c .before .before .loop .high) (c .before .before .loop .registers) (c .before .before .loop .inv .1) (omega arith) (c .if2 .left)
+returns c = lines-end (c .before .before .before .before .before .before .before .before .before .before .before .before .before .before .before .before .before .before .before .before .before .args .text .now) (c .before .before .before .before .before .before .before .before .before .before .before .before .before .before .before .before .before .before .before .before .before .args .letters .now) (c .before .before .before .before .before .before .before .before .before .before .before .before .before .before .before .before .before .before .before .before .before .args .next) (c .before .before .loop .book) (c .before .before .loop .low) (c .before .before .loop .high) (c .before .before .loop .registers) (c .before .before .loop .inv .1) (omega arith) _ (c .end .ensures)
 
 one-line-requires : tie.Need-one-line-requires Inv-loop μ-loop
 one-line-requires c κs = (c .before .before .before .before .before .before .before .before .before .before .before .before .before .before .before .before .before .before .before .before .before .before .before .before .before .before .before .before .pre .0, (going (c .before .before .before .before .before .before .before .before .before .before .before .before .before .before .before .before .before .before .before .before .before .before .before .before .before .before .before .before .args .text .now) (c .before .before .before .before .before .before .before .before .before .before .before .before .before .before .before .before .before .before .before .before .before .before .before .before .before .before .before .before .args .letters .now) (c .before .before .before .before .before .before .before .before .before .before .before .before .before .before .before .before .before .before .before .before .before .before .before .before .before .before .before .before .args .next) (c .before .before .before .before .before .before .before .before .before .loop .book) _ _ _ _ _ _ _ _ (c .before .before .before .before .before .before .before .before .before .loop .low) (c .before .before .before .before .before .before .before .before .before .loop .high) (c .before .before .before .before .before .before .before .before .before .loop .registers) (c .before .before .before .before .before .before .before .before .before .loop .stack) (c .before .before .before .before .before .before .before .before .before .loop .rows) (c .before .before .before .before .before .before .before .before .before .loop .table) (c .before .before .before .before .before .before .before .before .before .loop .work) (c .before .before .before .before .before .before .before .before .before .loop .code) (c .before .before .before .before .before .before .before .before .before .before .before .before .before .before .before .before .before .before .before .before .before .before .before .before .before .before .before .before .pre .1 .0) (lent-begun (c .before .before .before .before .before .before .before .before .before .before .before .before .before .before .before .before .before .before .before .before .before .before .before .before .before .before .before .before .pre .1 .1) (c .before .before .before .before .before .before .before .before .before .before .before .before .before .before .before .begin .kept .1 .0) (c .before .before .before .before .before .before .before .before .before .before .before .before .before .before .before .begin .kept .1 .1 .0)) (c .before .before .before .before .before .before .before .before .before .loop .inv .0) (c .before .before .before .before .before .before .before .before .before .loop .inv .1), omega arith))
 
-same-length-17 : tie.Need-same-length-17 Inv-loop μ-loop
-same-length-17 c = c .before .before .before .before .before .before .before .before .before .before .before .before .before .before .before .before .before .before .one-line .kept .1 .1 .1 .1 .0 ∙ c .before .before .before .before .before .before .before .before .before .before .before .before .before .before .before .before .before .before .before .before .before .before .before .before .before .before .before .before .loop .inv .0 .low≡
+same-length-9 : tie.Need-same-length-9 Inv-loop μ-loop
+same-length-9 c = c .before .before .before .before .before .before .before .before .before .before .before .before .before .before .before .before .before .before .one-line .kept .1 .1 .1 .1 .0 ∙ c .before .before .before .before .before .before .before .before .before .before .before .before .before .before .before .before .before .before .before .before .before .before .before .before .before .before .before .before .loop .inv .0 .low≡
 
-same-length-18 : tie.Need-same-length-18 Inv-loop μ-loop
-same-length-18 c = c .before .before .before .before .before .before .before .before .before .before .before .before .before .before .before .before .before .before .one-line .kept .1 .1 .1 .1 .1 .0 ∙ c .before .before .before .before .before .before .before .before .before .before .before .before .before .before .before .before .before .before .before .before .before .before .before .before .before .before .before .before .loop .inv .0 .high≡
+same-length-10 : tie.Need-same-length-10 Inv-loop μ-loop
+same-length-10 c = c .before .before .before .before .before .before .before .before .before .before .before .before .before .before .before .before .before .before .one-line .kept .1 .1 .1 .1 .1 .0 ∙ c .before .before .before .before .before .before .before .before .before .before .before .before .before .before .before .before .before .before .before .before .before .before .before .before .before .before .before .before .loop .inv .0 .high≡
 
-same-length-19 : tie.Need-same-length-19 Inv-loop μ-loop
-same-length-19 c = c .before .before .before .before .before .before .before .before .before .before .before .before .before .before .before .before .before .before .one-line .kept .1 .1 .1 .1 .1 .1 .0 ∙ c .before .before .before .before .before .before .before .before .before .before .before .before .before .before .before .before .before .before .before .before .before .before .before .before .before .before .before .before .loop .inv .0 .registers≡ ∙ c .before .before .before .before .before .before .before .before .before .before .before .before .before .before .before .before .before .before .before .before .before .before .before .before .before .before .before .before .before .before .before .before .before .before .begin .kept .1 .0
+same-length-11 : tie.Need-same-length-11 Inv-loop μ-loop
+same-length-11 c = c .before .before .before .before .before .before .before .before .before .before .before .before .before .before .before .before .before .before .one-line .kept .1 .1 .1 .1 .1 .1 .0 ∙ c .before .before .before .before .before .before .before .before .before .before .before .before .before .before .before .before .before .before .before .before .before .before .before .before .before .before .before .before .loop .inv .0 .registers≡ ∙ c .before .before .before .before .before .before .before .before .before .before .before .before .before .before .before .before .before .before .before .before .before .before .before .before .before .before .before .before .before .before .before .before .before .before .begin .kept .1 .0
 
-same-length-20 : tie.Need-same-length-20 Inv-loop μ-loop
-same-length-20 c = c .before .before .before .before .before .before .before .before .before .before .before .before .before .before .before .before .before .before .one-line .kept .1 .1 .1 .1 .1 .1 .1 .0 ∙ c .before .before .before .before .before .before .before .before .before .before .before .before .before .before .before .before .before .before .before .before .before .before .before .before .before .before .before .before .loop .inv .0 .stack≡ ∙ c .before .before .before .before .before .before .before .before .before .before .before .before .before .before .before .before .before .before .before .before .before .before .before .before .before .before .before .before .before .before .before .before .before .before .begin .kept .1 .1 .0
+same-length-12 : tie.Need-same-length-12 Inv-loop μ-loop
+same-length-12 c = c .before .before .before .before .before .before .before .before .before .before .before .before .before .before .before .before .before .before .one-line .kept .1 .1 .1 .1 .1 .1 .1 .0 ∙ c .before .before .before .before .before .before .before .before .before .before .before .before .before .before .before .before .before .before .before .before .before .before .before .before .before .before .before .before .loop .inv .0 .stack≡ ∙ c .before .before .before .before .before .before .before .before .before .before .before .before .before .before .before .before .before .before .before .before .before .before .before .before .before .before .before .before .before .before .before .before .before .before .begin .kept .1 .1 .0
 
-same-length-21 : tie.Need-same-length-21 Inv-loop μ-loop
-same-length-21 c = c .before .before .before .before .before .before .before .before .before .before .before .before .before .before .before .before .before .before .one-line .kept .1 .1 .1 .1 .1 .1 .1 .1 .0 ∙ c .before .before .before .before .before .before .before .before .before .before .before .before .before .before .before .before .before .before .before .before .before .before .before .before .before .before .before .before .loop .inv .0 .rows≡
+same-length-13 : tie.Need-same-length-13 Inv-loop μ-loop
+same-length-13 c = c .before .before .before .before .before .before .before .before .before .before .before .before .before .before .before .before .before .before .one-line .kept .1 .1 .1 .1 .1 .1 .1 .1 .0 ∙ c .before .before .before .before .before .before .before .before .before .before .before .before .before .before .before .before .before .before .before .before .before .before .before .before .before .before .before .before .loop .inv .0 .rows≡
 
-same-length-22 : tie.Need-same-length-22 Inv-loop μ-loop
-same-length-22 c = c .before .before .before .before .before .before .before .before .before .before .before .before .before .before .before .before .before .before .one-line .kept .1 .1 .1 .1 .1 .1 .1 .1 .1 .0 ∙ c .before .before .before .before .before .before .before .before .before .before .before .before .before .before .before .before .before .before .before .before .before .before .before .before .before .before .before .before .loop .inv .0 .table≡
+same-length-14 : tie.Need-same-length-14 Inv-loop μ-loop
+same-length-14 c = c .before .before .before .before .before .before .before .before .before .before .before .before .before .before .before .before .before .before .one-line .kept .1 .1 .1 .1 .1 .1 .1 .1 .1 .0 ∙ c .before .before .before .before .before .before .before .before .before .before .before .before .before .before .before .before .before .before .before .before .before .before .before .before .before .before .before .before .loop .inv .0 .table≡
 
-same-length-23 : tie.Need-same-length-23 Inv-loop μ-loop
-same-length-23 c = c .before .before .before .before .before .before .before .before .before .before .before .before .before .before .before .before .before .before .one-line .kept .1 .1 .1 .1 .1 .1 .1 .1 .1 .1 .0 ∙ c .before .before .before .before .before .before .before .before .before .before .before .before .before .before .before .before .before .before .before .before .before .before .before .before .before .before .before .before .loop .inv .0 .work≡
+same-length-15 : tie.Need-same-length-15 Inv-loop μ-loop
+same-length-15 c = c .before .before .before .before .before .before .before .before .before .before .before .before .before .before .before .before .before .before .one-line .kept .1 .1 .1 .1 .1 .1 .1 .1 .1 .1 .0 ∙ c .before .before .before .before .before .before .before .before .before .before .before .before .before .before .before .before .before .before .before .before .before .before .before .before .before .before .before .before .loop .inv .0 .work≡
 
-same-length-24 : tie.Need-same-length-24 Inv-loop μ-loop
-same-length-24 c = c .before .before .before .before .before .before .before .before .before .before .before .before .before .before .before .before .before .before .one-line .kept .1 .1 .1 .1 .1 .1 .1 .1 .1 .1 .1 .0 ∙ c .before .before .before .before .before .before .before .before .before .before .before .before .before .before .before .before .before .before .before .before .before .before .before .before .before .before .before .before .loop .inv .0 .code≡
+same-length-16 : tie.Need-same-length-16 Inv-loop μ-loop
+same-length-16 c = c .before .before .before .before .before .before .before .before .before .before .before .before .before .before .before .before .before .before .one-line .kept .1 .1 .1 .1 .1 .1 .1 .1 .1 .1 .1 .0 ∙ c .before .before .before .before .before .before .before .before .before .before .before .before .before .before .before .before .before .before .before .before .before .before .before .before .before .before .before .before .loop .inv .0 .code≡
 
-returns-3 : tie.Need-returns-3 Inv-loop μ-loop
-returns-3 c = lines-off (c .before .before .before .before .before .before .before .before .before .before .before .before .before .before .before .before .before .before .before .before .before .before .before .before .before .before .before .before .before .before .before .before .before .before .before .before .before .before .before .before .before .before .before .before .before .before .before .args .text .now) (c .before .before .before .before .before .before .before .before .before .before .before .before .before .before .before .before .before .before .before .before .before .before .before .before .before .before .before .before .before .before .before .before .before .before .before .before .before .before .before .before .before .before .before .before .before .before .before .args .letters .now) (c .before .before .before .before .before .before .before .before .before .before .before .before .before .before .before .before .before .before .before .before .before .before .before .before .before .before .before .before .before .before .before .before .before .before .before .before .before .before .before .before .before .before .before .before .before .before .before .args .next) (c .before .before .before .before .before .before .before .before .before .before .before .before .before .before .before .before .before .before .before .before .before .before .before .before .before .before .before .before .loop .book) (c .before .before .before .before .before .before .before .before .before .before .before .before .before .before .before .before .before .before .before .before .before .before .before .before .before .before .before .before .loop .low) (c .before .before .before .before .before .before .before .before .before .before .before .before .before .before .before .before .before .before .before .before .before .before .before .before .before .before .before .before .loop .high) (c .before .before .before .before .before .before .before .before .before .before .before .before .before .before .before .before .before .before .before .before .before .before .before .before .before .before .before .before .loop .registers) (c .before .before .before .before .before .before .before .before .before .before .before .before .before .before .before .before .before .before .before .before .before .before .before .before .before .before .before .before .loop .inv .1) _ _ _ _ (c .before .before .before .before .before .before .before .before .before .before .before .before .before .before .before .before .before .before .one-line .ensures) (omega arith) (not-true _ (c .if3 .taken))
+returns-2 : tie.Need-returns-2 Inv-loop μ-loop
+returns-2 c = lines-off (c .before .before .before .before .before .before .before .before .before .before .before .before .before .before .before .before .before .before .before .before .before .before .before .before .before .before .before .before .before .before .before .before .before .before .before .before .before .before .before .before .before .before .before .before .before .before .before .args .text .now) (c .before .before .before .before .before .before .before .before .before .before .before .before .before .before .before .before .before .before .before .before .before .before .before .before .before .before .before .before .before .before .before .before .before .before .before .before .before .before .before .before .before .before .before .before .before .before .before .args .letters .now) (c .before .before .before .before .before .before .before .before .before .before .before .before .before .before .before .before .before .before .before .before .before .before .before .before .before .before .before .before .before .before .before .before .before .before .before .before .before .before .before .before .before .before .before .before .before .before .before .args .next) (c .before .before .before .before .before .before .before .before .before .before .before .before .before .before .before .before .before .before .before .before .before .before .before .before .before .before .before .before .loop .book) (c .before .before .before .before .before .before .before .before .before .before .before .before .before .before .before .before .before .before .before .before .before .before .before .before .before .before .before .before .loop .low) (c .before .before .before .before .before .before .before .before .before .before .before .before .before .before .before .before .before .before .before .before .before .before .before .before .before .before .before .before .loop .high) (c .before .before .before .before .before .before .before .before .before .before .before .before .before .before .before .before .before .before .before .before .before .before .before .before .before .before .before .before .loop .registers) (c .before .before .before .before .before .before .before .before .before .before .before .before .before .before .before .before .before .before .before .before .before .before .before .before .before .before .before .before .loop .inv .1) _ _ _ _ (c .before .before .before .before .before .before .before .before .before .before .before .before .before .before .before .before .before .before .one-line .ensures) (omega arith) (not-true _ (c .if2 .taken))
 
 loop-less : tie.Need-loop-less Inv-loop μ-loop
-loop-less c = omega (arith, (reached-next (c .before .before .before .before .before .before .before .before .before .before .before .before .before .before .before .before .before .before .before .before .before .before .before .before .before .before .before .before .before .before .before .before .before .before .before .before .before .before .before .before .before .before .before .before .before .before .before .before .args .text .now) (c .before .before .before .before .before .before .before .before .before .before .before .before .before .before .before .before .before .before .before .before .before .before .before .before .before .before .before .before .before .before .before .before .before .before .before .before .before .before .before .before .before .before .before .before .before .before .before .before .args .letters .now) (c .before .before .before .before .before .before .before .before .before .before .before .before .before .before .before .before .before .before .before .before .before .before .before .before .before .before .before .before .before .before .before .before .before .before .before .before .before .before .before .before .before .before .before .before .before .before .before .before .args .next) (c .before .before .before .before .before .before .before .before .before .before .before .before .before .before .before .before .before .before .before .before .before .before .before .before .before .before .before .before .before .loop .book) (c .before .before .before .before .before .before .before .before .before .before .before .before .before .before .before .before .before .before .before .before .before .before .before .before .before .before .before .before .before .loop .low) (c .before .before .before .before .before .before .before .before .before .before .before .before .before .before .before .before .before .before .before .before .before .before .before .before .before .before .before .before .before .loop .high) (c .before .before .before .before .before .before .before .before .before .before .before .before .before .before .before .before .before .before .before .before .before .before .before .before .before .before .before .before .before .loop .registers) (c .before .before .before .before .before .before .before .before .before .before .before .before .before .before .before .before .before .before .before .before .before .before .before .before .before .before .before .before .before .loop .inv .1) _ _ _ _ (c .before .before .before .before .before .before .before .before .before .before .before .before .before .before .before .before .before .before .before .one-line .ensures) (omega arith) (not-false _ (c .before .if3 .left))) .1)
+loop-less c = omega (arith, (reached-next (c .before .before .before .before .before .before .before .before .before .before .before .before .before .before .before .before .before .before .before .before .before .before .before .before .before .before .before .before .before .before .before .before .before .before .before .before .before .before .before .before .before .before .before .before .before .before .before .before .args .text .now) (c .before .before .before .before .before .before .before .before .before .before .before .before .before .before .before .before .before .before .before .before .before .before .before .before .before .before .before .before .before .before .before .before .before .before .before .before .before .before .before .before .before .before .before .before .before .before .before .before .args .letters .now) (c .before .before .before .before .before .before .before .before .before .before .before .before .before .before .before .before .before .before .before .before .before .before .before .before .before .before .before .before .before .before .before .before .before .before .before .before .before .before .before .before .before .before .before .before .before .before .before .before .args .next) (c .before .before .before .before .before .before .before .before .before .before .before .before .before .before .before .before .before .before .before .before .before .before .before .before .before .before .before .before .before .loop .book) (c .before .before .before .before .before .before .before .before .before .before .before .before .before .before .before .before .before .before .before .before .before .before .before .before .before .before .before .before .before .loop .low) (c .before .before .before .before .before .before .before .before .before .before .before .before .before .before .before .before .before .before .before .before .before .before .before .before .before .before .before .before .before .loop .high) (c .before .before .before .before .before .before .before .before .before .before .before .before .before .before .before .before .before .before .before .before .before .before .before .before .before .before .before .before .before .loop .registers) (c .before .before .before .before .before .before .before .before .before .before .before .before .before .before .before .before .before .before .before .before .before .before .before .before .before .before .before .before .before .loop .inv .1) _ _ _ _ (c .before .before .before .before .before .before .before .before .before .before .before .before .before .before .before .before .before .before .before .one-line .ensures) (omega arith) (not-false _ (c .before .if2 .left))) .1)
 
 loop-again : tie.Need-loop-again Inv-loop μ-loop
-loop-again c = (record { low≡ = c .before .before .before .before .before .before .before .before .before .before .before .before .before .before .before .before .before .before .before .one-line .kept .1 .1 .1 .1 .0 ∙ c .before .before .before .before .before .before .before .before .before .before .before .before .before .before .before .before .before .before .before .before .before .before .before .before .before .before .before .before .before .loop .inv .0 .low≡; high≡ = c .before .before .before .before .before .before .before .before .before .before .before .before .before .before .before .before .before .before .before .one-line .kept .1 .1 .1 .1 .1 .0 ∙ c .before .before .before .before .before .before .before .before .before .before .before .before .before .before .before .before .before .before .before .before .before .before .before .before .before .before .before .before .before .loop .inv .0 .high≡; registers≡ = c .before .before .before .before .before .before .before .before .before .before .before .before .before .before .before .before .before .before .before .one-line .kept .1 .1 .1 .1 .1 .1 .0 ∙ c .before .before .before .before .before .before .before .before .before .before .before .before .before .before .before .before .before .before .before .before .before .before .before .before .before .before .before .before .before .loop .inv .0 .registers≡; stack≡ = c .before .before .before .before .before .before .before .before .before .before .before .before .before .before .before .before .before .before .before .one-line .kept .1 .1 .1 .1 .1 .1 .1 .0 ∙ c .before .before .before .before .before .before .before .before .before .before .before .before .before .before .before .before .before .before .before .before .before .before .before .before .before .before .before .before .before .loop .inv .0 .stack≡; rows≡ = c .before .before .before .before .before .before .before .before .before .before .before .before .before .before .before .before .before .before .before .one-line .kept .1 .1 .1 .1 .1 .1 .1 .1 .0 ∙ c .before .before .before .before .before .before .before .before .before .before .before .before .before .before .before .before .before .before .before .before .before .before .before .before .before .before .before .before .before .loop .inv .0 .rows≡; table≡ = c .before .before .before .before .before .before .before .before .before .before .before .before .before .before .before .before .before .before .before .one-line .kept .1 .1 .1 .1 .1 .1 .1 .1 .1 .0 ∙ c .before .before .before .before .before .before .before .before .before .before .before .before .before .before .before .before .before .before .before .before .before .before .before .before .before .before .before .before .before .loop .inv .0 .table≡; work≡ = c .before .before .before .before .before .before .before .before .before .before .before .before .before .before .before .before .before .before .before .one-line .kept .1 .1 .1 .1 .1 .1 .1 .1 .1 .1 .0 ∙ c .before .before .before .before .before .before .before .before .before .before .before .before .before .before .before .before .before .before .before .before .before .before .before .before .before .before .before .before .before .loop .inv .0 .work≡; code≡ = c .before .before .before .before .before .before .before .before .before .before .before .before .before .before .before .before .before .before .before .one-line .kept .1 .1 .1 .1 .1 .1 .1 .1 .1 .1 .1 .0 ∙ c .before .before .before .before .before .before .before .before .before .before .before .before .before .before .before .before .before .before .before .before .before .before .before .before .before .before .before .before .before .loop .inv .0 .code≡ }, reached-next (c .before .before .before .before .before .before .before .before .before .before .before .before .before .before .before .before .before .before .before .before .before .before .before .before .before .before .before .before .before .before .before .before .before .before .before .before .before .before .before .before .before .before .before .before .before .before .before .before .args .text .now) (c .before .before .before .before .before .before .before .before .before .before .before .before .before .before .before .before .before .before .before .before .before .before .before .before .before .before .before .before .before .before .before .before .before .before .before .before .before .before .before .before .before .before .before .before .before .before .before .before .args .letters .now) (c .before .before .before .before .before .before .before .before .before .before .before .before .before .before .before .before .before .before .before .before .before .before .before .before .before .before .before .before .before .before .before .before .before .before .before .before .before .before .before .before .before .before .before .before .before .before .before .before .args .next) (c .before .before .before .before .before .before .before .before .before .before .before .before .before .before .before .before .before .before .before .before .before .before .before .before .before .before .before .before .before .loop .book) (c .before .before .before .before .before .before .before .before .before .before .before .before .before .before .before .before .before .before .before .before .before .before .before .before .before .before .before .before .before .loop .low) (c .before .before .before .before .before .before .before .before .before .before .before .before .before .before .before .before .before .before .before .before .before .before .before .before .before .before .before .before .before .loop .high) (c .before .before .before .before .before .before .before .before .before .before .before .before .before .before .before .before .before .before .before .before .before .before .before .before .before .before .before .before .before .loop .registers) (c .before .before .before .before .before .before .before .before .before .before .before .before .before .before .before .before .before .before .before .before .before .before .before .before .before .before .before .before .before .loop .inv .1) _ _ _ _ (c .before .before .before .before .before .before .before .before .before .before .before .before .before .before .before .before .before .before .before .one-line .ensures) (omega arith) (not-false _ (c .before .if3 .left)) .0)
+loop-again c = (record { low≡ = c .before .before .before .before .before .before .before .before .before .before .before .before .before .before .before .before .before .before .before .one-line .kept .1 .1 .1 .1 .0 ∙ c .before .before .before .before .before .before .before .before .before .before .before .before .before .before .before .before .before .before .before .before .before .before .before .before .before .before .before .before .before .loop .inv .0 .low≡; high≡ = c .before .before .before .before .before .before .before .before .before .before .before .before .before .before .before .before .before .before .before .one-line .kept .1 .1 .1 .1 .1 .0 ∙ c .before .before .before .before .before .before .before .before .before .before .before .before .before .before .before .before .before .before .before .before .before .before .before .before .before .before .before .before .before .loop .inv .0 .high≡; registers≡ = c .before .before .before .before .before .before .before .before .before .before .before .before .before .before .before .before .before .before .before .one-line .kept .1 .1 .1 .1 .1 .1 .0 ∙ c .before .before .before .before .before .before .before .before .before .before .before .before .before .before .before .before .before .before .before .before .before .before .before .before .before .before .before .before .before .loop .inv .0 .registers≡; stack≡ = c .before .before .before .before .before .before .before .before .before .before .before .before .before .before .before .before .before .before .before .one-line .kept .1 .1 .1 .1 .1 .1 .1 .0 ∙ c .before .before .before .before .before .before .before .before .before .before .before .before .before .before .before .before .before .before .before .before .before .before .before .before .before .before .before .before .before .loop .inv .0 .stack≡; rows≡ = c .before .before .before .before .before .before .before .before .before .before .before .before .before .before .before .before .before .before .before .one-line .kept .1 .1 .1 .1 .1 .1 .1 .1 .0 ∙ c .before .before .before .before .before .before .before .before .before .before .before .before .before .before .before .before .before .before .before .before .before .before .before .before .before .before .before .before .before .loop .inv .0 .rows≡; table≡ = c .before .before .before .before .before .before .before .before .before .before .before .before .before .before .before .before .before .before .before .one-line .kept .1 .1 .1 .1 .1 .1 .1 .1 .1 .0 ∙ c .before .before .before .before .before .before .before .before .before .before .before .before .before .before .before .before .before .before .before .before .before .before .before .before .before .before .before .before .before .loop .inv .0 .table≡; work≡ = c .before .before .before .before .before .before .before .before .before .before .before .before .before .before .before .before .before .before .before .one-line .kept .1 .1 .1 .1 .1 .1 .1 .1 .1 .1 .0 ∙ c .before .before .before .before .before .before .before .before .before .before .before .before .before .before .before .before .before .before .before .before .before .before .before .before .before .before .before .before .before .loop .inv .0 .work≡; code≡ = c .before .before .before .before .before .before .before .before .before .before .before .before .before .before .before .before .before .before .before .one-line .kept .1 .1 .1 .1 .1 .1 .1 .1 .1 .1 .1 .0 ∙ c .before .before .before .before .before .before .before .before .before .before .before .before .before .before .before .before .before .before .before .before .before .before .before .before .before .before .before .before .before .loop .inv .0 .code≡ }, reached-next (c .before .before .before .before .before .before .before .before .before .before .before .before .before .before .before .before .before .before .before .before .before .before .before .before .before .before .before .before .before .before .before .before .before .before .before .before .before .before .before .before .before .before .before .before .before .before .before .before .args .text .now) (c .before .before .before .before .before .before .before .before .before .before .before .before .before .before .before .before .before .before .before .before .before .before .before .before .before .before .before .before .before .before .before .before .before .before .before .before .before .before .before .before .before .before .before .before .before .before .before .before .args .letters .now) (c .before .before .before .before .before .before .before .before .before .before .before .before .before .before .before .before .before .before .before .before .before .before .before .before .before .before .before .before .before .before .before .before .before .before .before .before .before .before .before .before .before .before .before .before .before .before .before .before .args .next) (c .before .before .before .before .before .before .before .before .before .before .before .before .before .before .before .before .before .before .before .before .before .before .before .before .before .before .before .before .before .loop .book) (c .before .before .before .before .before .before .before .before .before .before .before .before .before .before .before .before .before .before .before .before .before .before .before .before .before .before .before .before .before .loop .low) (c .before .before .before .before .before .before .before .before .before .before .before .before .before .before .before .before .before .before .before .before .before .before .before .before .before .before .before .before .before .loop .high) (c .before .before .before .before .before .before .before .before .before .before .before .before .before .before .before .before .before .before .before .before .before .before .before .before .before .before .before .before .before .loop .registers) (c .before .before .before .before .before .before .before .before .before .before .before .before .before .before .before .before .before .before .before .before .before .before .before .before .before .before .before .before .before .loop .inv .1) _ _ _ _ (c .before .before .before .before .before .before .before .before .before .before .before .before .before .before .before .before .before .before .before .one-line .ensures) (omega arith) (not-false _ (c .before .if2 .left)) .0)
 
 pub lines-spec : {M : Type 1} → statement M
 lines-spec =
@@ -123,6 +96,7 @@ lines-spec =
     begin-requires
     (λ c κs. search needs)
     loop-holds
+    (λ c κs. search needs)
     same-length
     same-length-2
     same-length-3
@@ -132,6 +106,7 @@ lines-spec =
     same-length-7
     same-length-8
     returns
+    one-line-requires
     same-length-9
     same-length-10
     same-length-11
@@ -141,15 +116,5 @@ lines-spec =
     same-length-15
     same-length-16
     returns-2
-    one-line-requires
-    same-length-17
-    same-length-18
-    same-length-19
-    same-length-20
-    same-length-21
-    same-length-22
-    same-length-23
-    same-length-24
-    returns-3
     loop-less
     loop-again)

@@ -1,9 +1,9 @@
--- `line::progress::Book::behind` meets its contract: a definition or a rule, by the place.
+-- `progress::Book::behind` meets its contract: a definition or a rule, by the place.
 use Rattle.kept.proofs.SlotLaws.{right-name}
-use Rattle.line.proofs.LineLaws.{behind-at}
+use Rattle.progress.specs.Progress.{behind-at}
 use borrow.Author.Needs.{needs}
-use Rattle.line.proofs.progress.Book.behind.Statement.{statement}
-use Rattle.line.proofs.progress.Book.behind.Tie as tie
+use Rattle.progress.proofs.Book.behind.Statement.{statement}
+use Rattle.progress.proofs.Book.behind.Tie as tie
 
 with-name-requires : tie.Need-with-name-requires
 with-name-requires c κs = (right-name _ _ (c .before .place .given .1) (c .before .before .before .pre .0), c .before .before .before .pre .1)

@@ -1,9 +1,9 @@
--- `line::tell` meets its contract: an equation for each answer of the reader.
-use Rattle.line.specs.Line.{tellOf}
+-- `progress::tell` meets its contract: an equation for each answer of the reader.
+use Rattle.progress.specs.Progress.{tellOf}
 use mathlib.Core.Path.{sym, ap}
 use borrow.Author.Needs.{needs}
-use Rattle.line.proofs.tell.Statement.{statement}
-use Rattle.line.proofs.tell.Tie as tie
+use Rattle.progress.proofs.tell.Statement.{statement}
+use Rattle.progress.proofs.tell.Tie as tie
 
 returns : tie.Need-returns
 returns c = sym (ap tellOf (c .before .answer .given .1))
