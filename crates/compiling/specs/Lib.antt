@@ -1,2 +1,2 @@
--- What the compiling program writes.
-pub mod Shown
+-- What the compiling program writes for a text.
+pub mod Prints

@@ -1,33 +1,7 @@
 // The compiling program: the book from an input; its card, or the line `refused N line L`, to standard output.
-ghost use Prim.Native.Nat.{_≤_};
-ghost use lib.ListN.{length};
-ghost use Rattle.compiling.specs.Shown.{longest, Shows, Prints};
-use frame::Compiled;
+ghost use Rattle.compiling.specs.Prints.{Prints};
 use libc::STDERR_FILENO;
 use libc::STDOUT_FILENO;
-
-// The bytes to be written for an answer, in front of `card`, where the card stands already. How many they are.
-fn show(answer: Compiled, card: &mut [u8]) -> usize
-    requires { ⌜ longest ≤ length (now card) ⌝ }
-    ensures { λ r. ⌜ Shows answer (now (card .entry)) (now (card .exit)) r ⌝ }
-{
-    match answer {
-        Compiled::Card(length, _) => {
-            if card.len() < length {
-                return card.len();
-            }
-            length
-        }
-        Compiled::Refused(number, line) => {
-            let n = number as usize;
-            let a = stream::put(card, 0, b"refused ");
-            let b = stream::put_number(card, a, n);
-            let c = stream::put(card, b, b" line ");
-            let d = stream::put_number(card, c, line);
-            stream::put(card, d, b"\n")
-        }
-    }
-}
 
 // Compiles a text with buffers of its own.
 fn compile(text: &[u8], card: &mut [u8; 3278]) -> usize
@@ -53,7 +27,7 @@ fn compile(text: &[u8], card: &mut [u8; 3278]) -> usize
         &mut work[..],
         &mut code[..],
     );
-    show(answer, card)
+    report::show(answer, card)
 }
 
 // The longest card has 3,278 bytes.

@@ -4,60 +4,28 @@ use mathlib.Core.List.{List, _++_}
 use Prim.Native.Nat.{ℕ, _≤_}
 use native.Mathlib.Omega.{arith}
 use lib.ListN.{length, take, drop, length-append}
-use lib.Seq.{length-take-le}
 use Rattle.automata.specs.Format.{narrow}
 use Rattle.automata.specs.Machine.{Machine, size}
-use Rattle.card.specs.Layout.{narrow-sound, encode, letterCount, stateCount}
+use Rattle.card.specs.Layout.{narrow-sound, letterCount, stateCount}
 use Rattle.card.specs.LayoutLaws.{encode-letterCount, encode-stateCount}
-use Rattle.card.specs.Loads as Loads
 use Rattle.card.specs.Loads.{card-fits, load-loaded}
-use Rattle.card.specs.Answer.{Loading, holds, rejected, load, load-holds}
+use Rattle.card.specs.Answer.{holds, load, load-holds}
 use Rattle.card.specs.Verdict.{allowed, unfinished, hopeless}
-use Rattle.card.specs.Judge.{Reply, judge, unknown-letter}
+use Rattle.card.specs.Judge.{judge, unknown-letter}
 use Rattle.card.specs.JudgeLaws.{replies-only}
 use Rattle.card.specs.Demand.{Demand3}
-use Rattle.compiler.specs.Outcome.{Outcome, card, stop, Answer, answer, bufferAfter, outcome, card-stands}
-use Rattle.run.specs.declared.Answer as R
-use Rattle.run.specs.Reading.{replyOf}
-use Rattle.board.specs.declared.Loaded as B
-use Rattle.board.specs.Answers.{loading}
+use Rattle.compiler.specs.Outcome.{Outcome, card, stop, answer, outcome, card-stands}
 use Rattle.frame.specs.declared.Compiled as C
 use Rattle.driver.specs.Entry.{documented, reading, Answers}
 use Rattle.promises.specs.Demands.{bookAllows}
 use Rattle.promises.specs.Today.{card-keeps-demand, rules-obeyed, one-card}
 use Rattle.promises.specs.Refusals.{refusal-numbered}
-use Rattle.delivery.specs.declared.BoardAnswer as S
-use Rattle.delivery.specs.declared.Delivered as D
-use Rattle.delivery.specs.Answers.{onBoard, boardSays, judged, delivery}
-use Rattle.delivery.specs.Answers as A
-use Rattle.delivery.specs.Handing.{Within, handed}
-use Rattle.delivery.specs.Delivers.{lettersIn, HopelessAfter, ForeignAfter, Accepted, Delivers}
+use Rattle.handing.specs.declared.Delivered as D
+use Rattle.handing.specs.Answers.{boardSays, delivery}
+use Rattle.handing.specs.Answers as A
+use Rattle.handing.specs.Handing.{Within, handed}
+use Rattle.delivery.specs.Delivers.{lettersIn, Accepted, Delivers}
 use Rattle.delivery.proofs.VerdictLaws.{verdict-means}
-
--- ---- the board
-
-pub board-judges : (c plan : List ℕ) (l : B.Loaded) (m n : ℕ) (a : R.Answer) → l ≡ B.the-variants.Accepted m n → loading l ≡ load narrow c → replyOf a ≡ judge narrow c plan
-    → onBoard (S.the-variants.Judged m n a) ≡ boardSays (load narrow c) (judge narrow c plan)
-board-judges c plan l m n a e h j = ap₂ boardSays (sym (ap loading e) ∙ h) j
-
-pub board-refuses : (c plan : List ℕ) (l : B.Loaded) (number : ℕ) → l ≡ B.the-variants.Refused number → loading l ≡ load narrow c
-    → onBoard (S.the-variants.NotLoaded number) ≡ boardSays (load narrow c) (judge narrow c plan)
-board-refuses c plan l number e h = ap (λ x. boardSays x (judge narrow c plan)) (sym (ap loading e) ∙ h)
-
--- ---- handing over
-
-pub hands-card : (buffer plan : List ℕ) (a : C.Compiled) (n p : ℕ) (b : S.BoardAnswer) → a ≡ C.the-variants.Card n p → onBoard b ≡ boardSays (load narrow (take n buffer)) (judge narrow (take n buffer) plan)
-    → delivery (D.the-variants.Card n p b) ≡ handed a buffer plan
-hands-card buffer plan a n p b e h = rw e (ap (A.card n p) h)
-
-pub hands-refusal : (buffer plan : List ℕ) (a : C.Compiled) (number line : ℕ) → a ≡ C.the-variants.Refused number line → delivery (D.the-variants.Refused number line) ≡ handed a buffer plan
-hands-refusal buffer plan a number line e = rw e refl
-
-pub within : (buffer : List ℕ) (a : C.Compiled) (n p : ℕ) → a ≡ C.the-variants.Card n p → Within a buffer → n ≤ length buffer
-within buffer a n p e w = rw e at w
-
-pub taken : (n : ℕ) (s : List ℕ) → n ≤ length s → n ≡ length (take n s)
-taken n s h = sym (length-take-le n s h)
 
 -- ---- an accepted book
 

@@ -24,8 +24,8 @@ use Rattle.compiler.specs.Outcome as Outcome
 use Rattle.compiler.specs.Outcome.{stop, outcome}
 use Rattle.driver.specs.Entry.{documented}
 use Rattle.promises.specs.Demands.{bookAllows}
-use Rattle.delivery.specs.declared.Delivered.{Delivered}
-use Rattle.delivery.specs.Answers.{judged, card, refused, delivery}
+use Rattle.handing.specs.declared.Delivered.{Delivered}
+use Rattle.handing.specs.Answers.{judged, card, refused, delivery}
 
 -- "Its letters are those of line 1."
 abbrev pub lettersIn : List ℕ → List ℕ

@@ -1,4 +1,2 @@
--- What the whole way promises: its answers, and demand 3 for the arguments of one call.
-pub mod Answers
-pub mod Handing
+-- What the whole way promises: demand 3 for the arguments of one call.
 pub mod Delivers

@@ -1,7 +1,7 @@
 // Runs the whole way on some of the paper's books and plans, a line each: length, peak, letters and states of the card and the board's reply; or the
 // refusal with its line. The card buffer is longer than the card and holds other bytes, and so do the work buffers.
-use delivery::BoardAnswer;
-use delivery::Delivered;
+use handing::BoardAnswer;
+use handing::Delivered;
 use libc::STDOUT_FILENO;
 use run::Answer;
 use run::Verdict;

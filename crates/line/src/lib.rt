@@ -1,9 +1,9 @@
 // One line of a book: it is read, its stages are made, and its machine is kept. These are parts: callers give a book in the making and buffers that are
 // long enough.
-use lexer::kinds::KindTable;
 use evaluate::run;
 use evaluate::run::Evaluated;
 use kept::Place;
+use lexer::kinds::KindTable;
 use lexer::kinds::KindTable;
 use operands::Layout;
 use progress::Book;

@@ -3,7 +3,7 @@ use mathlib.Core.Path.{sym}
 use mathlib.Core.List.{_∷_, []}
 use native.Mathlib.Omega.{arith}
 use borrow.Author.Needs.{needs}
-use Rattle.compiling.proofs.ShowLaws.{prints-with}
+use Rattle.compiling.proofs.PrintLaws.{prints-with}
 use Rattle.compiling.proofs.compile.Statement.{statement}
 use Rattle.compiling.proofs.compile.Tie as tie
 

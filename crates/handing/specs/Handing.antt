@@ -7,7 +7,7 @@ use Rattle.card.specs.Answer.{load}
 use Rattle.card.specs.Judge.{judge}
 use Rattle.frame.specs.declared.Compiled.{Compiled}
 use Rattle.frame.specs.declared.Compiled.the-variants.{Card, Refused}
-use Rattle.delivery.specs.Answers.{boardSays, Delivery, card, refused}
+use Rattle.handing.specs.Answers.{boardSays, Delivery, card, refused}
 
 -- The card is within its buffer.
 abbrev pub Within : Compiled → List ℕ → Type 0

@@ -3,11 +3,8 @@ use mathlib.Core.Path.{_≡_}
 use mathlib.Core.List.{List, [], _∷_, _++_}
 use Prim.Native.Nat.{ℕ, _≤_}
 use lib.ListN.{length, take}
-use Rattle.automata.specs.Format.{narrow}
-use Rattle.compiler.specs.Outcome.{outcome}
 use Rattle.frame.specs.declared.Compiled.{Compiled}
 use Rattle.frame.specs.declared.Compiled.the-variants.{Card, Refused}
-use Rattle.driver.specs.Entry.{documented, Answers}
 use Rattle.stream.specs.Text.{decimal}
 
 -- "refused ", " line " and the line end
@@ -35,10 +32,3 @@ shown (Refused number line) card = refusalLine number line
 pub record Shows (a : Compiled) (card out : List ℕ) (r : ℕ) : Type 0 where
   pub within : r ≤ length out
   pub is : take r out ≡ shown a card
-
--- What is written for a text is what is shown for the compiler's answer, with buffers of the documented lengths, and the card buffer behind it.
-pub record Prints (text old out : List ℕ) (r : ℕ) : Type 0 where
-  pub answer : Compiled
-  pub card : List ℕ
-  pub answers : Answers (outcome narrow documented text documented (length old)) old card answer
-  pub shows : Shows answer card out r

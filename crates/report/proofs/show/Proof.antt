@@ -1,9 +1,9 @@
--- `show` meets its contract.
+-- `report::show` meets its contract.
 use native.Mathlib.Omega.{arith}
-use Rattle.compiling.proofs.ShowLaws.{shows-card, shows-all, shows-refused}
+use Rattle.report.proofs.ShowLaws.{shows-card, shows-all, shows-refused}
 use borrow.Author.Needs.{needs}
-use Rattle.compiling.proofs.show.Statement.{statement}
-use Rattle.compiling.proofs.show.Tie as tie
+use Rattle.report.proofs.show.Statement.{statement}
+use Rattle.report.proofs.show.Tie as tie
 
 returns : tie.Need-returns
 returns c = shows-all (c .before .before .before .before .before .args .answer) _ _ _ (c .before .before .answer .given .1) (c .if1 .taken)

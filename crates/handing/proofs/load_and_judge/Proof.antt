@@ -1,8 +1,8 @@
--- `delivery::load_and_judge` meets its contract.
-use Rattle.delivery.proofs.DeliveryLaws.{board-judges, board-refuses}
+-- `handing::load_and_judge` meets its contract.
+use Rattle.handing.proofs.HandingLaws.{board-judges, board-refuses}
 use borrow.Author.Needs.{needs}
-use Rattle.delivery.proofs.load_and_judge.Statement.{statement}
-use Rattle.delivery.proofs.load_and_judge.Tie as tie
+use Rattle.handing.proofs.load_and_judge.Statement.{statement}
+use Rattle.handing.proofs.load_and_judge.Tie as tie
 
 returns : tie.Need-returns
 returns c = board-judges _ _ _ _ _ (c .judge .result) (c .before .before .m .given .1) (c .before .before .before .before .load .ensures) (c .judge .ensures)

@@ -1,8 +1,8 @@
--- `delivery::hand_over` meets its contract: the board has just the card's bytes.
-use Rattle.delivery.proofs.DeliveryLaws.{within, taken, hands-card, hands-refusal}
+-- `handing::hand_over` meets its contract: the board has just the card's bytes.
+use Rattle.handing.proofs.HandingLaws.{within, taken, hands-card, hands-refusal}
 use borrow.Author.Needs.{needs}
-use Rattle.delivery.proofs.hand_over.Statement.{statement}
-use Rattle.delivery.proofs.hand_over.Tie as tie
+use Rattle.handing.proofs.hand_over.Statement.{statement}
+use Rattle.handing.proofs.hand_over.Tie as tie
 
 slice-aggregate-load-and-judge : tie.Need-slice-aggregate-load-and-judge
 slice-aggregate-load-and-judge c = taken _ _ (within _ _ _ _ (c .before .before .answer .given .1) (c .before .before .before .before .before .before .pre))

@@ -3,10 +3,10 @@ use Prim.Native.Nat.{ℕ}
 use Rattle.card.specs.Answer.{Loading, holds, rejected}
 use Rattle.card.specs.Judge.{Reply}
 use Rattle.run.specs.Reading.{replyOf}
-use Rattle.delivery.specs.declared.BoardAnswer.{BoardAnswer}
-use Rattle.delivery.specs.declared.BoardAnswer.the-variants.{Judged, NotLoaded}
-use Rattle.delivery.specs.declared.Delivered.{Delivered}
-use Rattle.delivery.specs.declared.Delivered.the-variants.{Card, Refused}
+use Rattle.handing.specs.declared.BoardAnswer.{BoardAnswer}
+use Rattle.handing.specs.declared.BoardAnswer.the-variants.{Judged, NotLoaded}
+use Rattle.handing.specs.declared.Delivered.{Delivered}
+use Rattle.handing.specs.declared.Delivered.the-variants.{Card, Refused}
 
 -- What a board answers: the card's letters and states with judging's reply, or loading's refusal, 21 to 26.
 pub data OnBoard : Type 0 where

@@ -1,18 +1,15 @@
 -- What is written, answer by answer.
-use mathlib.Core.Path.{_≡_, sym, ap, subst, _∙_}
+use mathlib.Core.Path.{_≡_, sym, ap, _∙_}
 use mathlib.Core.List.{List, _++_}
 use Prim.Native.Nat.{ℕ, _≤_, _<_}
 use native.Mathlib.Omega.{arith}
-use lib.ListN.{length, take}
+use lib.ListN.{length}
 use lib.Seq.{take-all, take-length}
 use Rattle.frame.specs.declared.Compiled.{Compiled}
 use Rattle.frame.specs.declared.Compiled.the-variants.{Card, Refused}
-use Rattle.automata.specs.Format.{narrow}
-use Rattle.compiler.specs.Outcome.{outcome}
-use Rattle.driver.specs.Entry.{documented, Answers}
 use Rattle.stream.specs.Text.{Put, PutNumber, decimal}
 use Rattle.stream.specs.TextLaws.{put-put}
-use Rattle.compiling.specs.Shown.{refusedWord, lineWord, newline, refusalLine, longest, shown, Shows, Prints}
+use Rattle.report.specs.Shown.{refusedWord, lineWord, newline, refusalLine, longest, shown, Shows}
 
 module _ (a : Compiled) (card : List ℕ) where
   pub shows-card : (n p : ℕ) → a ≡ Card n p → n ≤ length card → Shows a card card n
@@ -40,8 +37,3 @@ module _ (a : Compiled) (card : List ℕ) where
 
       whole : Put card 0 (refusalLine number line) out r
       whole = put-put card 0 (((refusedWord ++ decimal number) ++ lineWord) ++ decimal line) f v newline out r four p₅
-
--- the lent buffers have the documented lengths
-pub prints-with : (text old out : List ℕ) (r : ℕ) (a : Compiled) (card lent : List ℕ) → Answers (outcome narrow documented text lent (length old)) old card a → lent ≡ documented
-    → Shows a card out r → Prints text old out r
-prints-with text old out r a card lent w e p = record { answer = a; card = card; answers = subst (λ x. Answers (outcome narrow documented text x (length old)) old card a) e w; shows = p }

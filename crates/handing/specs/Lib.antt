@@ -1,0 +1,3 @@
+-- What the board is handed, and what the whole way answers.
+pub mod Answers
+pub mod Handing

@@ -1,0 +1,2 @@
+-- What the compiling program writes.
+pub mod Shown
