@@ -4,7 +4,6 @@ use evaluate::run;
 use evaluate::run::Evaluated;
 use kept::Place;
 use lexer::kinds::KindTable;
-use lexer::kinds::KindTable;
 use operands::Layout;
 use progress::Book;
 use progress::Next;
