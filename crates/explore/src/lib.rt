@@ -26,7 +26,7 @@ pub fn explore(
     let mut twins = [255; 64];
     columns::twins(a, b, s, &mut twins);
     let mut heads = [0; 512];
-    let sum = sets::start_row(a, b, s, row);
+    let sum = dispatch::start_row(a, b, s, row);
     chains::append(rows, w, 0, &row[..]);
     let h = chains::hash(sum);
     chains::chain(table, &mut heads, 0, h);

@@ -29,7 +29,7 @@ pub fn list(
     }
     let w = s.w;
     let at = state * w;
-    sets::gather(s, &rows[at..at + w], members)
+    dispatch::gather(s, &rows[at..at + w], members)
 }
 
 // Lays out the flags of the first `count` rows.
@@ -41,7 +41,7 @@ pub fn flag_rows(a: &[u16], b: &[u16], s: Shape, rows: &[u8], table: &mut [u16],
     let mut p = 0;
     while p < count {
         let at = p * w;
-        table[p] = sets::flag(a, b, s, &rows[at..at + w]);
+        table[p] = dispatch::flag(a, b, s, &rows[at..at + w]);
         p += 1;
     }
 }

@@ -34,7 +34,7 @@ pub fn turn(
     let w = s.w;
     let limit = s.limit;
     let at = state * w;
-    let sum = sets::next_row(a, b, s, column, &rows[at..at + w], members, held, row);
+    let sum = dispatch::next_row(a, b, s, column, &rows[at..at + w], members, held, row);
     let h = chains::hash(sum);
     match chains::find(&rows[..], &table[..], heads, w, count, &row[..], h) {
         chains::Found::At(j) => {
