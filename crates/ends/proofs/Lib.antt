@@ -1,0 +1,2 @@
+-- Laws of the parts of the pass.
+pub mod EndsLaws

@@ -1,0 +1,2 @@
+-- What the parts of the pass require and leave.
+pub mod Ends

@@ -1,0 +1,195 @@
+-- On a card that loads the test of a factor is exact; so the reply is right, for every row of bytes as card and every plan, and one reply only is.
+use mathlib.Core.Path.{_≡_, refl, sym, ap, _∙_}
+use mathlib.Core.Bool.{Bool, true, false, not, false≢true}
+use mathlib.Core.Logic.{_⊎_, inl, inr, _↔_, _≢_}
+use mathlib.Core.List.{List, [], _∷_, _++_, append-nil, append-assoc}
+use Prim.Native.Nat.{ℕ, zero, suc, _+_, _≤_, _<_}
+use native.Mathlib.Omega.{arith}
+use lib.ListN.{length, getD, take, drop, take-append-drop}
+use lib.Dec.{eqb}
+use Rattle.automata.specs.Booleans.{not-true}
+use Rattle.automata.specs.Basics.{LtCases, lt-cases, nat-test}
+use Rattle.automata.specs.Automaton.{Over, run, run-append, Reachable}
+use Rattle.automata.specs.Machine.{Machine, automaton, access, run-inside}
+use Rattle.automata.specs.Decide.{unless-elim, contradict, any-below, below-any}
+use Rattle.automata.specs.Format.{Format}
+use Rattle.card.specs.Mark.{Mark, is-accepting, is-dead, is-live}
+use Rattle.card.specs.Layout.{letterCount, stateCount, markAt, lettersOf, machineOf}
+use Rattle.card.specs.LayoutLaws.{letters-length, size-is}
+use Rattle.card.specs.Alphabet.{column, columns, columns-append, columns-spell, spell, Known, known-left, known-append, known-at, knownCount, Counted, counted, all-known, first-unknown}
+use Rattle.card.specs.Load.{loadTest}
+use Rattle.card.specs.LoadLaws.{tested, tested-only}
+use Rattle.card.specs.Loads.{Loaded, load-loaded, loaded-formed}
+use Rattle.card.specs.Allowed.{count-known, allows-iff, allows-word, known-right}
+use Rattle.card.specs.Judge.{stateAfter, cardAllows}
+use Rattle.card.specs.RunLaws.{state-machine}
+use Rattle.factor.specs.Factor.{factor, Inside, Shortest, none, at, Blames, blames-one, blames-none, nothing-empty}
+use Rattle.factor.specs.Shortest.{insideTest, shortestBy, Reply, found, refused, shortest, Replies, no-card, unknown-letter, blamed}
+use Rattle.factor.specs.ShortestLaws.{passed, failed, shortest-blames}
+
+-- A factor of known letters has known letters.
+pub known-factor : (fmt : Format) (c plan : List ℕ) (i k : ℕ) → Known (lettersOf fmt c) plan → Known (lettersOf fmt c) (factor plan i k)
+known-factor fmt c plan i k o =
+    let d : Known (lettersOf fmt c) (drop i plan) = known-right (lettersOf fmt c) (machineOf fmt c) (take i plan) (drop i plan) (rw (take-append-drop i plan) o) in
+    known-left (lettersOf fmt c) (factor plan i k) (drop k (drop i plan)) (rw (take-append-drop k (drop i plan)) d)
+
+module _ (fmt : Format) (c : List ℕ) (l : Loaded fmt c) where
+  abbrev ls : List ℕ
+  ls = lettersOf fmt c
+
+  abbrev M : Machine
+  M = machineOf fmt c
+
+  width : length ls ≡ letterCount fmt c
+  width = letters-length fmt c (l .contents)
+
+  -- the state after s from state p, by the machine
+  along : (s : List ℕ) (p : ℕ) → p < stateCount fmt c → Known ls s → stateAfter fmt c s p ≡ run (automaton M) p (columns ls s)
+  along s p h o = state-machine fmt c l s p h o
+
+  within : (s : List ℕ) (p : ℕ) → p < stateCount fmt c → Known ls s → run (automaton M) p (columns ls s) < stateCount fmt c
+  within s p h o = rw (← size-is fmt c (l .contents)) (run-inside (letterCount fmt c) M (loaded-formed fmt c l) p (columns ls s) (rw (size-is fmt c (l .contents)) h) (rw (← width) o))
+
+  -- A factor lies inside some allowed plan exactly when it leads some state to one that is not dead: every state is reached, so what is behind a state
+  -- ends an allowed plan.
+  pub inside-exact : (s : List ℕ) → Known ls s → (insideTest fmt c s ≡ true) ↔ Inside (cardAllows fmt c) s
+  unfolding insideTest
+  inside-exact s o = (to, back)
+    where
+      to : insideTest fmt c s ≡ true → Inside (cardAllows fmt c) s
+      to e = go (markAt fmt c q) refl (l .marked q (within s p h o))
+        where
+          p : ℕ
+          p = any-below _ (stateCount fmt c) e .0
+
+          h : p < stateCount fmt c
+          h = any-below _ (stateCount fmt c) e .1
+
+          q : ℕ
+          q = run (automaton M) p (columns ls s)
+
+          alive : eqb (markAt fmt c q) 2 ≡ false
+          alive = failed (eqb (markAt fmt c q) 2) (rw (along s p h o) at (any-below _ (stateCount fmt c) e .2))
+
+          -- the letters that lead from the start to p
+          r : Reachable (letterCount fmt c) (automaton M) p
+          r = access (letterCount fmt c) M (l .numbered) p (rw (size-is fmt c (l .contents)) h)
+
+          u : List ℕ
+          u = spell ls (r .0)
+
+          spelt : columns ls u ≡ r .0
+          spelt = columns-spell ls (l .alphabet) (r .0) (rw width (r .1))
+
+          us : Known ls (u ++ s)
+          us = known-append ls u s (rw (spelt, width) (r .1)) o
+
+          arrives : run (automaton M) zero (columns ls (u ++ s)) ≡ q
+          arrives = ap (run (automaton M) zero) (columns-append ls u s) ∙ run-append (automaton M) zero (columns ls u) (columns ls s)
+              ∙ ap (λ x. run (automaton M) x (columns ls s)) (ap (run (automaton M) zero) spelt ∙ r .2)
+
+          -- a word that is accepted from q ends an allowed plan with s inside
+          ends : (w : List ℕ) → Over (letterCount fmt c) w → automaton M .accepting (run (automaton M) q w) ≡ true → Inside (cardAllows fmt c) s
+          ends w x t = (u, spell ls w, ap (cardAllows fmt c) (sym (append-assoc u s (spell ls w)))
+              ∙ allows-word ls M (l .alphabet) (u ++ s) us w (rw width x) (rw arrives t))
+
+          go : (v : ℕ) → markAt fmt c q ≡ v → Mark (letterCount fmt c) M q v → Inside (cardAllows fmt c) s
+          go v z (is-accepting f) = ends [] tt f
+          go v z (is-dead d) = contradict (nat-test .whole 2) (rw z at alive)
+          go v z (is-live f w x t) = ends w x t
+
+      back : Inside (cardAllows fmt c) s → insideTest fmt c s ≡ true
+      back (u, v, e) = below-any _ (stateCount fmt c) p h (rw (along s p h o) (go (markAt fmt c q) (l .marked q (within s p h o))))
+        where
+          known : Known ls (u ++ (s ++ v))
+          known = allows-iff ls M (u ++ (s ++ v)) .0 e .0
+
+          ku : Known ls u
+          ku = known-left ls u (s ++ v) known
+
+          p : ℕ
+          p = run (automaton M) zero (columns ls u)
+
+          h : p < stateCount fmt c
+          h = within u zero (l .contents .states-some) ku
+
+          q : ℕ
+          q = run (automaton M) p (columns ls s)
+
+          kv : Known ls v
+          kv = known-right ls M s v (known-right ls M u (s ++ v) known)
+
+          accepted : automaton M .accepting (run (automaton M) q (columns ls v)) ≡ true
+          accepted = ap (automaton M .accepting) (sym (run-append (automaton M) p (columns ls s) (columns ls v))
+              ∙ ap (run (automaton M) p) (sym (columns-append ls s v))
+              ∙ sym (run-append (automaton M) zero (columns ls u) (columns ls (s ++ v)))
+              ∙ ap (run (automaton M) zero) (sym (columns-append ls u (s ++ v))))
+              ∙ allows-iff ls M (u ++ (s ++ v)) .0 e .1
+
+          go : (m : ℕ) → Mark (letterCount fmt c) M q m → not (eqb m 2) ≡ true
+          go m (is-accepting f) = refl
+          go m (is-dead d) = contradict accepted (d (columns ls v) (rw (← width) kv))
+          go m (is-live f w x t) = refl
+
+  -- THE ANSWER of a loaded card on a plan of its letters is the right one.
+  pub loaded-blames : (plan : List ℕ) → Known ls plan → Blames (cardAllows fmt c) plan (shortestBy (insideTest fmt c) plan)
+  loaded-blames plan o = shortest-blames (insideTest fmt c) (cardAllows fmt c) plan (λ i k h. inside-exact (factor plan i k) (known-factor fmt c plan i k o))
+
+-- ---- every reply
+
+-- THE SEARCH replies so,
+pub replies : (fmt : Format) (c plan : List ℕ) → Replies fmt c plan (shortest fmt c plan)
+unfolding shortest
+replies fmt c plan =
+    unless-elim (Replies fmt c plan) (refused (loadTest fmt c) 0) (eqb (loadTest fmt c) 0) _
+    (λ e. no-card (loadTest fmt c) (λ z. contradict (rw z (nat-test .whole 0)) e) (tested fmt c)) λ e₁.
+    let z : loadTest fmt c ≡ 0 = nat-test .sound (loadTest fmt c) 0 e₁ in
+    unless-elim (Replies fmt c plan) (refused 27 (knownCount (lettersOf fmt c) plan)) (eqb (knownCount (lettersOf fmt c) plan) (length plan)) _
+    (λ e. unknown-at z (knownCount (lettersOf fmt c) plan) e (counted (lettersOf fmt c) plan)) λ e₂.
+    let o : Known (lettersOf fmt c) plan = count-known (lettersOf fmt c) plan (nat-test .sound (knownCount (lettersOf fmt c) plan) (length plan) e₂) in
+    blamed z o (shortestBy (insideTest fmt c) plan) (loaded-blames fmt c (load-loaded fmt c z) plan o)
+  where
+    unknown-at : loadTest fmt c ≡ 0 → (n : ℕ) → eqb n (length plan) ≡ false → Counted (lettersOf fmt c) plan n → Replies fmt c plan (refused 27 n)
+    unknown-at z n e (all-known o) = contradict (nat-test .whole (length plan)) e
+    unknown-at z n e (first-unknown j b f x) = unknown-letter z j b f x
+
+-- and one reply only is right.
+pub replies-only : (fmt : Format) (c plan : List ℕ) (r : Reply) → Replies fmt c plan r → shortest fmt c plan ≡ r
+replies-only fmt c plan r a = go (shortest fmt c plan) r (replies fmt c plan) a
+  where
+    go : (r r′ : Reply) → Replies fmt c plan r → Replies fmt c plan r′ → r ≡ r′
+    go r r′ (no-card v n t) (no-card v′ n′ t′) = ap (λ v. refused v 0) (sym (tested-only fmt c v t) ∙ tested-only fmt c v′ t′)
+    go r r′ (no-card v n t) (unknown-letter z j b f x) = absurd (n (sym (tested-only fmt c v t) ∙ z))
+    go r r′ (no-card v n t) (blamed z o s y) = absurd (n (sym (tested-only fmt c v t) ∙ z))
+    go r r′ (unknown-letter z j b f x) (no-card v n t) = absurd (n (sym (tested-only fmt c v t) ∙ z))
+    go r r′ (unknown-letter z j b f x) (unknown-letter z′ j′ b′ f′ x′) = ap (refused 27) (at (lt-cases j j′) (lt-cases j′ j))
+      where
+        at : LtCases j j′ → LtCases j′ j → j ≡ j′
+        at (inl p) q = let y = f′ j (p .0) in absurd (omega arith)
+        at (inr p) (inl q) = let y = f j′ (q .0) in absurd (omega arith)
+        at (inr p) (inr q) = omega arith
+    go r r′ (unknown-letter z j b f x) (blamed z′ o s y) = let y = known-at (lettersOf fmt c) plan o j b in absurd (omega arith)
+    go r r′ (blamed z o s y) (no-card v′ n t) = absurd (n (sym (tested-only fmt c v′ t) ∙ z))
+    go r r′ (blamed z o s y) (unknown-letter z′ j b f x) = let y = known-at (lettersOf fmt c) plan o j b in absurd (omega arith)
+    go r r′ (blamed z o s y) (blamed z′ o′ s′ y′) = ap found (blames-one (cardAllows fmt c) plan s s′ y y′)
+
+module _ (fmt : Format) (c plan : List ℕ) (z : loadTest fmt c ≡ 0) (o : Known (lettersOf fmt c) plan) where
+  -- On a loaded card and a plan of its letters the reply is r just when r is the right answer,
+  pub shortest-iff : (r : Shortest) → (shortest fmt c plan ≡ found r) ↔ Blames (cardAllows fmt c) plan r
+  shortest-iff r = (λ e. go (shortest fmt c plan) e (replies fmt c plan), λ s. replies-only fmt c plan (found r) (blamed z o r s))
+    where
+      go : (a : Reply) → a ≡ found r → Replies fmt c plan a → Blames (cardAllows fmt c) plan r
+      go a e (no-card w n t) = absurd (n (sym (tested-only fmt c w t) ∙ z))
+      go a e (unknown-letter y j b f x) = let k = known-at (lettersOf fmt c) plan o j b in absurd (omega arith)
+      go a e (blamed y k s t) = let q : s ≡ r = cc in rw q at t
+
+  -- NONE EXACTLY WHEN the whole plan lies inside some allowed plan,
+  pub none-iff : (shortest fmt c plan ≡ found none) ↔ Inside (cardAllows fmt c) plan
+  none-iff = (
+    λ e. blames-none (cardAllows fmt c) plan .0 (shortest-iff none .0 e),
+    λ s. shortest-iff none .1 (blames-none (cardAllows fmt c) plan .1 s),
+  )
+
+  -- and on a card that allows nothing THE EMPTY STRETCH AT PLACE 0.
+  pub nothing-allowed : ((w : List ℕ) → cardAllows fmt c w ≡ false) → shortest fmt c plan ≡ found (at 0 0)
+  nothing-allowed f = shortest-iff (at 0 0) .1 (nothing-empty (cardAllows fmt c) plan f)

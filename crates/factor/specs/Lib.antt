@@ -1,0 +1,5 @@
+-- The shortest factor of a plan that lies inside no allowed plan.
+pub mod Factor
+pub mod Shortest
+pub mod ShortestLaws
+pub mod CardLaws
