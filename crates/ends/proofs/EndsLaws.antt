@@ -81,7 +81,7 @@ module _ (moves : List ℕ) (m n column dead : ℕ) (old : List ℕ) (from to : 
     move-place = rw (e, r .table) (cell-below n m q column h (r .known))
 
     pub move-inside : getD moves at 0 < n
-    move-inside = r .inside at move-place
+    move-inside = rw e (r .inside q h)
 
     pub end-inside : from + getD moves at 0 < length old
     end-inside = omega (arith, move-inside, r .before)

@@ -21,11 +21,11 @@ pub record Filled (n dead here never : ℕ) (old new : List ℕ) : Type 0 where
   pub long : length new ≡ length old
   pub entry : (q : ℕ) → q < n → getD new q 0 ≡ placed dead here (λ _. never) q
 
--- The moves lead to states, by each of m columns; the places before and after lie apart, with one entry more for no dead state.
+-- The moves by a column of m lead to states; the places before and after lie apart, with one entry more for no dead state.
 pub record Stepping (moves : List ℕ) (m n column dead : ℕ) (ends : List ℕ) (from to : ℕ) : Type 0 where
   pub known : column < m
   pub table : length moves ≡ n * m
-  pub inside : (i : ℕ) → i < length moves → getD moves i 0 < n
+  pub inside : (q : ℕ) → q < n → getD moves (q * m + column) 0 < n
   pub least : dead ≤ n
   pub before : from + n ≤ length ends
   pub after : to + n < length ends

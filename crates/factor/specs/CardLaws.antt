@@ -131,6 +131,18 @@ module _ (fmt : Format) (c : List ℕ) (l : Loaded fmt c) where
           go m (is-dead d) = contradict accepted (d (columns ls v) (rw (← width) kv))
           go m (is-live f w x t) = refl
 
+  -- from one state that is led to no dead one, and from all
+  pub inside-from : (s : List ℕ) → Known ls s → (p : ℕ) → p < stateCount fmt c → markAt fmt c (stateAfter fmt c s p) ≢ 2 → Inside (cardAllows fmt c) s
+  unfolding insideTest
+  inside-from s o p h f = inside-exact s o .0
+      (below-any _ (stateCount fmt c) p h (rw (not-true (eqb (markAt fmt c (stateAfter fmt c s p)) 2) (λ t. f (nat-test .sound (markAt fmt c (stateAfter fmt c s p)) 2 t)))))
+
+  pub outside-dead : (s : List ℕ) → Known ls s → ((p : ℕ) → p < stateCount fmt c → markAt fmt c (stateAfter fmt c s p) ≡ 2) → ¬ Inside (cardAllows fmt c) s
+  unfolding insideTest
+  outside-dead s o f e =
+      let (p, h, t) = any-below _ (stateCount fmt c) (inside-exact s o .1 e) in
+      contradict (rw (f p h) (nat-test .whole 2)) (failed (eqb (markAt fmt c (stateAfter fmt c s p)) 2) t)
+
   -- THE ANSWER of a loaded card on a plan of its letters is the right one.
   pub loaded-blames : (plan : List ℕ) → Known ls plan → Blames (cardAllows fmt c) plan (shortestBy (insideTest fmt c) plan)
   loaded-blames plan o = shortest-blames (insideTest fmt c) (cardAllows fmt c) plan (λ i k h. inside-exact (factor plan i k) (known-factor fmt c plan i k o))
@@ -189,6 +201,10 @@ module _ (fmt : Format) (c plan : List ℕ) (z : loadTest fmt c ≡ 0) (o : Know
     λ e. blames-none (cardAllows fmt c) plan .0 (shortest-iff none .0 e),
     λ s. shortest-iff none .1 (blames-none (cardAllows fmt c) plan .1 s),
   )
+
+  -- also where judging says allowed or unfinished,
+  pub begins-none : (rest : List ℕ) → cardAllows fmt c (plan ++ rest) ≡ true → shortest fmt c plan ≡ found none
+  begins-none rest e = none-iff .1 ([], rest, e)
 
   -- and on a card that allows nothing THE EMPTY STRETCH AT PLACE 0.
   pub nothing-allowed : ((w : List ℕ) → cardAllows fmt c w ≡ false) → shortest fmt c plan ≡ found (at 0 0)

@@ -86,6 +86,10 @@ module _ (inside : List ℕ → Bool) (ok : List ℕ → Bool) (plan : List ℕ)
       go : LtCases k (suc (length plan)) → Blames ok plan (shortestBy inside plan)
       go (inl p) =
           let b : leftmost inside plan k < places plan k = ltb-lt (leftmost inside plan k) (places plan k) (search .passes (omega (arith, p .0))) in
-          rw (p .1) (is-at (leftmost inside plan k) k (omega (arith, p .0)) (at-leftmost k (omega (arith, p .0)) b) shorter
-          (λ j h. before-leftmost k j (omega (arith, p .0)) (omega arith) h))
+          rw (p .1) (is-at (leftmost inside plan k) k (record {
+            most = omega (arith, p .0);
+            outside = at-leftmost k (omega (arith, p .0)) b;
+            shorter = shorter;
+            left = λ j h. before-leftmost k j (omega (arith, p .0)) (omega arith) h;
+          }))
       go (inr p) = rw (p .1) (is-none (subst (Inside ok) (take-length plan) (shorter 0 (length plan) (omega arith) (omega (arith, p .0)))))

@@ -81,7 +81,7 @@ fn walk_on(card: &[u8], m: usize, n: usize, table: &[u8; 256], plan: &[u8], stat
 }
 
 // The place of the first letter from `from` on that is not on the card, or the piece's length.
-fn known(card: &[u8], m: usize, n: usize, table: &[u8; 256], plan: &[u8], from: usize) -> usize
+pub fn known(card: &[u8], m: usize, n: usize, table: &[u8; 256], plan: &[u8], from: usize) -> usize
     requires { ⌜ Ready (now card) m n × ColumnTable (lettersOf narrow (now card)) (now table) × (from ≤ length (now plan)) ⌝ }
     ensures { λ r. ⌜ KnownTo (lettersOf narrow (now (card .entry))) (now (plan .entry)) from r ⌝ }
 {

@@ -1,0 +1,43 @@
+-- The pass from the plan's end: where each state is dead first, and the best stretch so far.
+use mathlib.Core.Path.{_≡_}
+use mathlib.Core.Logic.{_⊎_}
+use mathlib.Core.List.{List}
+use Prim.Native.Nat.{ℕ, suc, _+_, _*_, _-_, _≤_, _<_}
+use lib.ListN.{length, getD, drop}
+use Rattle.automata.specs.Format.{narrow}
+use Rattle.card.specs.Layout.{stateCount, lettersOf}
+use Rattle.card.specs.Alphabet.{Known}
+use Rattle.card.specs.Judge.{Place, none, found, firstDead, cardAllows}
+use Rattle.factor.specs.Factor.{Shortest, Blames}
+use Rattle.factor.specs.Shortest.{found as replied}
+use Rattle.run.specs.Walk.{Ready, ColumnTable}
+use Rattle.forbidden.specs.declared.Answer.{Answer}
+use Rattle.forbidden.specs.declared.Best.{Best}
+use Rattle.forbidden.specs.Reading.{answerOf}
+
+-- A card that loads, with its table of columns, and a plan of its letters.
+pub record Searchable (c : List ℕ) (m n : ℕ) (table plan : List ℕ) : Type 0 where
+  pub ready : Ready c m n
+  pub columns : ColumnTable (lettersOf narrow c) table
+  pub known : Known (lettersOf narrow c) plan
+
+-- The answer is the right one for the plans that the card allows.
+pub record Searched (c plan : List ℕ) (a : Answer) : Type 0 where
+  pub answer : Shortest
+  pub is : answerOf a ≡ replied answer
+  pub right : Blames (cardAllows narrow c) plan answer
+
+-- A place as a number, `never` where there is none.
+abbrev pub placeOr : ℕ → Place → ℕ
+placeOr never none = never
+placeOr never (found k) = k
+
+-- Of each state the place where, by the letters from i on, it is dead first.
+pub record Places (c plan : List ℕ) (never i from : ℕ) (ends : List ℕ) : Type 0 where
+  pub entry : (q : ℕ) → q < stateCount narrow c → getD ends (from + q) 0 ≡ placeOr never (firstDead narrow c (drop i plan) q i)
+
+-- The stretch from i to `last`, where there is one and it is not longer than the best; else the best.
+pub data Bettered (b : Best) (i last never : ℕ) (r : Best) : Type 0 where
+  nearer : last < never → last - i ≤ b .length → r .start ≡ i → r .length ≡ last - i → Bettered b i last never r
+  nowhere : never ≤ last → r ≡ b → Bettered b i last never r
+  longer : last < never → b .length < last - i → r ≡ b → Bettered b i last never r
