@@ -10,7 +10,8 @@ ghost use Rattle.card.specs.Step.{stepOn};
 ghost use lib.ListN.{length};
 ghost use Rattle.compiler.specs.Outcome.{outcome};
 ghost use Rattle.driver.specs.Entry.{documented, lentLengths};
-ghost use Rattle.numbers.specs.Handed.{handed, numbers};
+ghost use Rattle.factor.specs.Shortest.{shortest};
+ghost use Rattle.numbers.specs.Handed.{handed, numbers, shortestNumbers};
 ghost use Rattle.capi.specs.Compiles.{Compiles};
 
 // Loading: 0, and letters, states, 0; or 21 to 26.
@@ -36,6 +37,15 @@ pub extern "C" fn pier_judge(card: &[u8], plan: &[u8], out: &mut [u64; 3]) -> u6
     ensures { λ r. ⌜ handed r (now (out .exit)) ≡ numbers (replyNumbers (judge narrow (now (card .entry)) (now (plan .entry)))) ⌝ }
 {
     numbers::judged(board::judge(card, plan), out)
+}
+
+// The shortest factor of a plan that lies inside no allowed plan: 0, and 1, its start, its length, or three zeros for none; or 21 to 26; or 27, and 0, the
+// letters before the first unknown one, 0.
+#[no_mangle]
+pub extern "C" fn pier_shortest(card: &[u8], plan: &[u8], out: &mut [u64; 3]) -> u64
+    ensures { λ r. ⌜ handed r (now (out .exit)) ≡ shortestNumbers (shortest narrow (now (card .entry)) (now (plan .entry))) ⌝ }
+{
+    numbers::blamed(forbidden::shortest(card, plan), out)
 }
 
 // Compiling: 0, and 0, the card's length, the peak; or the number of a refusal, and its line, 0, 0. The card stands in front of the card buffer, or the

@@ -3,6 +3,8 @@ use Prim.Native.Nat.{ℕ}
 use mathlib.Core.List.{List, [], _∷_}
 use Rattle.card.specs.Answer.{Numbers}
 use Rattle.compiler.specs.Outcome.{Answer}
+use Rattle.factor.specs.Factor.{none, at}
+use Rattle.factor.specs.Shortest.{Reply, found, refused}
 
 -- The function's own result, which is the paper's number or 0, and the three numbers of `out`.
 pub record Handed : Type 0 where
@@ -19,3 +21,9 @@ numbers n = handed (n .number) (n .first ∷ n .second ∷ 0 ∷ [])
 -- what compiling returns: line, length, peak
 abbrev pub answerNumbers : Answer → Handed
 answerNumbers a = handed (a .number) (a .line ∷ a .length ∷ a .peak ∷ [])
+
+-- the shortest factor inside no allowed plan: 1, its start and its length; 0, 0, 0 for none; or 21 to 26; or 27 with the letters before the first unknown one
+abbrev pub shortestNumbers : Reply → Handed
+shortestNumbers (found none) = handed 0 (0 ∷ 0 ∷ 0 ∷ [])
+shortestNumbers (found (at i k)) = handed 0 (1 ∷ i ∷ k ∷ [])
+shortestNumbers (refused number before) = handed number (0 ∷ before ∷ 0 ∷ [])

@@ -4,9 +4,10 @@ ghost use mathlib.Core.List.{_∷_, []};
 ghost use Rattle.card.specs.Answer.{loadNumbers, stepNumbers, replyNumbers};
 ghost use Rattle.run.specs.Reading.{replyOf};
 ghost use Rattle.board.specs.Answers.{loading, stepping};
+ghost use Rattle.forbidden.specs.Reading.{answerOf};
 ghost use Rattle.plans.specs.Many.{manyOf};
 ghost use Rattle.frame.specs.Frame.{reading};
-ghost use Rattle.numbers.specs.Handed.{handed, numbers, answerNumbers};
+ghost use Rattle.numbers.specs.Handed.{handed, numbers, answerNumbers, shortestNumbers};
 
 // The number handed back, and three numbers in `out`.
 fn put(out: &mut [u64; 3], number: u64, first: u64, second: u64, third: u64) -> u64
@@ -48,6 +49,18 @@ pub fn judged(answer: run::Answer, out: &mut [u64; 3]) -> u64
             run::Verdict::Unfinished => put(out, 0, 0, 0, 0),
             run::Verdict::Hopeless(k) => put(out, 0, 2, k as u64, 0),
         },
+    }
+}
+
+// The shortest factor inside no allowed plan: 0, and 1, its start, its length, or three zeros for none; or 21 to 26; or 27, and 0, the letters before the
+// first unknown one, 0.
+pub fn blamed(answer: forbidden::Answer, out: &mut [u64; 3]) -> u64
+    ensures { λ r. ⌜ handed r (now (out .exit)) ≡ shortestNumbers (answerOf answer) ⌝ }
+{
+    match answer {
+        forbidden::Answer::Refused(number, before) => put(out, number as u64, 0, before as u64, 0),
+        forbidden::Answer::None => put(out, 0, 0, 0, 0),
+        forbidden::Answer::At(start, length) => put(out, 0, 1, start as u64, length as u64),
     }
 }
 
