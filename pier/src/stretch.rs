@@ -1,0 +1,79 @@
+//! `pier stretch`: plans, one a line, and of each the shortest stretch that lies
+//! inside no allowed plan.
+
+use crate::arguments::{Arguments, Choice};
+use crate::command::Command;
+use crate::plans::{self, Plans};
+use crate::progress::Progress;
+use crate::proved::{self, Shortest};
+use crate::tally::{Kind, Tally};
+use crate::{card, files, judge, reply, Done, Failure};
+
+pub const COMMAND: Command = Command {
+    name: "stretch",
+    about: "find the letters to blame, plan by plan",
+    files: &["CARD", "[PLANS]"],
+    output: None,
+    choices: &[Choice::Explain, Choice::WithoutStretch, Choice::Progress],
+    more: "\
+Finds in each plan, one a line, from the file PLANS or from standard input, the
+shortest stretch of letters in a row that lies inside no allowed plan, wherever
+it may stand there; of equal ones the leftmost. It prints for each plan:
+  none                  the whole plan lies inside some allowed plan
+  stretch START LENGTH  START letters stand before it; every shorter stretch of
+                        this plan lies inside some allowed plan
+  refused 27            a letter that is not on the card
+An empty line is the empty plan. Where the card allows nothing, the stretch is
+empty: stretch 0 0. --explain sets the stretch in square brackets, and a ?
+before a letter that is not on the card. From 10 plans on a last line, on
+standard error, counts the replies.
+",
+    run,
+};
+
+/// From so many bytes on replies are printed, also within a piece of plans.
+const FULL: usize = 1 << 16;
+
+pub fn run(arguments: &Arguments) -> Done {
+    let path = judge::plans_of(arguments)?;
+    let card = card::read(&arguments.files[0])?;
+    let mut plans = Plans::open(path)?;
+    let mut progress = Progress::new(plans.length, arguments.has(Choice::Progress));
+    let mut tally = Tally::of(&[Kind::None, Kind::Stretch]);
+    let mut out = Vec::new();
+    while let Some(bytes) = plans.next()? {
+        for plan in plans::lines(bytes) {
+            let found = proved::shortest(&card, plan);
+            note(&mut tally, plan, found);
+            if arguments.has(Choice::Explain) {
+                reply::push_bracketed(&mut out, plan, found);
+                out.push(b'\t');
+            }
+            reply::push_shortest(&mut out, found);
+            out.push(b'\n');
+            progress.judged(1, plan.len() + 1);
+            if out.len() >= FULL {
+                print(&mut out)?;
+            }
+        }
+        print(&mut out)?;
+    }
+    progress.end();
+    files::complain(&tally.message());
+    Ok(tally.status(arguments.has(Choice::WithoutStretch)))
+}
+
+fn print(out: &mut Vec<u8>) -> Result<(), Failure> {
+    files::print(out)?;
+    out.clear();
+    Ok(())
+}
+
+fn note(tally: &mut Tally, plan: &[u8], found: Shortest) {
+    match found {
+        Shortest::None => tally.note(Kind::None),
+        Shortest::At { .. } => tally.note(Kind::Stretch),
+        Shortest::UnknownLetter { before } => tally.note_foreign(before, || plan),
+        Shortest::Refused(number) => tally.note_refused(number),
+    }
+}
