@@ -2,11 +2,9 @@
 
 use crate::arguments::{Arguments, Choice};
 use crate::command::Command;
-use crate::plans::{self, Plans};
-use crate::progress::Progress;
 use crate::proved::{self, Judged, Replies};
 use crate::tally::{Kind, Tally};
-use crate::{card, files, reply, Done, Failure};
+use crate::{card, files, plans, reply, Done, Failure};
 use std::path::{Path, PathBuf};
 
 pub const COMMAND: Command = Command {
@@ -48,26 +46,14 @@ pub fn plans_of(arguments: &Arguments) -> Result<&Path, Failure> {
 
 /// Judges all plans of a file by a card that loads.
 pub fn judge(card: &[u8], path: &Path, arguments: &Arguments) -> Done {
-    let mut plans = Plans::open(path)?;
-    let mut progress = Progress::new(plans.length, arguments.has(Choice::Progress));
     let mut tally = Tally::of(&[Kind::Allowed, Kind::Unfinished, Kind::Hopeless]);
-    let mut replies = plans::room();
-    let mut out = Vec::new();
-    while let Some(mut rest) = plans.next()? {
-        while !rest.is_empty() {
-            let (judged, replies) = plans::judge(card, rest, &mut replies)?;
-            progress.judged(replies.len(), judged.len());
-            if arguments.has(Choice::Explain) {
-                explain(&mut out, card, judged, replies, &mut tally);
-            } else {
-                answer(&mut out, judged, replies, &mut tally);
-            }
-            files::print(&out)?;
-            out.clear();
-            rest = &rest[judged.len()..];
+    plans::each(card, path, arguments.has(Choice::Progress), |out, bytes, replies| {
+        if arguments.has(Choice::Explain) {
+            explain(out, card, bytes, replies, &mut tally);
+        } else {
+            answer(out, bytes, replies, &mut tally);
         }
-    }
-    progress.end();
+    })?;
     files::complain(&tally.message());
     Ok(tally.status(arguments.has(Choice::Strict)))
 }

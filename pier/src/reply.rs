@@ -50,7 +50,7 @@ pub fn push_line(out: &mut Vec<u8>, judged: Judged) {
 /// The shortest stretch in words.
 pub fn push_shortest(out: &mut Vec<u8>, found: Shortest) {
     let words = match found {
-        Shortest::None => NONE.into(),
+        Shortest::None => return out.extend_from_slice(NONE.as_bytes()),
         Shortest::At { start, length } => format!("{STRETCH} {start} {length}"),
         Shortest::UnknownLetter { .. } => format!("{REFUSED} {FOREIGN_LETTER}"),
         Shortest::Refused(number) => format!("{REFUSED} {number}"),

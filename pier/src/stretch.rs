@@ -3,11 +3,9 @@
 
 use crate::arguments::{Arguments, Choice};
 use crate::command::Command;
-use crate::plans::{self, Plans};
-use crate::progress::Progress;
-use crate::proved::{self, Shortest};
+use crate::proved::{self, Judged, Shortest};
 use crate::tally::{Kind, Tally};
-use crate::{card, files, judge, reply, Done, Failure};
+use crate::{card, files, judge, plans, reply, Done};
 
 pub const COMMAND: Command = Command {
     name: "stretch",
@@ -31,42 +29,33 @@ standard error, counts the replies.
     run,
 };
 
-/// From so many bytes on replies are printed, also within a piece of plans.
-const FULL: usize = 1 << 16;
-
 pub fn run(arguments: &Arguments) -> Done {
     let path = judge::plans_of(arguments)?;
     let card = card::read(&arguments.files[0])?;
-    let mut plans = Plans::open(path)?;
-    let mut progress = Progress::new(plans.length, arguments.has(Choice::Progress));
     let mut tally = Tally::of(&[Kind::None, Kind::Stretch]);
-    let mut out = Vec::new();
-    while let Some(bytes) = plans.next()? {
-        for plan in plans::lines(bytes) {
-            let found = proved::shortest(&card, plan);
+    plans::each(&card, path, arguments.has(Choice::Progress), |out, bytes, replies| {
+        for (plan, judged) in plans::lines(bytes).zip(replies) {
+            let found = shortest(&card, plan, judged);
             note(&mut tally, plan, found);
             if arguments.has(Choice::Explain) {
-                reply::push_bracketed(&mut out, plan, found);
+                reply::push_bracketed(out, plan, found);
                 out.push(b'\t');
             }
-            reply::push_shortest(&mut out, found);
+            reply::push_shortest(out, found);
             out.push(b'\n');
-            progress.judged(1, plan.len() + 1);
-            if out.len() >= FULL {
-                print(&mut out)?;
-            }
         }
-        print(&mut out)?;
-    }
-    progress.end();
+    })?;
     files::complain(&tally.message());
     Ok(tally.status(arguments.has(Choice::WithoutStretch)))
 }
 
-fn print(out: &mut Vec<u8>) -> Result<(), Failure> {
-    files::print(out)?;
-    out.clear();
-    Ok(())
+/// A plan that is allowed or unfinished lies at the beginning of an allowed one;
+/// the others are searched, with a test of the card each.
+fn shortest(card: &[u8], plan: &[u8], judged: Judged) -> Shortest {
+    match judged {
+        Judged::Allowed | Judged::Unfinished => Shortest::None,
+        _ => proved::shortest(card, plan),
+    }
 }
 
 fn note(tally: &mut Tally, plan: &[u8], found: Shortest) {
