@@ -11,6 +11,8 @@ use std::path::{Path, PathBuf};
 pub enum Choice {
     Explain,
     Strict,
+    /// `--strict` of `pier stretch`.
+    WithoutStretch,
     Progress,
     All,
 }
@@ -19,7 +21,7 @@ impl Choice {
     pub fn spelled(self) -> &'static str {
         match self {
             Choice::Explain => "--explain",
-            Choice::Strict => "--strict",
+            Choice::Strict | Choice::WithoutStretch => "--strict",
             Choice::Progress => "--progress",
             Choice::All => "--all",
         }
@@ -29,6 +31,7 @@ impl Choice {
         match self {
             Choice::Explain => "prints the plan before each reply",
             Choice::Strict => "status 1 where a plan is not allowed",
+            Choice::WithoutStretch => "status 1 where a plan has a stretch",
             Choice::Progress => "tells how far it is, also where standard error is no terminal",
             Choice::All => "shows the hopeless state and its arrows, whatever the size",
         }

@@ -2,7 +2,9 @@
 //! are made of this table.
 
 use crate::arguments::{Arguments, Choice};
-use crate::{check, compare, compile, completion, draw, guide, help, judge, manual, page, show, trial, version, Done};
+use crate::{
+    check, compare, compile, completion, draw, guide, help, judge, manual, page, show, stretch, trial, version, Done,
+};
 
 pub struct Command {
     pub name: &'static str,
@@ -18,10 +20,11 @@ pub struct Command {
     pub run: fn(&Arguments) -> Done,
 }
 
-pub const COMMANDS: [Command; 13] = [
+pub const COMMANDS: [Command; 14] = [
     compile::COMMAND,
     trial::COMMAND,
     judge::COMMAND,
+    stretch::COMMAND,
     show::COMMAND,
     draw::COMMAND,
     page::COMMAND,

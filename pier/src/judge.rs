@@ -2,11 +2,9 @@
 
 use crate::arguments::{Arguments, Choice};
 use crate::command::Command;
-use crate::plans::{self, Plans};
-use crate::progress::Progress;
-use crate::proved::Replies;
-use crate::reply::{self, Tally};
-use crate::{card, files, Done, Failure, Status};
+use crate::proved::{self, Judged, Replies};
+use crate::tally::{Kind, Tally};
+use crate::{card, files, plans, reply, Done, Failure};
 use std::path::{Path, PathBuf};
 
 pub const COMMAND: Command = Command {
@@ -23,8 +21,10 @@ a reply for each:
   hopeless K    no allowed plan begins with the first K letters
   refused 27    a letter that is not on the card
 An empty line is the empty plan. --explain sets a ! behind the first K letters
-of a hopeless plan, and a ? before a letter that is not on the card. From 10
-plans on a last line, on standard error, counts the replies.
+of a hopeless plan, and a ? before a letter that is not on the card; behind the
+reply to a hopeless plan stands what pier stretch finds in it, or that there is
+no stretch: the plan lies inside some allowed plan, only not at its beginning.
+From 10 plans on a last line, on standard error, counts the replies.
 ",
     run,
 };
@@ -46,40 +46,50 @@ pub fn plans_of(arguments: &Arguments) -> Result<&Path, Failure> {
 
 /// Judges all plans of a file by a card that loads.
 pub fn judge(card: &[u8], path: &Path, arguments: &Arguments) -> Done {
-    let mut plans = Plans::open(path)?;
-    let mut progress = Progress::new(plans.length, arguments.has(Choice::Progress));
-    let mut tally = Tally::default();
-    let mut replies = plans::room();
-    let mut out = Vec::new();
-    while let Some(mut rest) = plans.next()? {
-        while !rest.is_empty() {
-            let (judged, replies) = plans::judge(card, rest, &mut replies)?;
-            progress.judged(replies.len(), judged.len());
-            answer(&mut out, judged, replies, arguments.has(Choice::Explain), &mut tally);
-            files::print(&out)?;
-            out.clear();
-            rest = &rest[judged.len()..];
+    let mut tally = Tally::of(&[Kind::Allowed, Kind::Unfinished, Kind::Hopeless]);
+    plans::each(card, path, arguments.has(Choice::Progress), |out, bytes, replies| {
+        if arguments.has(Choice::Explain) {
+            explain(out, card, bytes, replies, &mut tally);
+        } else {
+            answer(out, bytes, replies, &mut tally);
         }
-    }
-    progress.end();
+    })?;
     files::complain(&tally.message());
-    let fine = if arguments.has(Choice::Strict) { tally.all_allowed() } else { tally.refused == 0 };
-    Ok(if fine { Status::Fine } else { Status::Refused })
+    Ok(tally.status(arguments.has(Choice::Strict)))
 }
 
-/// The replies of one call as lines. The plans are looked for only where they
-/// are shown.
-fn answer(out: &mut Vec<u8>, bytes: &[u8], replies: Replies, explain: bool, tally: &mut Tally) {
-    let mut plans = plans::lines(bytes);
+/// The replies of one call as lines. A plan is looked for only where it must be
+/// told in words.
+fn answer(out: &mut Vec<u8>, bytes: &[u8], replies: Replies, tally: &mut Tally) {
     for (place, judged) in replies.enumerate() {
-        if explain {
-            let plan = plans.next().unwrap_or_default();
-            tally.note(judged, || plan);
-            reply::push_plan(out, plan, judged);
-            out.push(b'\t');
-        } else {
-            tally.note(judged, || plans::lines(bytes).nth(place).unwrap_or_default());
-        }
+        note(tally, judged, || plans::lines(bytes).nth(place).unwrap_or_default());
         reply::push_line(out, judged);
+    }
+}
+
+/// The same with each plan before its reply, and the letters to blame behind that
+/// of a hopeless one.
+fn explain(out: &mut Vec<u8>, card: &[u8], bytes: &[u8], replies: Replies, tally: &mut Tally) {
+    for (plan, judged) in plans::lines(bytes).zip(replies) {
+        note(tally, judged, || plan);
+        reply::push_plan(out, plan, judged);
+        out.push(b'\t');
+        reply::push(out, judged);
+        if let Judged::Hopeless(_) = judged {
+            out.push(b'\t');
+            reply::push_blame(out, proved::shortest(card, plan));
+        }
+        out.push(b'\n');
+    }
+}
+
+#[inline]
+fn note<'a>(tally: &mut Tally, judged: Judged, plan: impl FnOnce() -> &'a [u8]) {
+    match judged {
+        Judged::Allowed => tally.note(Kind::Allowed),
+        Judged::Unfinished => tally.note(Kind::Unfinished),
+        Judged::Hopeless(_) => tally.note(Kind::Hopeless),
+        Judged::UnknownLetter { before } => tally.note_foreign(before, plan),
+        Judged::Refused(number) => tally.note_refused(number),
     }
 }

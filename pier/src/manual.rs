@@ -27,7 +27,8 @@ fn text() -> String {
         text += &format!(".B {}\n.br\n", plain(&command.usage()));
     }
     text += ".SH DESCRIPTION\nA book holds a port's rules; its card is what a board on the pier judges plans by.\n\
-             The compiling, loading and judging are proved functions; reading, writing and words are not.\n\
+             The compiling, loading, judging and the search for a stretch are proved functions; reading, writing and\n\
+             words are not.\n\
              A file name \\- is standard input, or after \\-o (\\-\\-output) standard output; behind \\-\\- every word is\n\
              a file name. An output that is one of the inputs is refused.\n.SH COMMANDS\n";
     for command in &COMMANDS {

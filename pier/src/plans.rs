@@ -2,6 +2,7 @@
 //! entry for many plans, which tests the card once a call.
 
 use crate::pipe::Pipe;
+use crate::progress::Progress;
 use crate::{files, proved, Failure};
 use std::fs::File;
 use std::io::{self, ErrorKind, IsTerminal, Read};
@@ -78,6 +79,33 @@ pub fn judge<'a>(
 ) -> Result<(&'a [u8], proved::Replies<'a>), Failure> {
     proved::judge_lines(card, plans, replies)
         .map_err(|number| Failure::Trouble(format!("the card is refused by {number} now: please report this")))
+}
+
+/// Judges all plans of a file by a card that loads, call by call, and prints what
+/// `answer` makes of the plans' bytes and their replies.
+pub fn each(
+    card: &[u8],
+    path: &Path,
+    tell_progress: bool,
+    mut answer: impl FnMut(&mut Vec<u8>, &[u8], proved::Replies),
+) -> Result<(), Failure> {
+    let mut plans = Plans::open(path)?;
+    let mut progress = Progress::new(plans.length, tell_progress);
+    let mut replies = room();
+    let mut out = Vec::new();
+    while let Some(mut rest) = plans.next()? {
+        while !rest.is_empty() {
+            let (judged, replies) = judge(card, rest, &mut replies)?;
+            let number = replies.len();
+            answer(&mut out, judged, replies);
+            progress.judged(number, judged.len());
+            files::print(&out)?;
+            out.clear();
+            rest = &rest[judged.len()..];
+        }
+    }
+    progress.end();
+    Ok(())
 }
 
 /// The plans of some bytes, without their line ends.

@@ -29,6 +29,22 @@ pub enum Judged {
     Refused(u64),
 }
 
+/// What the search for the shortest stretch that lies inside no allowed plan
+/// answers; places are counted from 0.
+#[derive(Clone, Copy, PartialEq, Eq, Debug)]
+pub enum Shortest {
+    /// The whole plan lies inside some allowed plan.
+    None,
+    At {
+        start: usize,
+        length: usize,
+    },
+    UnknownLetter {
+        before: u64,
+    },
+    Refused(u64),
+}
+
 /// What compiling answers.
 #[derive(Clone, PartialEq, Eq, Debug)]
 pub enum Compiled {
@@ -99,6 +115,18 @@ pub fn judge_lines<'a>(card: &[u8], plans: &'a [u8], replies: &'a mut [u64]) -> 
     }
 }
 
+/// The shortest stretch of a plan that lies inside no allowed plan, of equal ones
+/// the leftmost. The card is tested in each call.
+pub fn shortest(card: &[u8], plan: &[u8]) -> Shortest {
+    let mut out = [0; 3];
+    match (entries::shortest(card, plan, &mut out), out) {
+        (0, [0, ..]) => Shortest::None,
+        (0, [_, start, length]) => Shortest::At { start: start as usize, length: length as usize },
+        (27, [_, before, _]) => Shortest::UnknownLetter { before },
+        (number, _) => Shortest::Refused(number),
+    }
+}
+
 /// Compiles with buffers that are enough for every book; `None` where this
 /// build holds no compiler.
 pub fn compile(text: &[u8]) -> Option<Compiled> {
@@ -134,6 +162,13 @@ mod entries {
             plans_length: usize,
             replies: *mut u64,
             replies_length: usize,
+            out: &mut [u64; 3],
+        ) -> u64;
+        fn pier_shortest(
+            card: *const u8,
+            card_length: usize,
+            plan: *const u8,
+            plan_length: usize,
             out: &mut [u64; 3],
         ) -> u64;
         #[cfg(feature = "compile")]
@@ -188,6 +223,10 @@ mod entries {
         }
     }
 
+    pub fn shortest(card: &[u8], plan: &[u8], out: &mut [u64; 3]) -> u64 {
+        unsafe { pier_shortest(card.as_ptr(), card.len(), plan.as_ptr(), plan.len(), out) }
+    }
+
     #[cfg(not(feature = "compile"))]
     pub fn compile(_text: &[u8], _card: &mut [u8], _out: &mut [u64; 3]) -> Option<u64> {
         None
@@ -236,6 +275,7 @@ mod entries {
 mod entries {
     use reference::board::{self, Refused, Verdict};
     use reference::compile::{compile as reference_compile, Lent};
+    use reference::factor;
 
     /// The number handed back, and three numbers in `out`.
     fn put(out: &mut [u64; 3], number: u64, values: [u64; 3]) -> u64 {
@@ -273,6 +313,15 @@ mod entries {
             *out = [out[0] + 1, out[1] + line.len() as u64, 0];
         }
         0
+    }
+
+    pub fn shortest(card: &[u8], plan: &[u8], out: &mut [u64; 3]) -> u64 {
+        match factor::shortest(card, plan) {
+            Ok(None) => put(out, 0, [0; 3]),
+            Ok(Some((start, length))) => put(out, 0, [1, start as u64, length as u64]),
+            Err(Refused::Card(number)) => put(out, number.into(), [0; 3]),
+            Err(Refused::ForeignLetter { before }) => put(out, 27, [0, before as u64, 0]),
+        }
     }
 
     pub fn compile(text: &[u8], card: &mut [u8], out: &mut [u64; 3]) -> Option<u64> {

@@ -1,8 +1,6 @@
-//! The board's replies in words, what explains them, and how many there are.
+//! The replies in words, and what explains them.
 
-use crate::proved::Judged;
-use crate::refusal;
-use crate::words::count;
+use crate::proved::{Judged, Shortest};
 
 const ALLOWED_LINE: &str = "allowed\n";
 const UNFINISHED_LINE: &str = "unfinished\n";
@@ -10,6 +8,14 @@ pub const ALLOWED: &str = ALLOWED_LINE.trim_ascii_end();
 pub const UNFINISHED: &str = UNFINISHED_LINE.trim_ascii_end();
 pub const HOPELESS: &str = "hopeless";
 pub const REFUSED: &str = "refused";
+pub const NONE: &str = "none";
+pub const STRETCH: &str = "stretch";
+
+/// What is said of a hopeless plan without a stretch: it lies inside some allowed
+/// plan, though not at its beginning.
+const NO_STRETCH: &str = "no stretch: could stand later in a day";
+
+const FOREIGN_LETTER: u64 = 27;
 
 /// The reply as the judging program prints it, without a line end.
 pub fn push(out: &mut Vec<u8>, judged: Judged) {
@@ -17,7 +23,7 @@ pub fn push(out: &mut Vec<u8>, judged: Judged) {
         Judged::Allowed => (ALLOWED, None),
         Judged::Unfinished => (UNFINISHED, None),
         Judged::Hopeless(place) => (HOPELESS, Some(place)),
-        Judged::UnknownLetter { .. } => (REFUSED, Some(27)),
+        Judged::UnknownLetter { .. } => (REFUSED, Some(FOREIGN_LETTER)),
         Judged::Refused(number) => (REFUSED, Some(number)),
     };
     out.extend_from_slice(word.as_bytes());
@@ -41,18 +47,55 @@ pub fn push_line(out: &mut Vec<u8>, judged: Judged) {
     }
 }
 
+/// The shortest stretch in words.
+pub fn push_shortest(out: &mut Vec<u8>, found: Shortest) {
+    let words = match found {
+        Shortest::None => return out.extend_from_slice(NONE.as_bytes()),
+        Shortest::At { start, length } => format!("{STRETCH} {start} {length}"),
+        Shortest::UnknownLetter { .. } => format!("{REFUSED} {FOREIGN_LETTER}"),
+        Shortest::Refused(number) => format!("{REFUSED} {number}"),
+    };
+    out.extend_from_slice(words.as_bytes());
+}
+
+/// The same behind the reply to a hopeless plan.
+pub fn push_blame(out: &mut Vec<u8>, found: Shortest) {
+    match found {
+        Shortest::None => out.extend_from_slice(NO_STRETCH.as_bytes()),
+        found => push_shortest(out, found),
+    }
+}
+
 /// The plan with a sign at the reply's place: `!` behind the letters that are
 /// hopeless, `?` before a letter that is not on the card.
 pub fn push_plan(out: &mut Vec<u8>, plan: &[u8], judged: Judged) {
-    let (place, sign): (u64, &[u8]) = match judged {
-        Judged::Hopeless(place) => (place, b"!"),
-        Judged::UnknownLetter { before } => (before, b"?"),
-        _ => (0, b""),
-    };
-    let (before, after) = shown(plan).split_at(place as usize);
-    for part in [before, sign, after] {
-        out.extend_from_slice(part);
+    match judged {
+        Judged::Hopeless(place) => push_signs(out, plan, &[(place as usize, b'!')]),
+        Judged::UnknownLetter { before } => push_signs(out, plan, &[(before as usize, b'?')]),
+        _ => push_signs(out, plan, &[]),
     }
+}
+
+/// The plan with its stretch in square brackets, or `?` before a letter that is
+/// not on the card.
+pub fn push_bracketed(out: &mut Vec<u8>, plan: &[u8], found: Shortest) {
+    match found {
+        Shortest::At { start, length } => push_signs(out, plan, &[(start, b'['), (start + length, b']')]),
+        Shortest::UnknownLetter { before } => push_signs(out, plan, &[(before as usize, b'?')]),
+        _ => push_signs(out, plan, &[]),
+    }
+}
+
+/// The plan with signs at rising places.
+fn push_signs(out: &mut Vec<u8>, plan: &[u8], signs: &[(usize, u8)]) {
+    let plan = shown(plan);
+    let mut from = 0;
+    for &(place, sign) in signs {
+        out.extend_from_slice(&plan[from..place]);
+        out.push(sign);
+        from = place;
+    }
+    out.extend_from_slice(&plan[from..]);
 }
 
 /// A plan as it is shown.
@@ -61,74 +104,6 @@ pub fn shown(plan: &[u8]) -> &[u8] {
         b"(empty)"
     } else {
         plan
-    }
-}
-
-/// How many replies of each kind there were, and the first refused plan in words.
-#[derive(Default, Debug)]
-pub struct Tally {
-    pub plans: usize,
-    allowed: usize,
-    unfinished: usize,
-    hopeless: usize,
-    pub refused: usize,
-    first: String,
-}
-
-impl Tally {
-    /// From so many plans on the replies are counted in a last line.
-    const MANY: usize = 10;
-
-    /// Counts a reply; the plan is asked for where it must be told in words.
-    #[inline]
-    pub fn note<'a>(&mut self, judged: Judged, plan: impl FnOnce() -> &'a [u8]) {
-        self.plans += 1;
-        let what = match judged {
-            Judged::Allowed => return self.allowed += 1,
-            Judged::Unfinished => return self.unfinished += 1,
-            Judged::Hopeless(_) => return self.hopeless += 1,
-            _ if self.refused > 0 => return self.refused += 1,
-            Judged::UnknownLetter { before } => foreign(plan(), before as usize),
-            Judged::Refused(number) => refusal::of(number).when.into(),
-        };
-        self.first = format!("the first is plan {}: {what}", self.plans);
-        self.refused = 1;
-    }
-
-    pub fn all_allowed(&self) -> bool {
-        self.allowed == self.plans
-    }
-
-    /// The refused plans, and where there are many plans the count of replies.
-    pub fn message(&self) -> String {
-        let plans = count(self.plans, "plan");
-        let mut text = match self.refused {
-            0 => String::new(),
-            refused => format!("pier: {refused} of {plans} refused; {}\n", self.first),
-        };
-        if self.plans >= Self::MANY {
-            text += &format!(
-                "{plans}: {} {ALLOWED}, {} {UNFINISHED}, {} {HOPELESS}, {} {REFUSED}\n",
-                self.allowed, self.unfinished, self.hopeless, self.refused
-            );
-        }
-        text
-    }
-}
-
-/// The byte that is not on the card, in words.
-fn foreign(plan: &[u8], before: usize) -> String {
-    let place = if before == 0 { "at the beginning".into() } else { format!("after {}", count(before, "letter")) };
-    match plan.get(before) {
-        Some(b'\r') => format!("byte 0x0D {place}: the file has the line ends of Windows"),
-        Some(b' ') => format!("a space {place}: a plan has letters only"),
-        Some(b'\t') => format!("a tab {place}: a plan has letters only"),
-        Some(0xEF) if plan[before..].starts_with(b"\xEF\xBB\xBF") => {
-            format!("a byte-order mark {place}: save the plans without it")
-        }
-        Some(&byte @ 0x21..=0x7E) => format!("{} {place} is not on the card", byte as char),
-        Some(byte) => format!("byte 0x{byte:02X} {place} is not on the card"),
-        None => place,
     }
 }
 
@@ -161,19 +136,26 @@ mod tests {
         assert_eq!(out, b"hopeless 123456refused 21");
     }
 
-    #[test]
-    fn replies_are_counted_and_the_first_refused_plan_is_told() {
-        let mut tally = Tally::default();
-        tally.note(Judged::Allowed, || unreachable!());
-        assert!(tally.all_allowed());
-        tally.note(Judged::UnknownLetter { before: 2 }, || b"ab\r");
-        tally.note(Judged::UnknownLetter { before: 0 }, || unreachable!());
-        assert!(tally.message().starts_with("pier: 2 of 3 plans refused; the first is plan 2"));
-        assert!(tally.message().contains("Windows") && tally.message().lines().count() == 1);
-        for _ in 0..7 {
-            tally.note(Judged::Hopeless(1), || unreachable!());
+    fn bracketed(card: &[u8], plan: &[u8]) -> String {
+        let found = proved::shortest(card, plan);
+        let mut out = Vec::new();
+        push_bracketed(&mut out, plan, found);
+        for push in [push_shortest, push_blame] {
+            out.push(b'\t');
+            push(&mut out, found);
         }
-        assert_eq!(tally.message().lines().last(), Some("10 plans: 1 allowed, 0 unfinished, 7 hopeless, 2 refused"));
-        assert!(!tally.all_allowed());
+        String::from_utf8(out).unwrap()
+    }
+
+    #[test]
+    fn stretches_of_the_first_paper_card_and_of_one_that_allows_nothing() {
+        assert_eq!(bracketed(&FIRST_CARD, b"bab"), format!("bab\tnone\t{NO_STRETCH}"));
+        assert_eq!(bracketed(&FIRST_CARD, b"babbabb"), "ba[bb]abb\tstretch 2 2\tstretch 2 2");
+        assert_eq!(bracketed(&FIRST_CARD, b"abc"), "ab?c\trefused 27\trefused 27");
+        assert_eq!(bracketed(&FIRST_CARD, b""), format!("(empty)\tnone\t{NO_STRETCH}"));
+        assert_eq!(bracketed(&FIRST_CARD[1..], b"ab"), "ab\trefused 21\trefused 21");
+        const NOTHING: [u8; 15] = [0x0C, 0, 1, 0, 0x0D, 0, 1, 0, 0x0E, 0, 1, 0, 0x61, 2, 0];
+        assert_eq!(bracketed(&NOTHING, b"aa"), "[]aa\tstretch 0 0\tstretch 0 0");
+        assert_eq!(bracketed(&NOTHING, b""), "[](empty)\tstretch 0 0\tstretch 0 0");
     }
 }

@@ -12,7 +12,8 @@ pub const COMMAND: Command = Command {
     choices: &[Choice::Explain, Choice::Strict, Choice::Progress],
     more: "\
 Compiles a book and judges plans by its card, which is kept nowhere. Refusals
-and notes are those of pier compile, replies those of pier judge.
+and notes are those of pier compile, replies and what explains them those of
+pier judge.
 ",
     run,
 };

@@ -14,7 +14,7 @@ status 2 pier frobnicate
 check "wrong usage is told on standard error" "pier: no command frobnicate
 Try: pier --help" "$(cat err)"
 check "and not on standard output" "" "$(cat out)"
-for command in compile try judge show draw page compare check; do
+for command in compile try judge stretch show draw page compare check; do
     status 0 pier $command --help
     check "pier help $command is pier $command --help" "$(cat out)" "$(pier help $command)"
     has "pier --help lists $command" "  pier $command " "$(pier --help)"
@@ -27,6 +27,7 @@ while read -r word meant; do
 done <<'TABLE'
 complie compile
 jugde judge
+strech stretch
 tyr try
 comparr compare
 hlep help
@@ -60,6 +61,8 @@ status 2 pier judge - -
 status 2 pier try - -
 status 2 pier compare - - ramp.plans
 status 1 pier judge ramp.book ramp.plans
+status 1 pier stretch ramp.book ramp.plans
+status 1 pier stretch ramp.card ramp.plans
 status 1 pier judge ramp.card ramp.plans
 status 0 pier judge fuel.card fuel.plans
 status 0 pier try fuel.book fuel.plans

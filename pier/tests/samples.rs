@@ -1,6 +1,6 @@
 //! The samples' expected replies once more, from what the books mean: allowed by
-//! trying every cut of the plan, hopeless by derivatives. No stage and no card is
-//! made here.
+//! trying every cut of the plan, hopeless by derivatives, the shortest stretch by
+//! trying every stretch from every derivative. No stage and no card is made here.
 
 #![cfg(feature = "reference")]
 
@@ -12,9 +12,12 @@ use reference::syntax::Book;
 use std::fs;
 use std::path::Path;
 
+fn columns(book: &Book, plan: &[u8]) -> Option<Vec<usize>> {
+    plan.iter().map(|letter| book.alphabet.iter().position(|known| known == letter)).collect()
+}
+
 fn reply(book: &Book, machine: &Machine, plan: &[u8]) -> String {
-    let column = |letter: &u8| book.alphabet.iter().position(|known| known == letter);
-    let Some(columns) = plan.iter().map(column).collect::<Option<Vec<_>>>() else {
+    let Some(columns) = columns(book, plan) else {
         return "refused 27".into();
     };
     let hopeless = |place: &usize| !machine.can_accept_from(machine.run(0, &columns[..*place]));
@@ -28,10 +31,25 @@ fn reply(book: &Book, machine: &Machine, plan: &[u8]) -> String {
     }
 }
 
+fn stretch(book: &Book, machine: &Machine, plan: &[u8]) -> String {
+    let Some(columns) = columns(book, plan) else {
+        return "refused 27".into();
+    };
+    let inside = |letters| (0..machine.states()).any(|state| machine.can_accept_from(machine.run(state, letters)));
+    for length in 0..=columns.len() {
+        for start in 0..=columns.len() - length {
+            if !inside(&columns[start..start + length]) {
+                return format!("stretch {start} {length}");
+            }
+        }
+    }
+    "none".into()
+}
+
 #[test]
 fn expected_replies_are_what_the_books_mean() {
     let folder = Path::new(env!("CARGO_MANIFEST_DIR")).join("../samples");
-    let mut books = 0;
+    let (mut books, mut with_stretches) = (0, 0);
     for entry in fs::read_dir(&folder).expect("the samples") {
         let path = entry.expect("a file").path();
         if !path.extension().is_some_and(|found| found == "book") {
@@ -41,13 +59,19 @@ fn expected_replies_are_what_the_books_mean() {
         let book = read_book(&fs::read(&path).unwrap()).expect("a well-formed book");
         let machine = Derivatives::of(&book).machine(10_000).ok().expect("few derivatives");
         let plans = fs::read(path.with_extension("plans")).expect("its plans");
-        let expected = fs::read_to_string(path.with_extension("expected")).expect("its replies");
         let plans: Vec<&[u8]> = plans.strip_suffix(b"\n").unwrap().split(|&byte| byte == b'\n').collect();
-        assert_eq!(plans.len(), expected.lines().count(), "{}", path.display());
-        for (plan, expected) in plans.iter().zip(expected.lines()) {
-            let found = reply(&book, &machine, plan);
-            assert_eq!(found, expected, "{} {}", path.display(), String::from_utf8_lossy(plan));
+        let compare = |expected: String, found: fn(&Book, &Machine, &[u8]) -> String| {
+            assert_eq!(plans.len(), expected.lines().count(), "{}", path.display());
+            for (plan, expected) in plans.iter().zip(expected.lines()) {
+                let found = found(&book, &machine, plan);
+                assert_eq!(found, expected, "{} {}", path.display(), String::from_utf8_lossy(plan));
+            }
+        };
+        compare(fs::read_to_string(path.with_extension("expected")).expect("its replies"), reply);
+        if let Ok(stretches) = fs::read_to_string(path.with_extension("stretches")) {
+            with_stretches += 1;
+            compare(stretches, stretch);
         }
     }
-    assert!(books >= 6);
+    assert!(books >= 6 && with_stretches >= 3);
 }
