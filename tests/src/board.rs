@@ -101,8 +101,8 @@ pub fn step(card: &[u8], state: usize, letter: u8) -> Result<(usize, u8), u8> {
     Ok((target, bodies.marks[target]))
 }
 
-/// The card's tests, then all letters, then the plan.
-pub fn judge(card: &[u8], plan: &[u8]) -> Result<Verdict, Refused> {
+/// The card's tests, then all letters: the bodies and each letter's column.
+pub fn tested<'c>(card: &'c [u8], plan: &[u8]) -> Result<(Bodies<'c>, Vec<usize>), Refused> {
     let bodies = load(card).map_err(Refused::Card)?;
     let mut columns = Vec::with_capacity(plan.len());
     for (before, letter) in plan.iter().enumerate() {
@@ -111,6 +111,12 @@ pub fn judge(card: &[u8], plan: &[u8]) -> Result<Verdict, Refused> {
             None => return Err(Refused::ForeignLetter { before }),
         }
     }
+    Ok((bodies, columns))
+}
+
+/// The card's tests, then all letters, then the plan.
+pub fn judge(card: &[u8], plan: &[u8]) -> Result<Verdict, Refused> {
+    let (bodies, columns) = tested(card, plan)?;
     let machine = machine(&bodies);
     let hopeful: Vec<bool> = (0..machine.states()).map(|state| machine.can_accept_from(state)).collect();
     let mut state = 0;

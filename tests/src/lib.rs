@@ -7,6 +7,7 @@
 //! * `minimise` finds the smallest machine by table filling.
 //! * `compile` puts them in document 01's order and counts.
 //! * `card` writes the bytes, `board` tests, steps and judges them.
+//! * `factor` finds the shortest stretch to blame by trying every one.
 //!
 //! Nothing here is made to be fast; everything is made to be compared with
 //! the sentence that it follows.
@@ -15,6 +16,7 @@ pub mod board;
 pub mod card;
 pub mod compile;
 pub mod derivative;
+pub mod factor;
 pub mod machine;
 pub mod minimise;
 pub mod pieces;

@@ -6,6 +6,7 @@
 use crate::rng::Rng;
 use reference::board::{self, Refused, Verdict};
 use reference::compile::{self, Accepted, Lent};
+use reference::factor;
 use reference::refusal::Refusal;
 use std::cell::RefCell;
 use std::collections::HashMap;
@@ -49,10 +50,28 @@ pub enum Judged {
     Unknown([u64; 4]),
 }
 
+/// What the search for the shortest stretch answers.
+#[derive(Clone, PartialEq, Eq, Debug)]
+pub enum Shortest {
+    None,
+    At {
+        start: u64,
+        length: u64,
+    },
+    Refused(u64),
+    ForeignLetter {
+        before: u64,
+    },
+    #[allow(dead_code)]
+    Unknown([u64; 4]),
+}
+
 pub trait BoardEntry {
     fn load(&self, card: &[u8]) -> Loaded;
     fn step(&self, card: &[u8], state: usize, letter: u8) -> Stepped;
     fn judge(&self, card: &[u8], plan: &[u8]) -> Judged;
+    /// `held` is what `out` holds before the call.
+    fn shortest(&self, card: &[u8], plan: &[u8], held: [u64; 3]) -> Shortest;
 }
 
 /// One work buffer: how many entries it needs, and the bytes of an entry.
@@ -123,6 +142,15 @@ impl BoardEntry for Reference {
             Ok(Verdict::Hopeless(place)) => Judged::Hopeless(place as u64),
             Err(Refused::Card(number)) => Judged::Refused(number.into()),
             Err(Refused::ForeignLetter { before }) => Judged::ForeignLetter { before: before as u64 },
+        }
+    }
+
+    fn shortest(&self, card: &[u8], plan: &[u8], _: [u64; 3]) -> Shortest {
+        match factor::shortest(card, plan) {
+            Ok(None) => Shortest::None,
+            Ok(Some((start, length))) => Shortest::At { start: start as u64, length: length as u64 },
+            Err(Refused::Card(number)) => Shortest::Refused(number.into()),
+            Err(Refused::ForeignLetter { before }) => Shortest::ForeignLetter { before: before as u64 },
         }
     }
 }

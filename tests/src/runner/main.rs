@@ -9,6 +9,7 @@ mod board_examples;
 mod by_format;
 mod compare_board;
 mod compare_compile;
+mod compare_factor;
 mod compare_lines;
 mod compare_programs;
 mod effort;
@@ -16,11 +17,13 @@ mod entry;
 mod examples;
 mod expected_output;
 mod extra_books;
+mod factor_examples;
 mod grammar;
 mod last_case;
 mod limits;
 mod planted_boards;
 mod planted_compilers;
+mod planted_factors;
 mod product;
 mod program;
 mod random_books;
@@ -29,6 +32,7 @@ mod rng;
 mod self_board;
 mod self_coverage;
 mod self_examples;
+mod self_factor;
 mod self_meaning;
 mod self_planted;
 mod shrink;
@@ -116,11 +120,13 @@ fn run(tally: &mut Tally, options: &Options, effort: Effort) {
         }
         self_meaning::run(tally, effort);
         self_board::run(tally, effort);
+        self_factor::run(tally, effort);
     }
     if wanted("board") {
         match product::board() {
             Some(board) => {
                 compare_board::run(tally, &*board, effort);
+                compare_factor::run(tally, &*board, effort);
                 if effort.fixed {
                     by_format::run(tally, &*board);
                 }

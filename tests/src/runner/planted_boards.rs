@@ -1,7 +1,7 @@
 //! Wrong boards. Each is the reference with one fault; the comparisons have
 //! to find every one of them.
 
-use crate::entry::{BoardEntry, Judged, Loaded, Reference, Stepped};
+use crate::entry::{BoardEntry, Judged, Loaded, Reference, Shortest, Stepped};
 use reference::board;
 use reference::card;
 
@@ -30,6 +30,10 @@ impl BoardEntry for Planted {
 
     fn judge(&self, card: &[u8], plan: &[u8]) -> Judged {
         (self.judge)(card, plan, REFERENCE.judge(card, plan))
+    }
+
+    fn shortest(&self, card: &[u8], plan: &[u8], held: [u64; 3]) -> Shortest {
+        REFERENCE.shortest(card, plan, held)
     }
 }
 

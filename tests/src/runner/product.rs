@@ -15,7 +15,13 @@ const UNSET: u64 = 0xDEAD_BEEF_DEAD_BEEF;
 /// just beside `out` was written.
 #[cfg(any(feature = "product-board", feature = "product-compile"))]
 fn answer(call: impl FnOnce(*mut [u64; 3]) -> u64) -> ([u64; 4], bool) {
-    let mut lent = [[UNSET; 3]; 3];
+    answer_over([UNSET; 3], call)
+}
+
+/// The same where `out` holds given numbers before the call.
+#[cfg(any(feature = "product-board", feature = "product-compile"))]
+fn answer_over(held: [u64; 3], call: impl FnOnce(*mut [u64; 3]) -> u64) -> ([u64; 4], bool) {
+    let mut lent = [[UNSET; 3], held, [UNSET; 3]];
     let number = call(lent.as_mut_ptr().wrapping_add(1));
     let [before, [first, second, third], behind] = lent;
     ([number, first, second, third], before != [UNSET; 3] || behind != [UNSET; 3])
@@ -23,13 +29,20 @@ fn answer(call: impl FnOnce(*mut [u64; 3]) -> u64) -> ([u64; 4], bool) {
 
 #[cfg(feature = "product-board")]
 mod board {
-    use super::answer;
-    use crate::entry::{BoardEntry, Judged, Loaded, Stepped};
+    use super::{answer, answer_over};
+    use crate::entry::{BoardEntry, Judged, Loaded, Shortest, Stepped};
 
     extern "C" {
         fn pier_load(card: *const u8, card_length: usize, out: *mut [u64; 3]) -> u64;
         fn pier_step(card: *const u8, card_length: usize, state: usize, letter: u8, out: *mut [u64; 3]) -> u64;
         fn pier_judge(
+            card: *const u8,
+            card_length: usize,
+            plan: *const u8,
+            plan_length: usize,
+            out: *mut [u64; 3],
+        ) -> u64;
+        fn pier_shortest(
             card: *const u8,
             card_length: usize,
             plan: *const u8,
@@ -94,6 +107,21 @@ mod board {
                 ([27, 0, before, 0], false) => Judged::ForeignLetter { before },
                 ([number, 0, 0, 0], false) => Judged::Refused(number),
                 (numbers, _) => Judged::Unknown(numbers),
+            }
+        }
+
+        /// out: 0, 0, 0 for none or 1, start, length; with number 27 it is
+        /// 0, the letters before the foreign one, 0.
+        fn shortest(&self, card: &[u8], plan: &[u8], held: [u64; 3]) -> Shortest {
+            let (card_length, plan_length) = (card.len(), plan.len());
+            match answer_over(held, |out| unsafe {
+                pier_shortest(card.as_ptr(), card_length, plan.as_ptr(), plan_length, out)
+            }) {
+                ([0, 0, 0, 0], false) => Shortest::None,
+                ([0, 1, start, length], false) => Shortest::At { start, length },
+                ([27, 0, before, 0], false) => Shortest::ForeignLetter { before },
+                ([number, 0, 0, 0], false) => Shortest::Refused(number),
+                (numbers, _) => Shortest::Unknown(numbers),
             }
         }
     }

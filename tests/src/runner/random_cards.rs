@@ -1,8 +1,9 @@
-//! Random cards: good ones, damaged ones, and every small one.
+//! Random cards: good ones, damaged ones, and every small one; plans for them.
 
 use crate::rng::Rng;
+use reference::board;
 use reference::card;
-use reference::machine::Machine;
+use reference::machine::{explore, Machine};
 use reference::minimise::minimise;
 
 /// A random machine; not all its states need be reached.
@@ -51,6 +52,84 @@ fn with_dead_state(rng: &mut Rng, machine: &Machine) -> Machine {
         changed.next[state][symbol] = dead;
     }
     minimise(&changed)
+}
+
+/// A card that loads, of at most so many states, at least 3; most have letters
+/// in a row that no allowed plan has.
+pub fn strict(rng: &mut Rng, most: usize) -> Vec<u8> {
+    let symbols = *rng.pick(&[1, 2, 2, 2, 3, 3, 5]);
+    let states = rng.between(1, most);
+    let machine = match rng.below(10) {
+        0..=2 => dying(rng, symbols, states),
+        3..=5 => avoiding(rng, symbols, most),
+        6 => counting(rng, symbols, most),
+        7 | 8 => spelling(rng, symbols, most),
+        _ => machine(rng, symbols, states),
+    };
+    card::write(&letters(rng, symbols), &minimise(&machine.numbered()))
+}
+
+/// Some moves lead to a dead state, the last one.
+fn dying(rng: &mut Rng, symbols: usize, states: usize) -> Machine {
+    let mut machine = machine(rng, symbols, states);
+    let (dead, few) = (states - 1, rng.between(2, 6));
+    for target in machine.next.iter_mut().flatten() {
+        if rng.once_in(few) {
+            *target = dead;
+        }
+    }
+    machine.next[dead].fill(dead);
+    machine.accepting[dead] = false;
+    machine
+}
+
+/// A few words may not occur. A state is the longest end of what came so far
+/// that is the beginning of such a word.
+fn avoiding(rng: &mut Rng, symbols: usize, most: usize) -> Machine {
+    let count = rng.between(1, (most / 3).min(3));
+    let longest = (most - 1) / count;
+    let word = |rng: &mut Rng| (0..rng.between(1, longest)).map(|_| rng.below(symbols)).collect();
+    let words: Vec<Vec<usize>> = (0..count).map(|_| word(rng)).collect();
+    let step = |end: &Option<Vec<usize>>, symbol: usize| {
+        let mut end = [end.as_ref()?, &[symbol][..]].concat();
+        if words.iter().any(|word| end.ends_with(word)) {
+            return None;
+        }
+        while !words.iter().any(|word| word.starts_with(&end)) {
+            end.remove(0);
+        }
+        Some(end)
+    };
+    let every = rng.between(1, 3);
+    let accepting = |end: &Option<Vec<usize>>| end.as_ref().is_some_and(|end| end.len() % every == 0);
+    explore(symbols, most, Some(Vec::new()), step, accepting).expect("no more ends than letters in the words")
+}
+
+/// The first letter may come only so often, all in all or since the last.
+fn counting(rng: &mut Rng, symbols: usize, most: usize) -> Machine {
+    let dead = rng.between(1, most - 1);
+    let again = rng.once_in(2);
+    let step = |&count: &usize, symbol: usize| match symbol {
+        _ if count == dead => dead,
+        0 => count + 1,
+        _ if again && symbol + 1 == symbols => 0,
+        _ => count,
+    };
+    let least = rng.below(dead);
+    explore(symbols, most, 0, step, |&count| count != dead && count >= least).expect("counts up to the dead one")
+}
+
+/// One word, once or over and over. A state is the number of its letters.
+fn spelling(rng: &mut Rng, symbols: usize, most: usize) -> Machine {
+    let length = rng.between(1, most - 2);
+    let word: Vec<usize> = (0..length).map(|_| rng.below(symbols)).collect();
+    let again = rng.once_in(2);
+    let step = |state: &Option<usize>, symbol: usize| match state {
+        &Some(state) if word.get(state) == Some(&symbol) => Some(if again { (state + 1) % length } else { state + 1 }),
+        _ => None,
+    };
+    let end = if again { 0 } else { length };
+    explore(symbols, most, Some(0), step, |&state| state == Some(end)).expect("a state for each letter and two more")
 }
 
 /// A good card with a few bytes changed, added or taken out.
@@ -131,11 +210,43 @@ pub fn all_small(letters: &[u8], states: usize) -> Vec<Vec<u8>> {
 pub fn plan(rng: &mut Rng, letters: &[u8]) -> Vec<u8> {
     let length = *rng.pick(&[0, 1, 2, 3, 4, 6, 9, 14, 40]);
     let mut plan: Vec<u8> = (0..length).map(|_| if letters.is_empty() { b'a' } else { *rng.pick(letters) }).collect();
-    if length > 0 && rng.once_in(5) {
+    spoil(rng, &mut plan, 5);
+    plan
+}
+
+/// A plan of at most so many letters for a search in it: any letters, one over
+/// and over, or letters that avoid dead states from some state on.
+pub fn searched_plan(rng: &mut Rng, card: &[u8], most: usize) -> Vec<u8> {
+    let Ok(bodies) = board::bodies(card) else { return plan(rng, b"ab") };
+    let length = rng.below(most + 1);
+    let (kind, careless) = (rng.below(6), rng.between(2, 12));
+    let repeated = *rng.pick(bodies.letters);
+    let mut state = rng.below(bodies.states());
+    let mut plan = Vec::with_capacity(length);
+    while plan.len() < length {
+        let alive = |&column: &usize| bodies.marks.get(bodies.target(state, column)).is_some_and(|&marks| marks != 2);
+        let columns: Vec<usize> = (0..bodies.letters.len()).filter(alive).collect();
+        let column = match kind {
+            0 => bodies.letters.iter().position(|&letter| letter == repeated).expect("one of them"),
+            2.. if !columns.is_empty() && !rng.once_in(careless) => *rng.pick(&columns),
+            _ => rng.below(bodies.letters.len()),
+        };
+        plan.push(bodies.letters[column]);
+        state = bodies.target(state, column);
+        if bodies.marks.get(state).is_none_or(|&marks| marks == 2) {
+            state = rng.below(bodies.states());
+        }
+    }
+    spoil(rng, &mut plan, 10);
+    plan
+}
+
+/// Once in so many times one or two bytes become others, most of them foreign.
+fn spoil(rng: &mut Rng, plan: &mut [u8], times: usize) {
+    if !plan.is_empty() && rng.once_in(times) {
         for _ in 0..rng.between(1, 2) {
-            let place = rng.below(length);
+            let place = rng.below(plan.len());
             plan[place] = if rng.once_in(2) { rng.next() as u8 } else { *rng.pick(b"abcz AZ\r\n\0`{") };
         }
     }
-    plan
 }

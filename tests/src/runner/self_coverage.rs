@@ -5,6 +5,7 @@ use crate::random_cards;
 use crate::tally::Tally;
 use reference::board::{self, Refused, Verdict};
 use reference::compile::{compile, Lent};
+use reference::factor::shortest;
 use std::collections::BTreeMap;
 
 type Met = BTreeMap<String, usize>;
@@ -36,6 +37,35 @@ pub fn run(tally: &mut Tally) {
             "foreign",
         ] {
             tally.check(cards.get(answer).is_some_and(|&times| times >= 5), || format!("cards: {answer} in {cards:?}"));
+        }
+        let factors = factors(tally);
+        for answer in [
+            "none, allowed",
+            "none, unfinished",
+            "none, hopeless",
+            "empty",
+            "length 1",
+            "length 2",
+            "length 3",
+            "length 4",
+            "length 5",
+            "length 6 or more",
+            "the whole plan",
+            "not at the beginning",
+            "behind the hopeless place",
+            "ends before the plan does",
+            "one as long further right",
+            "a longer one further left",
+            "foreign",
+            "refused 21",
+            "refused 22",
+            "refused 23",
+            "refused 24",
+            "refused 25",
+            "refused 26",
+        ] {
+            let times = factors.get(answer).copied().unwrap_or(0);
+            tally.check(times >= 5, || format!("stretches: {answer} in {factors:?}"));
         }
     });
 }
@@ -95,4 +125,48 @@ fn cards(tally: &Tally) -> Met {
         }
     }
     met
+}
+
+fn factors(tally: &Tally) -> Met {
+    let mut met = Met::new();
+    let mut rng = tally.rng("stretches that meet every answer");
+    for case in 0..4000 {
+        let strict = random_cards::strict(&mut rng, 8);
+        let card = match case % 4 {
+            0 => random_cards::loose(&mut rng),
+            1 => random_cards::damaged(&mut rng, &strict),
+            _ => strict,
+        };
+        let plan = random_cards::searched_plan(&mut rng, &card, 12);
+        match (shortest(&card, &plan), board::judge(&card, &plan)) {
+            (Ok(None), Ok(Verdict::Allowed)) => count(&mut met, "none, allowed"),
+            (Ok(None), Ok(Verdict::Unfinished)) => count(&mut met, "none, unfinished"),
+            (Ok(None), Ok(Verdict::Hopeless(_))) => count(&mut met, "none, hopeless"),
+            (Ok(Some(found)), Ok(Verdict::Hopeless(place))) => stretch(&mut met, &card, &plan, found, place),
+            (Err(Refused::ForeignLetter { .. }), _) => count(&mut met, "foreign"),
+            (Err(Refused::Card(number)), _) => count(&mut met, format!("refused {number}")),
+            (found, judged) => count(&mut met, format!("{found:?} beside {judged:?}")),
+        }
+    }
+    met
+}
+
+fn stretch(met: &mut Met, card: &[u8], plan: &[u8], (start, length): (usize, usize), hopeless: usize) {
+    match length {
+        0 => return count(met, "empty"),
+        1..=5 => count(met, format!("length {length}")),
+        _ => count(met, "length 6 or more"),
+    }
+    let found_in = |part: &[u8]| shortest(card, part).ok().flatten().map(|(_, length)| length);
+    let tells = [
+        ("the whole plan", length == plan.len()),
+        ("not at the beginning", start > 0),
+        ("behind the hopeless place", start >= hopeless),
+        ("ends before the plan does", start + length < plan.len()),
+        ("one as long further right", found_in(&plan[start + 1..]) == Some(length)),
+        ("a longer one further left", found_in(&plan[..start + length - 1]).is_some()),
+    ];
+    for (answer, _) in tells.into_iter().filter(|(_, told)| *told) {
+        count(met, answer);
+    }
 }

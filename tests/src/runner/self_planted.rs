@@ -3,10 +3,13 @@
 use crate::acting;
 use crate::compare_board;
 use crate::compare_compile;
+use crate::compare_factor;
 use crate::compare_programs;
 use crate::effort::Effort;
+use crate::entry::BoardEntry;
 use crate::planted_boards;
 use crate::planted_compilers;
+use crate::planted_factors;
 use crate::program::Program;
 use crate::random_books;
 use crate::tally::Tally;
@@ -42,6 +45,7 @@ pub fn run(tally: &mut Tally) {
             tally.check(hunt(&planted) > 0, || format!("not found: {}", planted.name));
         }
     });
+    tally.group("reference: faults planted in the search for a stretch are found", stretches);
     tally.group("reference: faults planted in programs are found", |tally| {
         let Ok(own) = std::env::current_exe() else { return };
         let acting = |part: &str, fault: &str| Program {
@@ -63,6 +67,31 @@ pub fn run(tally: &mut Tally) {
         tally.same("both programs without a fault", &0, &found.failed);
     });
     tally.group("reference: wrong recipes are found by derivatives", wrong_recipes);
+}
+
+/// Each by the whole comparison; where it can be, also by the random cases
+/// alone and by what the answers owe each other.
+fn stretches(tally: &mut Tally) {
+    type Compare = fn(&mut Tally, &dyn BoardEntry, Effort);
+    let hunt = |compare: Compare, planted: &planted_factors::Planted, effort: Effort| {
+        let mut found = Tally::hunting(SEED);
+        compare(&mut found, planted, effort);
+        found.failed
+    };
+    let random = Effort { fixed: false, ..Effort::HUNT };
+    tally.same("a search without a fault", &0, &hunt(compare_factor::run, &planted_factors::right(), Effort::HUNT));
+    for planted in planted_factors::all() {
+        let name = planted.name;
+        tally.check(hunt(compare_factor::run, &planted, Effort::HUNT) > 0, || format!("not found: {name}"));
+        if !planted.only_long {
+            let found = hunt(compare_factor::run, &planted, random) > 0;
+            tally.check(found, || format!("not found by random cases: {name}"));
+        }
+        if planted.contradicts {
+            let found = hunt(compare_factor::relations, &planted, Effort::HUNT) > 0;
+            tally.check(found, || format!("not found by answers against each other: {name}"));
+        }
+    }
 }
 
 fn wrong_recipes(tally: &mut Tally) {

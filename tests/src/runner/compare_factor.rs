@@ -1,0 +1,296 @@
+//! The product's shortest stretch against the reference, and its answers
+//! against each other and against its judging.
+
+use crate::board_examples;
+use crate::effort::Effort;
+use crate::entry::{BoardEntry, Judged, Reference, Shortest};
+use crate::examples::{self, EVERYTHING_CARD, FIRST_CARD, NOTHING_CARD, NO_A_CARD};
+use crate::extra_books;
+use crate::factor_examples;
+use crate::last_case;
+use crate::random_books;
+use crate::random_cards;
+use crate::rng::Rng;
+use crate::shrink::shrink;
+use crate::tally::{hex, shown, Tally};
+use reference::board;
+use reference::compile::{compile, Lent};
+use reference::pieces::words;
+use std::cell::Cell;
+
+/// What `out` holds before the calls, in turn.
+const HELD: [[u64; 3]; 5] = [[u64::MAX; 3], [0; 3], [1, 0, 0], [1, 1, 2], [0, 3, 1]];
+
+struct Comparison<'p> {
+    product: &'p dyn BoardEntry,
+    reference: Reference,
+    effort: Effort,
+    calls: Cell<usize>,
+}
+
+pub fn run(tally: &mut Tally, product: &dyn BoardEntry, effort: Effort) {
+    let comparison = Comparison::new(product, effort);
+    if effort.fixed {
+        comparison.fixed(tally);
+    }
+    comparison.random(tally);
+    relations(tally, product, effort);
+}
+
+/// What the product's own answers owe each other, on the cards of books.
+pub fn relations(tally: &mut Tally, product: &dyn BoardEntry, effort: Effort) {
+    let comparison = Comparison::new(product, effort);
+    if effort.fixed {
+        tally.group("stretch: answers against each other, known books", |tally| {
+            let mut rng = tally.rng("stretch: known books");
+            for example in [examples::paper(), examples::reading(), examples::staging()].concat() {
+                comparison.book(tally, &mut rng, &example.text);
+            }
+            for (_, text) in extra_books::all() {
+                comparison.book(tally, &mut rng, &text);
+            }
+        });
+    }
+    tally.group("stretch: answers against each other, random books", |tally| {
+        let mut rng = tally.rng("stretch: random books");
+        for _ in 0..effort.of(1000) {
+            let text = random_books::book(&mut rng);
+            comparison.book(tally, &mut rng, &text);
+        }
+    });
+}
+
+impl<'p> Comparison<'p> {
+    fn new(product: &'p dyn BoardEntry, effort: Effort) -> Comparison<'p> {
+        Comparison { product, reference: Reference { bench: Vec::new() }, effort, calls: Cell::new(0) }
+    }
+
+    fn fixed(&self, tally: &mut Tally) {
+        tally.group("stretch: examples", |tally| {
+            for (title, card, plan, due) in factor_examples::all() {
+                for held in HELD {
+                    tally.same(&format!("{title}, out {held:?}"), &due, &self.found(&card, &plan, held));
+                }
+            }
+        });
+        tally.group("stretch: every plan on small cards", |tally| {
+            for (letters, states) in [(&b"a"[..], 1), (b"a", 2), (b"a", 3), (b"ab", 1), (b"ab", 2), (b"abc", 1)] {
+                for card in random_cards::all_small(letters, states) {
+                    let longest = if board::load(&card).is_ok() { 5 } else { 1 };
+                    for plan in words(letters, longest) {
+                        self.compare(tally, &card, &plan);
+                    }
+                    self.compare(tally, &card, b"az");
+                }
+            }
+        });
+        tally.group("stretch: foreign letters", |tally| self.foreign_letters(tally));
+        tally.group("stretch: cards that don't load", |tally| {
+            for (_, card, _) in board_examples::loads() {
+                for plan in [&b""[..], b"a", b"abba", b"zz", b"a\0"] {
+                    self.compare(tally, &card, plan);
+                }
+            }
+            for place in 0..FIRST_CARD.len() {
+                for byte in 0..=255 {
+                    let mut card = FIRST_CARD.to_vec();
+                    card[place] = byte;
+                    self.compare(tally, &card, b"abb");
+                    self.compare(tally, &card, b"abbA");
+                }
+            }
+        });
+        tally.group("stretch: long plans", |tally| self.long_plans(tally));
+    }
+
+    fn random(&self, tally: &mut Tally) {
+        type Make = fn(&mut Rng) -> Vec<u8>;
+        let kinds: [(&str, usize, usize, Make); 6] = [
+            ("stretch: random cards", 10_000, 12, |rng| random_cards::strict(rng, 8)),
+            ("stretch: larger cards", 800, 60, |rng| random_cards::strict(rng, 120)),
+            ("stretch: cards of the board's tests", 500, 20, random_cards::good),
+            ("stretch: damaged cards", 6000, 12, |rng| {
+                let good = if rng.once_in(4) { random_cards::good(rng) } else { random_cards::strict(rng, 8) };
+                random_cards::damaged(rng, &good)
+            }),
+            ("stretch: loose cards", 8000, 12, random_cards::loose),
+            ("stretch: any bytes", 2000, 12, |rng| {
+                let length = rng.below(40);
+                rng.bytes(length)
+            }),
+        ];
+        for (title, usual, longest, make) in kinds {
+            tally.group(title, |tally| {
+                let mut rng = tally.rng(title);
+                for _ in 0..self.effort.of(usual) {
+                    let card = make(&mut rng);
+                    for _ in 0..4 {
+                        let plan = random_cards::searched_plan(&mut rng, &card, longest);
+                        self.compare(tally, &card, &plan);
+                    }
+                }
+            });
+        }
+        tally.group("stretch: large cards and long plans", |tally| {
+            let mut rng = tally.rng("stretch: large cards and long plans");
+            for _ in 0..self.effort.of(100) {
+                let card = random_cards::strict(&mut rng, 120);
+                let plan = random_cards::searched_plan(&mut rng, &card, 400);
+                self.compare(tally, &card, &plan);
+            }
+        });
+    }
+
+    /// At every place of short plans, alone and before others.
+    fn foreign_letters(&self, tally: &mut Tally) {
+        let cards = [FIRST_CARD.to_vec(), NOTHING_CARD.to_vec(), EVERYTHING_CARD.to_vec(), factor_examples::one_a()];
+        for card in &cards {
+            for length in 1..=12 {
+                for place in 0..length {
+                    for byte in [0, b'\n', b'A', b'`', b'c', b'z', b'{', 0xE1, 0xFF] {
+                        let mut plan = b"abba".repeat(3)[..length].to_vec();
+                        plan[place] = byte;
+                        self.compare(tally, card, &plan);
+                        plan[length - 1] = b'?';
+                        self.compare(tally, card, &plan);
+                    }
+                }
+            }
+            for byte in 0..=255 {
+                self.compare(tally, card, &[b'b', byte, b'b']);
+            }
+        }
+    }
+
+    /// Too long for the reference: what is due is seen in the letters.
+    fn long_plans(&self, tally: &mut Tally) {
+        for length in [255, 256, 257, 65_535, 65_536, 65_537, 1_000_000] {
+            let plain = b"ab".repeat(length)[..length].to_vec();
+            for place in [0, 2, length / 4 * 2, length - 1] {
+                // On the first card only bb can't be, on the second only a.
+                let mut plan = plain.clone();
+                plan[place] = b'b';
+                let twice = plan.windows(2).position(|pair| pair == b"bb");
+                self.due(tally, FIRST_CARD, &plan, at(twice, 2));
+                plan.fill(b'b');
+                plan[place] = b'a';
+                self.due(tally, NO_A_CARD, &plan, at(Some(place), 1));
+                self.due(tally, NOTHING_CARD, &plan, at(Some(0), 0));
+                self.due(tally, EVERYTHING_CARD, &plan, Shortest::None);
+                self.due(tally, &factor_examples::one_a(), &plan, Shortest::None);
+                plan[place] = b'c';
+                self.due(tally, FIRST_CARD, &plan, Shortest::ForeignLetter { before: place as u64 });
+            }
+            // From one a to the next, where that is shortest.
+            let bs = |count: usize| vec![b'b'; count];
+            for (first, second, due) in [(length, length, 3), (length, length - 1, 4 + length), (length - 1, length, 3)]
+            {
+                let plan = [&b"bbba"[..], &bs(first), b"a", &bs(second), b"ab"].concat();
+                self.due(tally, &factor_examples::one_a(), &plan, at(Some(due), first.min(second) + 2));
+            }
+        }
+    }
+
+    /// A few plans of a book that is accepted.
+    fn book(&self, tally: &mut Tally, rng: &mut Rng, text: &[u8]) {
+        if tally.is_over() {
+            return;
+        }
+        let Ok(accepted) = compile(text, &Lent::plenty()) else { return };
+        for _ in 0..6 {
+            let plan = random_cards::searched_plan(rng, &accepted.card, 16);
+            let wrong = self.wrong_relation(rng, &accepted.card, &plan);
+            tally.check(wrong.is_none(), || format!("{}, plan {}: {wrong:?}", shown(text), shown(&plan)));
+        }
+    }
+
+    /// The first answer that doesn't go with the one for this plan.
+    fn wrong_relation(&self, rng: &mut Rng, card: &[u8], plan: &[u8]) -> Option<String> {
+        let found = self.found(card, plan, self.held());
+        let judged = self.judged(card, plan);
+        let differs = |title: &str, part: &[u8], due: &Shortest| {
+            let other = self.found(card, part, self.held());
+            (other != *due).then(|| format!("{found:?}, but {title} {} gives {other:?}", shown(part)))
+        };
+        match (&found, &judged) {
+            (Shortest::None, Judged::Hopeless(_) | Judged::Allowed | Judged::Unfinished) => {
+                let from = rng.below(plan.len() + 1);
+                let until = rng.between(from, plan.len());
+                differs("its part", &plan[from..until], &Shortest::None)
+            }
+            (&Shortest::At { start, length }, Judged::Hopeless(_)) => {
+                let (start, end) = (start as usize, (start + length) as usize);
+                let Some(stretch) = plan.get(start..end) else { return Some(format!("{found:?} is no stretch of it")) };
+                let around = [random_cards::searched_plan(rng, card, 6), random_cards::searched_plan(rng, card, 6)];
+                let longer = [&around[0], stretch, &around[1]].concat();
+                let may_be = match self.judged(card, &longer) {
+                    Judged::Hopeless(_) | Judged::ForeignLetter { .. } => None,
+                    other => Some(format!("{found:?}, but {} is {other:?}", shown(&longer))),
+                };
+                let shorter = |part: &[u8], least: u64| match self.found(card, part, self.held()) {
+                    Shortest::At { start, length } if length < least => {
+                        Some(format!("{found:?}, but {} gives {start}, {length}", shown(part)))
+                    }
+                    _ => None,
+                };
+                may_be
+                    .or_else(|| differs("the stretch", stretch, &Shortest::At { start: 0, length }))
+                    .or_else(|| differs("the plan up to its end", &plan[..end], &found))
+                    .or_else(|| if end > 0 { shorter(&plan[..end - 1], length + 1) } else { None })
+                    .or_else(|| shorter(&plan[plan.len().min(start + 1)..], length))
+                    .or_else(|| proper_parts(stretch).find_map(|part| differs("its part", part, &Shortest::None)))
+            }
+            (Shortest::ForeignLetter { before }, Judged::ForeignLetter { before: judged }) if before == judged => None,
+            _ => Some(format!("{found:?}, but judging says {judged:?}")),
+        }
+    }
+
+    fn held(&self) -> [u64; 3] {
+        self.calls.set(self.calls.get() + 1);
+        HELD[self.calls.get() % HELD.len()]
+    }
+
+    fn found(&self, card: &[u8], plan: &[u8], held: [u64; 3]) -> Shortest {
+        last_case::note(|| format!("the shortest stretch of {} by {}, out {held:?}", shown(plan), hex(card)));
+        self.product.shortest(card, plan, held)
+    }
+
+    fn judged(&self, card: &[u8], plan: &[u8]) -> Judged {
+        last_case::note(|| format!("judging {} by {}", shown(plan), hex(card)));
+        self.product.judge(card, plan)
+    }
+
+    fn due(&self, tally: &mut Tally, card: &[u8], plan: &[u8], due: Shortest) {
+        if tally.is_over() {
+            return;
+        }
+        let found = self.found(card, plan, self.held());
+        tally.same(&format!("the shortest stretch of {} by {}", shown(plan), hex(card)), &due, &found);
+    }
+
+    fn compare(&self, tally: &mut Tally, card: &[u8], plan: &[u8]) {
+        if tally.is_over() {
+            return;
+        }
+        let held = self.held();
+        let differs = |plan: &[u8]| self.found(card, plan, held) != self.reference.shortest(card, plan, held);
+        let failed = differs(plan);
+        let small = if failed && tally.prints_failures() { shrink(plan, 500, differs) } else { plan.to_vec() };
+        tally.check(!failed, || {
+            let (reference, product) = (self.reference.shortest(card, &small, held), self.found(card, &small, held));
+            let call = format!("the shortest stretch of {} by {}, out {held:?}", shown(&small), hex(card));
+            format!("{call}\n  reference: {reference:?}\n  product:   {product:?}")
+        });
+    }
+}
+
+fn at(start: Option<usize>, length: usize) -> Shortest {
+    start.map_or(Shortest::None, |start| Shortest::At { start: start as u64, length: length as u64 })
+}
+
+/// All that are unbroken; of long ones those without the first or last letter,
+/// which the others lie in.
+fn proper_parts(stretch: &[u8]) -> impl Iterator<Item = &[u8]> {
+    let shortest = if stretch.len() > 12 { stretch.len() - 1 } else { 0 };
+    (shortest..stretch.len()).flat_map(move |length| stretch.windows(length.max(1)).map(move |part| &part[..length]))
+}
