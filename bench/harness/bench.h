@@ -10,6 +10,7 @@
 Compiled second_compile(const uint8_t *text, size_t length, uint8_t *card, size_t room);
 void second_load(const uint8_t *card, size_t length, uint64_t out[3]);
 void second_judge(const uint8_t *card, size_t length, const uint8_t *plan, size_t letters, uint64_t out[3]);
+void second_shortest(const uint8_t *card, size_t length, const uint8_t *plan, size_t letters, uint64_t out[4]);
 
 enum { CARD = 3278 };
 
@@ -61,7 +62,7 @@ typedef struct {
 Times time_both(Action product, Action twin, Action second, void *with, double seconds, int most);
 double now(void);
 
-// A card, a plan, and the answer: a number, two values and 0.
+// A card, a plan, and the answer: a number and three values.
 typedef struct {
     const char *name;
     size_t length;
@@ -71,8 +72,18 @@ typedef struct {
     uint64_t out[4];
 } Judging;
 
+void begin_seed(uint32_t salt); // random numbers from now on, by PIER_SEED and the salt
+int below(int n);
+
 int seeded_cards(void); // how many there are
 void seeded_card(int i, Judging *j);
+void trap_card(int letters, int states, Judging *j); // the smallest card of a random machine, one of its states dead
+
+enum { BOARD_CARDS = 9 };
+int board_card(const char *folder, int i, Judging *j); // the cards for plans, by number; false where the book is not there
+int text_card(const Text *text, Judging *j);           // false where it is refused
+void live_plan(const Judging *j, uint8_t *plan, size_t letters);
+int same_answer(Judging *j, Action product, Action twin); // by each way to refine; prints what differs
 
 Times time_load(Judging *j, double seconds, int most);
 Times time_judge(Judging *j, double seconds, int most);
@@ -81,6 +92,8 @@ int same_cards(const Texts *texts); // how many books differ; prints each
 Times time_compile(Text *text, double seconds, int most);
 void compile_times(const Texts *texts, double seconds);
 int board_both(const char *folder, double seconds, int *compared); // how many answers differ, of so many; seconds 0 only compares
+int same_factors(const char *folder, int *compared);               // likewise
+int factor_times(const char *folder, double seconds);              // how many answers differ
 
 // One stage: its sets, and nanoseconds by each.
 typedef struct {

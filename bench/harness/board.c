@@ -36,7 +36,7 @@ Times time_load(Judging *j, double seconds, int most) { return time_both(load_pr
 Times time_judge(Judging *j, double seconds, int most) { return time_both(judge_product, judge_twin, IF_SECOND(judge_second), j, seconds, most); }
 
 // A random plan that never turns hopeless: each letter is one of those that lead to a live state.
-static void make_plan(const Judging *j, uint8_t *plan, size_t letters) {
+void live_plan(const Judging *j, uint8_t *plan, size_t letters) {
     size_t m = j->card[2], n = j->card[6], s = 0;
     const uint8_t *names = j->card + 12, *marks = names + m, *moves = marks + n;
     uint32_t seed = 2463534242u;
@@ -65,15 +65,15 @@ static int same_by(Judging *j, Action product, Action twin, int method) {
     twin(j);
     refine_by(ROUNDS);
     if (memcmp(p, j->out, sizeof p) == 0) return 1;
-    printf("differs: %s: product %lu %lu %lu %lu; C %lu %lu %lu\n", j->name, p[0], p[1], p[2], p[3], j->out[0], j->out[1], j->out[2]);
+    printf("differs: %s: product %lu %lu %lu %lu; C %lu %lu %lu %lu\n", j->name, p[0], p[1], p[2], p[3], j->out[0], j->out[1], j->out[2], j->out[3]);
     return 0;
 }
 
-static int same(Judging *j, Action product, Action twin) { return same_by(j, product, twin, ROUNDS) && same_by(j, product, twin, HOPCROFT); }
+int same_answer(Judging *j, Action product, Action twin) { return same_by(j, product, twin, ROUNDS) && same_by(j, product, twin, HOPCROFT); }
 
 // Loading alone.
 static int load_only(Judging *j, double seconds) {
-    int differ = !same(j, load_product, load_twin);
+    int differ = !same_answer(j, load_product, load_twin);
     if (seconds > 0) line("load", j, 0, time_load(j, seconds, 2001));
     return differ;
 }
@@ -82,12 +82,12 @@ static int one_card(Judging *j, double seconds) {
     static uint8_t plan[1000000];
     static const size_t lengths[] = {10, 1000, 1000000};
     int differ = 0;
-    make_plan(j, plan, sizeof plan);
+    live_plan(j, plan, sizeof plan);
     j->plan = plan;
     differ += load_only(j, seconds);
     for (int i = 0; i < 3; i++) {
         j->letters = lengths[i];
-        differ += !same(j, judge_product, judge_twin);
+        differ += !same_answer(j, judge_product, judge_twin);
         if (seconds > 0) line("judge", j, lengths[i], time_judge(j, seconds, 2001));
     }
     return differ;
@@ -106,26 +106,35 @@ static const struct {
     {"two counters", ":" ALPHABET "\n>a / (..)* _ .*\n>b / (" DOTS59 ")* _ .*\n"},
 };
 
-static int from_text(Judging *j, const char *name, const uint8_t *text, size_t length) {
-    j->name = name;
-    Compiled c = plain_compile(text, length, j->card, CARD);
+int text_card(const Text *text, Judging *j) {
+    Compiled c = plain_compile(text->text, text->length, j->card, CARD);
+    j->name = text->name;
     j->length = c.length;
     return c.number == 0;
 }
 
-int board_both(const char *folder, double seconds, int *compared) {
+int board_card(const char *folder, int i, Judging *j) {
     static const char *names[] = {"05-harbour-day-26", "08-counters-110", "06-window-6-26", "20-exactly-120-states", "19-exactly-512-sets"};
+    enum { TEXTS = sizeof cards / sizeof *cards };
+    static Text made;
+    if (i >= TEXTS) {
+        Texts t = find_text(folder, names[i - TEXTS]);
+        return t.count && text_card(t.text, j);
+    }
+    snprintf(made.name, sizeof made.name, "%s", cards[i].name);
+    made.length = strlen(cards[i].text);
+    memcpy(made.text, cards[i].text, made.length);
+    return text_card(&made, j);
+}
+
+int board_both(const char *folder, double seconds, int *compared) {
     int differ = 0;
     static Judging j;
-    for (size_t i = 0; i < sizeof cards / sizeof *cards; i++)
-        if (from_text(&j, cards[i].name, (const uint8_t *)cards[i].text, strlen(cards[i].text))) differ += one_card(&j, seconds), *compared += 4;
-    for (size_t i = 0; i < sizeof names / sizeof *names; i++) {
-        Texts t = find_text(folder, names[i]);
-        if (t.count && from_text(&j, names[i], t.text->text, t.text->length)) differ += one_card(&j, seconds), *compared += 4;
-    }
+    for (int i = 0; i < BOARD_CARDS; i++)
+        if (board_card(folder, i, &j)) differ += one_card(&j, seconds), *compared += 4;
     Texts seeded = seeded_texts();
     for (int i = 0; i < seeded.count; i++)
-        if (from_text(&j, seeded.text[i].name, seeded.text[i].text, seeded.text[i].length)) differ += load_only(&j, seconds), *compared += 1;
+        if (text_card(&seeded.text[i], &j)) differ += load_only(&j, seconds), *compared += 1;
     for (int i = 0; i < seeded_cards(); i++) {
         seeded_card(i, &j);
         differ += load_only(&j, seconds), *compared += 1;

@@ -9,13 +9,13 @@
 
 static uint32_t state;
 
-static void begin_seed(uint32_t salt) {
+void begin_seed(uint32_t salt) {
     const char *given = getenv("PIER_SEED");
     state = 2463534242u ^ (given ? (uint32_t)strtoul(given, 0, 10) * 2654435761u : 0) ^ salt * 40503u;
     if (!state) state = 1;
 }
 
-static int below(int n) {
+int below(int n) {
     state ^= state << 13, state ^= state >> 17, state ^= state << 5;
     return (int)((state >> 8) % (uint32_t)n);
 }
@@ -190,4 +190,14 @@ void seeded_card(int i, Judging *j) {
         s->make(&t, s->make == random_table ? s->states + below(1 + s->states / 2) : s->states);
         got = card_of(&t, s->smallest, j);
     }
+}
+
+void trap_card(int letters, int states, Judging *j) {
+    static Table t;
+    t.m = letters;
+    random_table(&t, states);
+    t.accepting[states - 1] = 0;
+    for (int c = 0; c < letters; c++) t.next[(states - 1) * letters + c] = (uint16_t)(states - 1);
+    j->name = "random with a trap";
+    card_of(&t, 1, j);
 }

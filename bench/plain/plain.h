@@ -15,6 +15,7 @@
 #define plain_load second_load
 #define plain_judge second_judge
 #define plain_walk second_walk
+#define plain_shortest second_shortest
 #define plain_hopcroft second_hopcroft
 #define plain_method second_method
 #endif
@@ -78,5 +79,9 @@ void plain_judge(const uint8_t *card, size_t length, const uint8_t *plan, size_t
 
 // The walk alone, on a card that was tested.
 void plain_walk(const uint8_t *card, const uint8_t *plan, size_t letters, uint64_t out[3]);
+
+// The shortest stretch of the plan that lies inside no allowed plan, of equal ones the leftmost: 0, 1, its start, its length; 0, 0, 0, 0 where the whole plan
+// lies inside one; or 21 to 26; or 27, 0, the place, 0.
+void plain_shortest(const uint8_t *card, size_t length, const uint8_t *plan, size_t letters, uint64_t out[4]);
 
 #endif
