@@ -1,11 +1,11 @@
 -- On a card that loads the test of a factor is exact; so the reply is right, for every row of bytes as card and every plan, and one reply only is.
 use mathlib.Core.Path.{_≡_, refl, sym, ap, _∙_}
-use mathlib.Core.Bool.{Bool, true, false, not, false≢true}
-use mathlib.Core.Logic.{_⊎_, inl, inr, _↔_, _≢_}
-use mathlib.Core.List.{List, [], _∷_, _++_, append-nil, append-assoc}
-use Prim.Native.Nat.{ℕ, zero, suc, _+_, _≤_, _<_}
+use mathlib.Core.Bool.{true, false, not}
+use mathlib.Core.Logic.{inl, inr, _↔_, _≢_}
+use mathlib.Core.List.{List, [], _++_, append-assoc}
+use Prim.Native.Nat.{ℕ, zero, _<_}
 use native.Mathlib.Omega.{arith}
-use lib.ListN.{length, getD, take, drop, take-append-drop}
+use lib.ListN.{length, take, drop, take-append-drop}
 use lib.Dec.{eqb}
 use Rattle.automata.specs.Booleans.{not-true}
 use Rattle.automata.specs.Basics.{LtCases, lt-cases, nat-test}
@@ -16,7 +16,7 @@ use Rattle.automata.specs.Format.{Format}
 use Rattle.card.specs.Mark.{Mark, is-accepting, is-dead, is-live}
 use Rattle.card.specs.Layout.{letterCount, stateCount, markAt, lettersOf, machineOf}
 use Rattle.card.specs.LayoutLaws.{letters-length, size-is}
-use Rattle.card.specs.Alphabet.{column, columns, columns-append, columns-spell, spell, Known, known-left, known-append, known-at, knownCount, Counted, counted, all-known, first-unknown}
+use Rattle.card.specs.Alphabet.{columns, columns-append, columns-spell, spell, Known, known-left, known-append, known-at, knownCount, Counted, counted, all-known, first-unknown}
 use Rattle.card.specs.Load.{loadTest}
 use Rattle.card.specs.LoadLaws.{tested, tested-only}
 use Rattle.card.specs.Loads.{Loaded, load-loaded, loaded-formed}
@@ -25,7 +25,7 @@ use Rattle.card.specs.Judge.{stateAfter, cardAllows}
 use Rattle.card.specs.RunLaws.{state-machine}
 use Rattle.factor.specs.Factor.{factor, Inside, Shortest, none, at, Blames, blames-one, blames-none, nothing-empty}
 use Rattle.factor.specs.Shortest.{insideTest, shortestBy, Reply, found, refused, shortest, Replies, no-card, unknown-letter, blamed}
-use Rattle.factor.specs.ShortestLaws.{passed, failed, shortest-blames}
+use Rattle.factor.specs.ShortestLaws.{failed, shortest-blames}
 
 -- A factor of known letters has known letters.
 pub known-factor : (fmt : Format) (c plan : List ℕ) (i k : ℕ) → Known (lettersOf fmt c) plan → Known (lettersOf fmt c) (factor plan i k)
@@ -90,8 +90,12 @@ module _ (fmt : Format) (c : List ℕ) (l : Loaded fmt c) where
 
           -- a word that is accepted from q ends an allowed plan with s inside
           ends : (w : List ℕ) → Over (letterCount fmt c) w → automaton M .accepting (run (automaton M) q w) ≡ true → Inside (cardAllows fmt c) s
-          ends w x t = (u, spell ls w, ap (cardAllows fmt c) (sym (append-assoc u s (spell ls w)))
-              ∙ allows-word ls M (l .alphabet) (u ++ s) us w (rw width x) (rw arrives t))
+          ends w x t = (
+            u,
+            spell ls w,
+            ap (cardAllows fmt c) (sym (append-assoc u s (spell ls w)))
+                ∙ allows-word ls M (l .alphabet) (u ++ s) us w (rw width x) (rw arrives t),
+          )
 
           go : (v : ℕ) → markAt fmt c q ≡ v → Mark (letterCount fmt c) M q v → Inside (cardAllows fmt c) s
           go v z (is-accepting f) = ends [] tt f

@@ -60,8 +60,8 @@ blames-one ok plan r r′ (is-at i k a) (is-at i′ k′ b) = long (lt-cases k k
     start e (inr p) (inr q) = let z : i ≡ i′ = omega arith in λ t. at (z t) (e t)
 
     long : LtCases k k′ → LtCases k′ k → at i k ≡ at i′ k′
-    long (inl p) q = absurd (a .outside (b .shorter i k (a .most) (p .0)))
-    long (inr p) (inl q) = absurd (b .outside (a .shorter i′ k′ (b .most) (q .0)))
+    long (inl p) q = absurd (a .outside (b .shorter i k (a .most) (omega (arith, p .0))))
+    long (inr p) (inl q) = absurd (b .outside (a .shorter i′ k′ (b .most) (omega (arith, q .0))))
     long (inr p) (inr q) = start (omega arith) (lt-cases i i′) (lt-cases i′ i)
 
 abbrev isNone : Shortest → Bool

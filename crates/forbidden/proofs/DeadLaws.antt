@@ -1,15 +1,12 @@
 -- On a card that loads: a state is dead after some letters exactly when the place where it is dead first is not beyond them; and the card's one dead state.
-use mathlib.Core.Path.{_≡_, refl, sym, ap, _∙_}
-use mathlib.Core.Bool.{true, false}
-use mathlib.Core.Logic.{_⊎_, inl, inr, _↔_, _≢_}
+use mathlib.Core.Path.{_≡_, sym, _∙_}
+use mathlib.Core.Logic.{inl, inr, _↔_}
 use mathlib.Core.List.{List, [], _∷_}
 use Prim.Native.Nat.{ℕ, zero, suc, _+_, _≤_, _<_}
 use native.Mathlib.Omega.{arith}
-use lib.ListN.{length, getD, take}
-use lib.Dec.{eqb}
-use Rattle.automata.specs.Booleans.{choose}
+use lib.ListN.{length, take}
 use Rattle.automata.specs.Basics.{LtCases, lt-cases, SameCases, same-cases, nat-test}
-use Rattle.automata.specs.Machine.{size, automaton}
+use Rattle.automata.specs.Machine.{automaton}
 use Rattle.automata.specs.Dead.{Dead, dead-one}
 use Rattle.automata.specs.Format.{narrow}
 use Rattle.card.specs.Mark.{Mark, is-accepting, is-dead, is-live}
@@ -17,7 +14,7 @@ use Rattle.card.specs.Layout.{letterCount, stateCount, markAt, moveAt, lettersO
 use Rattle.card.specs.LayoutLaws.{letters-length, marksOf-length, marks-at, size-is}
 use Rattle.card.specs.Alphabet.{column, Known}
 use Rattle.card.specs.Loads.{Loaded, loaded-card}
-use Rattle.card.specs.Judge.{none, found, stateAfter, deadAt, firstDead}
+use Rattle.card.specs.Judge.{stateAfter, firstDead}
 use Rattle.card.specs.RunLaws.{dead-stays}
 use Rattle.factor.specs.CardLaws.{known-factor}
 use Rattle.ends.specs.Ends.{DeadState}

@@ -10,7 +10,7 @@ use lib.Dec.{eqb}
 use Rattle.automata.specs.Booleans.{bool-cases}
 use Rattle.automata.specs.Format.{narrow}
 use Rattle.card.specs.Layout.{letterCount, stateCount, lettersOf}
-use Rattle.card.specs.Alphabet.{Known, at-known}
+use Rattle.card.specs.Alphabet.{at-known}
 use Rattle.card.specs.Load.{loadTest, Tested}
 use Rattle.card.specs.LoadLaws.{tested}
 use Rattle.card.specs.Loads.{load-loaded}

@@ -1,31 +1,27 @@
 -- The places before any letter and after one letter more, and what the last place says.
-use mathlib.Core.Path.{_≡_, refl, sym, ap, _∙_, subst}
-use mathlib.Core.Bool.{Bool, true, false, not}
+use mathlib.Core.Path.{_≡_, sym, ap, _∙_, subst}
+use mathlib.Core.Bool.{Bool, false}
 use mathlib.Core.Logic.{_⊎_, inl, inr, _↔_, _≢_}
 use mathlib.Core.List.{List, [], _∷_}
-use Prim.Native.Nat.{ℕ, zero, suc, _+_, _*_, _-_, _≤_, _<_}
+use Prim.Native.Nat.{ℕ, zero, suc, _+_, _-_, _≤_, _<_}
 use native.Mathlib.Omega.{arith}
 use lib.ListN.{length, getD, take, drop, length-drop}
 use lib.Seq.{take-length, drop-length, drop-cons}
 use lib.Dec.{eqb}
-use Rattle.automata.specs.Booleans.{choose, not-true}
-use Rattle.automata.specs.Basics.{LtCases, lt-cases, SameCases, same-cases, nat-test}
-use Rattle.automata.specs.Decide.{any-below, below-any, contradict}
-use Rattle.automata.specs.Machine.{automaton}
+use Rattle.automata.specs.Booleans.{not-true}
+use Rattle.automata.specs.Basics.{SameCases, same-cases, nat-test}
 use Rattle.automata.specs.Format.{narrow}
 use Rattle.card.specs.Layout.{letterCount, stateCount, markAt, moveAt, lettersOf, marksOf, movesOf, machineOf}
-use Rattle.card.specs.LayoutLaws.{letters-length, moves-at, moves-length}
+use Rattle.card.specs.LayoutLaws.{letters-length, moves-at}
 use Rattle.card.specs.Alphabet.{column, Known, known-at}
 use Rattle.card.specs.Loads.{Loaded}
 use Rattle.card.specs.Allowed.{allows-dead}
 use Rattle.card.specs.Judge.{stateAfter, firstDead, cardAllows}
-use Rattle.factor.specs.Factor.{Inside, Shortest, none, at, Blames, is-none, nothing-empty}
-use Rattle.factor.specs.LongerLaws.{ShortestStart, longer-inside, longer-first, longer-nearer, longer-kept}
-use Rattle.factor.specs.Shortest.{insideTest}
+use Rattle.factor.specs.Factor.{Inside, at, Blames, nothing-empty}
+use Rattle.factor.specs.LongerLaws.{ShortestStart}
 use Rattle.factor.specs.CardLaws.{known-factor, inside-from, outside-dead}
-use Rattle.ends.specs.Ends.{DeadState, placed, Filled, nextPlace, Stepping, Stepped}
-use Rattle.forbidden.specs.declared.Best.{Best}
-use Rattle.forbidden.specs.Pass.{placeOr, Places, Bettered, nearer, nowhere, longer}
+use Rattle.ends.specs.Ends.{DeadState, Filled, nextPlace, Stepped}
+use Rattle.forbidden.specs.Pass.{placeOr, Places}
 use Rattle.forbidden.proofs.DeadLaws.{move-state, first-low, dead-by, no-word, dead-is}
 
 module _ (c : List ℕ) (l : Loaded narrow c) (plan : List ℕ) (o : Known (lettersOf narrow c) plan) where

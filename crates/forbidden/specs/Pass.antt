@@ -1,8 +1,7 @@
 -- The pass from the plan's end: where each state is dead first, and the best stretch so far.
 use mathlib.Core.Path.{_≡_}
-use mathlib.Core.Logic.{_⊎_}
 use mathlib.Core.List.{List}
-use Prim.Native.Nat.{ℕ, suc, _+_, _*_, _-_, _≤_, _<_}
+use Prim.Native.Nat.{ℕ, _+_, _-_, _≤_, _<_}
 use lib.ListN.{length, getD, drop}
 use Rattle.automata.specs.Format.{narrow}
 use Rattle.card.specs.Layout.{stateCount, lettersOf}

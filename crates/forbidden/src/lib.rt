@@ -38,7 +38,14 @@ fn better(best: Best, i: usize, last: usize, never: usize) -> Best
 }
 
 // The pass, over two rows of places with an entry for each state and one more.
-fn pass(card: &[u8], m: usize, n: usize, table: &[u8; 256], plan: &[u8], places: &mut [usize]) -> Answer
+fn pass(
+    card: &[u8],
+    m: usize,
+    n: usize,
+    table: &[u8; 256],
+    plan: &[u8],
+    places: &mut [usize],
+) -> Answer
     requires { ⌜ Searchable (now card) m n (now table) (now plan) × (n + n + 2 ≤ length (now places)) ⌝ }
     ensures { λ r. ⌜ Searched (now (card .entry)) (now (plan .entry)) r ⌝ }
 {
@@ -50,7 +57,10 @@ fn pass(card: &[u8], m: usize, n: usize, table: &[u8; 256], plan: &[u8], places:
     let never = plan.len() + 1;
     ends::fill(places, n, dead, plan.len(), never);
     let mut from = 0;
-    let mut best = Best { start: 0, length: never };
+    let mut best = Best {
+        start: 0,
+        length: never,
+    };
     let mut i = plan.len();
     while 0 < i {
         i -= 1;

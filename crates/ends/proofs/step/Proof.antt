@@ -1,5 +1,5 @@
-use borrow.Author.Needs.{needs, scaled-fits}
 -- `step` meets its contract: the states passed have their places.
+use borrow.Author.Needs.{needs, scaled-fits}
 use mathlib.Core.Path.{_≡_}
 use mathlib.Core.Logic.{inl, inr, ⊎-elim}
 use Prim.Native.Nat.{_+_, _*_, _≤_, _-_}
@@ -8,8 +8,6 @@ use native.Mathlib.Omega.{arith}
 use Rattle.ends.proofs.EndsLaws.{SteppedTo, stepped-start, move-place, end-inside, next-place, next-low, place-read, stepped-next, stepped-done}
 use Rattle.ends.proofs.step.Statement.{statement}
 use Rattle.ends.proofs.step.Tie as tie
-use Rattle.ends.proofs.step.Reads as reads
-use Rattle.ends.proofs.step.Lts as lts
 
 abbrev Inv-loop : tie.InvT-loop
 Inv-loop moves m n column dead ends₀ from to here last₀ at₀ q₀ ends last at q = (q ≤ n) × (at ≡ q * m + column) × SteppedTo moves m n column from to ends₀ ends last q
@@ -17,75 +15,30 @@ Inv-loop moves m n column dead ends₀ from to here last₀ at₀ q₀ ends last
 abbrev μ-loop : tie.MeasureT-loop
 μ-loop moves m n column dead ends₀ from to here last₀ at₀ q₀ ends last at q = n - q
 
--- src/lib.rt:56:5
 loop-holds : tie.Need-loop-holds Inv-loop μ-loop
 loop-holds c = (omega arith, omega (arith, zero-mul (c .args .m)), stepped-start _ _ _ _ _ _ _ _ (c .pre))
 
--- src/lib.rt:57:20
 shared-slice-read-next : tie.Need-shared-slice-read-next Inv-loop μ-loop
 shared-slice-read-next c = move-place _ _ _ _ _ _ _ _ (c .before .before .before .pre) _ _ (c .before .before .loop .inv .1) (c .before .loop-test .taken)
 
--- src/lib.rt:57:20
 cast-next : tie.Need-cast-next Inv-loop μ-loop
 cast-next c = omega (arith, c .shared-slice-known .given (c .before .before .loop .at))
 
--- src/lib.rt:58:24
 add-end : tie.Need-add-end Inv-loop μ-loop
 add-end c = omega (arith, end-inside _ _ _ _ _ _ _ _ (c .before .before .before .pre) _ _ (c .before .before .loop .inv .1) (c .before .loop-test .taken))
 
--- src/lib.rt:58:19
 mul-end : tie.Need-mul-end Inv-loop μ-loop
 mul-end c = scaled-fits _ _ 8 (end-inside _ _ _ _ _ _ _ _ (c .before .before .before .pre) _ _ (c .before .before .loop .inv .1) (c .before .loop-test .taken)) (c .before .before .before .good .1 .1 .1 .1 .1 .0 .1)
 
--- src/lib.rt:58:19
 slice-read-end : tie.Need-slice-read-end Inv-loop μ-loop
 slice-read-end c = omega (arith, end-inside _ _ _ _ _ _ _ _ (c .before .before .before .before .pre) _ _ (c .before .before .before .loop .inv .1) (c .before .before .loop-test .taken), c .before .before .before .loop .inv .2 .long)
 
--- src/lib.rt:59:14
-add-ends : tie.Need-add-ends Inv-loop μ-loop
-add-ends c = search needs
-
--- src/lib.rt:59:9
-mul-ends : tie.Need-mul-ends Inv-loop μ-loop
-mul-ends c = search needs
-
--- src/lib.rt:59:9
-slice-write-ends : tie.Need-slice-write-ends Inv-loop μ-loop
-slice-write-ends c = search needs
-
--- src/lib.rt:63:9
 add-at : tie.Need-add-at Inv-loop μ-loop
 add-at c = omega (arith, next-low _ _ _ _ _ _ _ _ (c .before .before .before .before .before .pre) _ _ (c .before .before .before .before .loop .inv .1) (c .before .before .before .loop-test .taken), c .before .before .before .before .before .good .0 .1)
 
--- src/lib.rt:64:9
-add-q : tie.Need-add-q Inv-loop μ-loop
-add-q c = search needs
-
--- src/lib.rt:56:5
-loop-less : tie.Need-loop-less Inv-loop μ-loop
-loop-less c = search needs
-
--- src/lib.rt:56:5
 loop-again : tie.Need-loop-again Inv-loop μ-loop
 loop-again c = (omega arith, next-place _ _ _ _ _ _ _ _ (c .before .before .before .before .before .pre) _ _ (c .before .before .before .before .loop .inv .1) (c .before .before .before .loop-test .taken), stepped-next _ _ _ _ _ _ _ _ (c .before .before .before .before .before .pre) _ _ _ (c .before .before .before .before .loop .inv .2) _ _ (c .before .before .before .loop-test .taken) (place-read _ _ _ _ _ _ _ _ (c .before .before .before .before .before .pre) _ _ _ (c .before .before .before .before .loop .inv .2) _ (c .before .before .before .before .loop .inv .1) (c .before .before .before .loop-test .taken)) (⊎-elim (λ w. inl (w .0 .taken, w .1)) (λ w. inr (w .0 .left, w .1)) (c .if1 .came)))
 
--- src/lib.rt:66:10
-add-ends-2 : tie.Need-add-ends-2 Inv-loop μ-loop
-add-ends-2 c = search needs
-
--- src/lib.rt:66:5
-mul-ends-2 : tie.Need-mul-ends-2 Inv-loop μ-loop
-mul-ends-2 c = search needs
-
--- src/lib.rt:66:5
-slice-write-ends-2 : tie.Need-slice-write-ends-2 Inv-loop μ-loop
-slice-write-ends-2 c = search needs
-
--- src/lib.rt:39:1
-same-length : tie.Need-same-length Inv-loop μ-loop
-same-length c = search needs
-
--- src/lib.rt:39:1
 returns : tie.Need-returns Inv-loop μ-loop
 returns c = stepped-done _ _ _ _ _ _ _ _ (c .before .before .pre) _ _ _ (c .before .loop .inv .2) _ (c .before .loop .inv .0) (c .loop-test .left)
 
@@ -101,15 +54,15 @@ step-spec =
     add-end
     mul-end
     slice-read-end
-    add-ends
-    mul-ends
-    slice-write-ends
+    (λ c. search needs)
+    (λ c. search needs)
+    (λ c. search needs)
     add-at
-    add-q
-    loop-less
+    (λ c. search needs)
+    (λ c. search needs)
     loop-again
-    add-ends-2
-    mul-ends-2
-    slice-write-ends-2
-    same-length
+    (λ c. search needs)
+    (λ c. search needs)
+    (λ c. search needs)
+    (λ c. search needs)
     returns)
