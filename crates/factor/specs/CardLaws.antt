@@ -1,17 +1,17 @@
 -- On a card that loads the test of a factor is exact; so the reply is right, for every row of bytes as card and every plan, and one reply only is.
 use mathlib.Core.Path.{_≡_, refl, sym, ap, _∙_}
 use mathlib.Core.Bool.{true, false, not}
-use mathlib.Core.Logic.{inl, inr, _↔_, _≢_}
-use mathlib.Core.List.{List, [], _++_, append-assoc}
+use mathlib.Core.Logic.{_⊎_, inl, inr, _↔_, _≢_}
+use mathlib.Core.List.{List, [], _++_, append-nil, append-assoc}
 use Prim.Native.Nat.{ℕ, zero, _<_}
 use native.Mathlib.Omega.{arith}
 use lib.ListN.{length, take, drop, take-append-drop}
 use lib.Dec.{eqb}
-use Rattle.automata.specs.Booleans.{not-true}
+use Rattle.automata.specs.Booleans.{bool-cases, not-true}
 use Rattle.automata.specs.Basics.{LtCases, lt-cases, nat-test}
 use Rattle.automata.specs.Automaton.{Over, run, run-append, Reachable}
 use Rattle.automata.specs.Machine.{Machine, automaton, access, run-inside}
-use Rattle.automata.specs.Decide.{unless-elim, contradict, any-below, below-any}
+use Rattle.automata.specs.Decide.{unless, unless-elim, contradict, any-below, below-any}
 use Rattle.automata.specs.Format.{Format}
 use Rattle.card.specs.Mark.{Mark, is-accepting, is-dead, is-live}
 use Rattle.card.specs.Layout.{letterCount, stateCount, markAt, lettersOf, machineOf}
@@ -21,10 +21,12 @@ use Rattle.card.specs.Load.{loadTest}
 use Rattle.card.specs.LoadLaws.{tested, tested-only}
 use Rattle.card.specs.Loads.{Loaded, load-loaded, loaded-formed}
 use Rattle.card.specs.Allowed.{count-known, allows-iff, allows-word, known-right}
-use Rattle.card.specs.Judge.{stateAfter, cardAllows}
+use Rattle.card.specs.Verdict.{Verdict, hopeless, Says, is-allowed, is-unfinished, is-hopeless}
+use Rattle.card.specs.Judge.{stateAfter, cardAllows, judge, verdict, refused as refused′}
+use Rattle.card.specs.JudgeLaws.{judge-iff}
 use Rattle.card.specs.RunLaws.{state-machine}
 use Rattle.factor.specs.Factor.{factor, Inside, Shortest, none, at, Blames, blames-one, blames-none, nothing-empty}
-use Rattle.factor.specs.Shortest.{insideTest, shortestBy, Reply, found, refused, shortest, Replies, no-card, unknown-letter, blamed}
+use Rattle.factor.specs.Shortest.{liesInside, shortestBy, Reply, found, refused, shortest, Replies, no-card, unknown-letter, blamed}
 use Rattle.factor.specs.ShortestLaws.{failed, shortest-blames}
 
 -- A factor of known letters has known letters.
@@ -52,11 +54,11 @@ module _ (fmt : Format) (c : List ℕ) (l : Loaded fmt c) where
 
   -- A factor lies inside some allowed plan exactly when it leads some state to one that is not dead: every state is reached, so what is behind a state
   -- ends an allowed plan.
-  pub inside-exact : (s : List ℕ) → Known ls s → (insideTest fmt c s ≡ true) ↔ Inside (cardAllows fmt c) s
-  unfolding insideTest
+  pub inside-exact : (s : List ℕ) → Known ls s → (liesInside fmt c s ≡ true) ↔ Inside (cardAllows fmt c) s
+  unfolding liesInside
   inside-exact s o = (to, back)
     where
-      to : insideTest fmt c s ≡ true → Inside (cardAllows fmt c) s
+      to : liesInside fmt c s ≡ true → Inside (cardAllows fmt c) s
       to e = go (markAt fmt c q) refl (l .marked q (within s p h o))
         where
           p : ℕ
@@ -102,7 +104,7 @@ module _ (fmt : Format) (c : List ℕ) (l : Loaded fmt c) where
           go v z (is-dead d) = contradict (nat-test .whole 2) (rw z at alive)
           go v z (is-live f w x t) = ends w x t
 
-      back : Inside (cardAllows fmt c) s → insideTest fmt c s ≡ true
+      back : Inside (cardAllows fmt c) s → liesInside fmt c s ≡ true
       back (u, v, e) = below-any _ (stateCount fmt c) p h (rw (along s p h o) (go (markAt fmt c q) (l .marked q (within s p h o))))
         where
           known : Known ls (u ++ (s ++ v))
@@ -137,19 +139,19 @@ module _ (fmt : Format) (c : List ℕ) (l : Loaded fmt c) where
 
   -- from one state that is led to no dead one, and from all
   pub inside-from : (s : List ℕ) → Known ls s → (p : ℕ) → p < stateCount fmt c → markAt fmt c (stateAfter fmt c s p) ≢ 2 → Inside (cardAllows fmt c) s
-  unfolding insideTest
+  unfolding liesInside
   inside-from s o p h f = inside-exact s o .0
       (below-any _ (stateCount fmt c) p h (rw (not-true (eqb (markAt fmt c (stateAfter fmt c s p)) 2) (λ t. f (nat-test .sound (markAt fmt c (stateAfter fmt c s p)) 2 t)))))
 
   pub outside-dead : (s : List ℕ) → Known ls s → ((p : ℕ) → p < stateCount fmt c → markAt fmt c (stateAfter fmt c s p) ≡ 2) → ¬ Inside (cardAllows fmt c) s
-  unfolding insideTest
+  unfolding liesInside
   outside-dead s o f e =
       let (p, h, t) = any-below _ (stateCount fmt c) (inside-exact s o .1 e) in
       contradict (rw (f p h) (nat-test .whole 2)) (failed (eqb (markAt fmt c (stateAfter fmt c s p)) 2) t)
 
   -- THE ANSWER of a loaded card on a plan of its letters is the right one.
-  pub loaded-blames : (plan : List ℕ) → Known ls plan → Blames (cardAllows fmt c) plan (shortestBy (insideTest fmt c) plan)
-  loaded-blames plan o = shortest-blames (insideTest fmt c) (cardAllows fmt c) plan (λ i k h. inside-exact (factor plan i k) (known-factor fmt c plan i k o))
+  pub loaded-blames : (plan : List ℕ) → Known ls plan → Blames (cardAllows fmt c) plan (shortestBy (liesInside fmt c) plan)
+  loaded-blames plan o = shortest-blames (liesInside fmt c) (cardAllows fmt c) plan (λ i k h. inside-exact (factor plan i k) (known-factor fmt c plan i k o))
 
 -- ---- every reply
 
@@ -163,7 +165,7 @@ replies fmt c plan =
     unless-elim (Replies fmt c plan) (refused 27 (knownCount (lettersOf fmt c) plan)) (eqb (knownCount (lettersOf fmt c) plan) (length plan)) _
     (λ e. unknown-at z (knownCount (lettersOf fmt c) plan) e (counted (lettersOf fmt c) plan)) λ e₂.
     let o : Known (lettersOf fmt c) plan = count-known (lettersOf fmt c) plan (nat-test .sound (knownCount (lettersOf fmt c) plan) (length plan) e₂) in
-    blamed z o (shortestBy (insideTest fmt c) plan) (loaded-blames fmt c (load-loaded fmt c z) plan o)
+    blamed z o (shortestBy (liesInside fmt c) plan) (loaded-blames fmt c (load-loaded fmt c z) plan o)
   where
     unknown-at : loadTest fmt c ≡ 0 → (n : ℕ) → eqb n (length plan) ≡ false → Counted (lettersOf fmt c) plan n → Replies fmt c plan (refused 27 n)
     unknown-at z n e (all-known o) = contradict (nat-test .whole (length plan)) e
@@ -189,6 +191,27 @@ replies-only fmt c plan r a = go (shortest fmt c plan) r (replies fmt c plan) a
     go r r′ (blamed z o s y) (unknown-letter z′ j b f x) = let y = known-at (lettersOf fmt c) plan o j b in absurd (omega arith)
     go r r′ (blamed z o s y) (blamed z′ o′ s′ y′) = ap found (blames-one (cardAllows fmt c) plan s s′ y y′)
 
+-- A REFUSAL comes exactly where judging has it, with the same numbers.
+pub refused-as-judging : (fmt : Format) (c plan : List ℕ) (number before : ℕ) → (shortest fmt c plan ≡ refused number before) ↔ (judge fmt c plan ≡ refused′ number before)
+unfolding shortest judge unless
+refused-as-judging fmt c plan number before = go (bool-cases (eqb (loadTest fmt c) 0)) (bool-cases (eqb (knownCount (lettersOf fmt c) plan) (length plan)))
+  where
+    alike : (r k : ℕ) → (refused r k ≡ refused number before) ↔ (refused′ r k ≡ refused′ number before)
+    alike r k = (
+      λ e. let y : r ≡ number = cc e in let z : k ≡ before = cc e in λ t. refused′ (y t) (z t),
+      λ e. let y : r ≡ number = cc e in let z : k ≡ before = cc e in λ t. refused (y t) (z t),
+    )
+
+    go : (eqb (loadTest fmt c) 0 ≡ true) ⊎ (eqb (loadTest fmt c) 0 ≡ false)
+        → (eqb (knownCount (lettersOf fmt c) plan) (length plan) ≡ true) ⊎ (eqb (knownCount (lettersOf fmt c) plan) (length plan) ≡ false)
+        → (shortest fmt c plan ≡ refused number before) ↔ (judge fmt c plan ≡ refused′ number before)
+    go (inr e) k = rw e (alike (loadTest fmt c) 0)
+    go (inl e) (inr k) = rw (e, k) (alike 27 (knownCount (lettersOf fmt c) plan))
+    go (inl e) (inl k) = rw (e, k) (
+      λ t. absurd (let y : _≡_ {A = ℕ} 0 1 = cc t in omega arith),
+      λ t. absurd (let y : _≡_ {A = ℕ} 0 1 = cc t in omega arith),
+    )
+
 module _ (fmt : Format) (c plan : List ℕ) (z : loadTest fmt c ≡ 0) (o : Known (lettersOf fmt c) plan) where
   -- On a loaded card and a plan of its letters the reply is r just when r is the right answer,
   pub shortest-iff : (r : Shortest) → (shortest fmt c plan ≡ found r) ↔ Blames (cardAllows fmt c) plan r
@@ -206,9 +229,14 @@ module _ (fmt : Format) (c plan : List ℕ) (z : loadTest fmt c ≡ 0) (o : Know
     λ s. shortest-iff none .1 (blames-none (cardAllows fmt c) plan .1 s),
   )
 
-  -- also where judging says allowed or unfinished,
-  pub begins-none : (rest : List ℕ) → cardAllows fmt c (plan ++ rest) ≡ true → shortest fmt c plan ≡ found none
-  begins-none rest e = none-iff .1 ([], rest, e)
+  -- also where judging says allowed or unfinished: the plan then begins an allowed one,
+  pub judged-none : (v : Verdict) → judge fmt c plan ≡ verdict v → ((k : ℕ) → v ≢ hopeless k) → shortest fmt c plan ≡ found none
+  judged-none v e f = none-iff .1 (go v f (judge-iff fmt c plan v z o .0 e))
+    where
+      go : (v : Verdict) → ((k : ℕ) → v ≢ hopeless k) → Says (cardAllows fmt c) plan v → Inside (cardAllows fmt c) plan
+      go v f (is-allowed t) = ([], [], ap (cardAllows fmt c) (append-nil plan) ∙ t)
+      go v f (is-unfinished n rest t) = ([], rest, t)
+      go v f (is-hopeless k h n g) = absurd (f k refl)
 
   -- and on a card that allows nothing THE EMPTY STRETCH AT PLACE 0.
   pub nothing-allowed : ((w : List ℕ) → cardAllows fmt c w ≡ false) → shortest fmt c plan ≡ found (at 0 0)

@@ -4,3 +4,4 @@ pub mod LongerLaws
 pub mod Shortest
 pub mod ShortestLaws
 pub mod CardLaws
+pub mod Examples

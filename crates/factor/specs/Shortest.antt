@@ -42,8 +42,8 @@ shortestBy inside plan =
 -- ---- by a card's bytes
 
 -- The letters s lead some state to one that is not dead.
-unfoldable pub insideTest : Format → List ℕ → List ℕ → Bool
-insideTest fmt c s = anyBelow (λ p. not (eqb (markAt fmt c (stateAfter fmt c s p)) 2)) (stateCount fmt c)
+unfoldable pub liesInside : Format → List ℕ → List ℕ → Bool
+liesInside fmt c s = anyBelow (λ p. not (eqb (markAt fmt c (stateAfter fmt c s p)) 2)) (stateCount fmt c)
 
 -- A stretch or none; or a refusal, as in judging.
 pub data Reply : Type 0 where
@@ -57,7 +57,7 @@ shortest fmt c plan =
     let k = knownCount (lettersOf fmt c) plan in
     unless (refused r 0) (eqb r 0) λ _.
     unless (refused 27 k) (eqb k (length plan)) λ _.
-    found (shortestBy (insideTest fmt c) plan)
+    found (shortestBy (liesInside fmt c) plan)
 
 -- What each reply means.
 pub data Replies (fmt : Format) (c plan : List ℕ) : Reply → Type 0 where

@@ -8,6 +8,9 @@ ghost use Rattle.run.specs.Walk.{Ready};
 ghost use Rattle.forbidden.specs.Reading.{answerOf};
 ghost use Rattle.forbidden.specs.Pass.{Searchable, Searched, Bettered};
 
+// Two rows of places: 120 states, and an entry more where no state is dead.
+const PLACES: usize = 242;
+
 // A factor's start and length, or none; or the number of a refusal and, for 27, how many letters precede the first that is not on the card.
 pub enum Answer {
     None,
@@ -89,7 +92,7 @@ fn on_card(card: &[u8], m: usize, n: usize, plan: &[u8]) -> Answer
     if k < plan.len() {
         return Answer::Refused(27, k);
     }
-    let mut places = [0usize; 242];
+    let mut places = [0usize; PLACES];
     pass(card, m, n, &table, plan, &mut places[..])
 }
 
