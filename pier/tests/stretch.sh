@@ -2,7 +2,7 @@
 
 pier compile ramp.book -o ramp.card >/dev/null
 printf ':ab\n>aaaa\n' | pier compile - -o four.card >/dev/null
-printf ':ab\n>@\n' | pier compile - -o nothing.card >/dev/null 2>&1
+printf '\014\0\2\0\016\0\1\0\017\0\2\0ab\2\0\0' >nothing.card
 printf ':ab\n>a / .* _ .*\n' | pier compile - -o everything.card >/dev/null 2>&1
 
 # A card, a plan (- is the empty one), the plan as --explain shows it, the reply.
