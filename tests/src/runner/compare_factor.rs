@@ -207,42 +207,55 @@ impl<'p> Comparison<'p> {
     /// The first answer that doesn't go with the one for this plan.
     fn wrong_relation(&self, rng: &mut Rng, card: &[u8], plan: &[u8]) -> Option<String> {
         let found = self.found(card, plan, self.held());
-        let judged = self.judged(card, plan);
-        let differs = |title: &str, part: &[u8], due: &Shortest| {
-            let other = self.found(card, part, self.held());
-            (other != *due).then(|| format!("{found:?}, but {title} {} gives {other:?}", shown(part)))
-        };
-        match (&found, &judged) {
+        match (&found, self.judged(card, plan)) {
             (Shortest::None, Judged::Hopeless(_) | Judged::Allowed | Judged::Unfinished) => {
                 let from = rng.below(plan.len() + 1);
                 let until = rng.between(from, plan.len());
-                differs("its part", &plan[from..until], &Shortest::None)
+                self.differs(card, &plan[from..until], |part| *part == Shortest::None)
             }
             (&Shortest::At { start, length }, Judged::Hopeless(_)) => {
-                let (start, end) = (start as usize, (start + length) as usize);
-                let Some(stretch) = plan.get(start..end) else { return Some(format!("{found:?} is no stretch of it")) };
-                let around = [random_cards::searched_plan(rng, card, 6), random_cards::searched_plan(rng, card, 6)];
-                let longer = [&around[0], stretch, &around[1]].concat();
-                let may_be = match self.judged(card, &longer) {
-                    Judged::Hopeless(_) | Judged::ForeignLetter { .. } => None,
-                    other => Some(format!("{found:?}, but {} is {other:?}", shown(&longer))),
-                };
-                let shorter = |part: &[u8], least: u64| match self.found(card, part, self.held()) {
-                    Shortest::At { start, length } if length < least => {
-                        Some(format!("{found:?}, but {} gives {start}, {length}", shown(part)))
-                    }
-                    _ => None,
-                };
-                may_be
-                    .or_else(|| differs("the stretch", stretch, &Shortest::At { start: 0, length }))
-                    .or_else(|| differs("the plan up to its end", &plan[..end], &found))
-                    .or_else(|| if end > 0 { shorter(&plan[..end - 1], length + 1) } else { None })
-                    .or_else(|| shorter(&plan[plan.len().min(start + 1)..], length))
-                    .or_else(|| proper_parts(stretch).find_map(|part| differs("its part", part, &Shortest::None)))
+                let end = start.checked_add(length).filter(|&end| end <= plan.len() as u64);
+                let Some(end) = end else { return Some(format!("{found:?} isn't in it")) };
+                self.wrong_stretch(rng, card, plan, (start as usize, end as usize))
             }
-            (Shortest::ForeignLetter { before }, Judged::ForeignLetter { before: judged }) if before == judged => None,
-            _ => Some(format!("{found:?}, but judging says {judged:?}")),
+            (Shortest::ForeignLetter { before }, Judged::ForeignLetter { before: judged }) if *before == judged => None,
+            (_, judged) => Some(format!("judging says {judged:?}")),
         }
+        .map(|wrong| format!("{found:?}, but {wrong}"))
+    }
+
+    /// The first answer that doesn't go with this stretch, from a place to one.
+    fn wrong_stretch(&self, rng: &mut Rng, card: &[u8], plan: &[u8], (from, end): (usize, usize)) -> Option<String> {
+        let (stretch, length) = (&plan[from..end], (end - from) as u64);
+        let [before, behind] = [6, 6].map(|most| random_cards::searched_plan(rng, card, most));
+        let around = [&before, stretch, &behind].concat();
+        let may_be = match self.judged(card, &around) {
+            Judged::Hopeless(_) | Judged::ForeignLetter { .. } => None,
+            other => Some(format!("{} is {other:?}", shown(&around))),
+        };
+        let is_none = |found: &Shortest| *found == Shortest::None;
+        let is_longer = |found: &Shortest, than: u64| match found {
+            Shortest::At { length, .. } => *length > than,
+            other => is_none(other),
+        };
+        may_be
+            .or_else(|| self.differs(card, stretch, |found| *found == at(Some(0), stretch.len())))
+            .or_else(|| self.differs(card, &plan[..end], |found| *found == at(Some(from), stretch.len())))
+            .or_else(|| match end {
+                0 => None,
+                _ => self.differs(card, &plan[..end - 1], |found| is_longer(found, length)),
+            })
+            .or_else(|| match length {
+                0 => None,
+                _ => self.differs(card, &plan[from + 1..], |found| is_longer(found, length - 1)),
+            })
+            .or_else(|| proper_parts(stretch).find_map(|part| self.differs(card, part, is_none)))
+    }
+
+    /// What the product says of a part of the plan, where that isn't right.
+    fn differs(&self, card: &[u8], part: &[u8], is_right: impl Fn(&Shortest) -> bool) -> Option<String> {
+        let found = self.found(card, part, self.held());
+        (!is_right(&found)).then(|| format!("the part {} gives {found:?}", shown(part)))
     }
 
     fn held(&self) -> [u64; 3] {

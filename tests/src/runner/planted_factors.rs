@@ -17,9 +17,9 @@ struct Pass {
     dead_place: fn(usize, usize) -> usize,
     /// Whether a stretch of this length goes before one found further right.
     goes_first: fn(usize, usize) -> bool,
-    /// The places of the letters that are looked at.
-    from: usize,
-    less: usize,
+    /// Letters at the beginning and at the end that aren't looked at.
+    first: usize,
+    last: usize,
 }
 
 const NEVER: usize = usize::MAX;
@@ -30,14 +30,14 @@ const RIGHT: Pass = Pass {
     later: usize::max,
     dead_place: |place, _| place,
     goes_first: |length, best| length <= best,
-    from: 0,
-    less: 0,
+    first: 0,
+    last: 0,
 };
 
 impl Pass {
     fn shortest(&self, bodies: &Bodies, columns: &[usize]) -> Option<(usize, usize)> {
         let states = bodies.states();
-        let end = columns.len().saturating_sub(self.less);
+        let end = columns.len().saturating_sub(self.last);
         let is_dead: Vec<bool> = (0..states).map(|state| (self.is_dead)(bodies, state)).collect();
         if is_dead[0] {
             return Some((0, 0));
@@ -45,7 +45,7 @@ impl Pass {
         let mut places: Vec<usize> = is_dead.iter().map(|&dead| if dead { end } else { NEVER }).collect();
         let mut before = places.clone();
         let mut best: Option<(usize, usize)> = None;
-        for place in (self.from.min(end)..end).rev() {
+        for place in (self.first.min(end)..end).rev() {
             std::mem::swap(&mut places, &mut before);
             for state in 0..states {
                 places[state] = match is_dead[state] {
@@ -181,8 +181,8 @@ fn in_the_pass() -> Vec<Planted> {
         pass("the greatest place kept instead of the least", Pass { dead_place: |_, place| place, ..RIGHT })
             .contradicts(),
         pass("dead one letter later", Pass { dead_place: |place, _| place + 1, ..RIGHT }).contradicts(),
-        pass("the first letter isn't looked at", Pass { from: 1, ..RIGHT }).contradicts(),
-        pass("the last letter isn't looked at", Pass { less: 1, ..RIGHT }).contradicts(),
+        pass("the first letter isn't looked at", Pass { first: 1, ..RIGHT }).contradicts(),
+        pass("the last letter isn't looked at", Pass { last: 1, ..RIGHT }).contradicts(),
     ]
 }
 
