@@ -1,5 +1,5 @@
-// The shortest stretch that lies inside no allowed plan: the product's answers held against plain C on many cards and plans, and times on cards of 3, 80 and 120
-// states for plans of 10, 1,000 and 1,000,000 letters.
+// The shortest stretch that lies inside no allowed plan: the product's answers held against plain C on many cards and plans, and times on cards of 3, 80 and
+// 120 states for plans of 10, 1,000 and 1,000,000 letters.
 #include "bench.h"
 #include "product.h"
 #include <stdio.h>

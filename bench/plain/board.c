@@ -1,4 +1,4 @@
-// The board in plain C: a card's tests, 21 to 26 in order, the walk of a plan, and a plan's shortest forbidden factor. No work buffer is lent.
+// The board in plain C: a card's tests, 21 to 26 in order, and the walk of a plan. No work buffer is lent.
 #include "plain.h"
 #include <string.h>
 
@@ -136,16 +136,11 @@ void plain_load(const uint8_t *card, size_t length, uint64_t out[3]) {
     else answer(out, 0, get16(card + 2), get16(card + 6));
 }
 
-// Each letter's column; m for the others.
-static void columns(const Card *c, uint8_t column[256]) {
-    memset(column, c->m, 256);
-    for (int i = c->m; i-- > 0;) column[c->letters[i]] = (uint8_t)i;
-}
-
 void plain_walk(const uint8_t *card, const uint8_t *plan, size_t letters, uint64_t out[3]) {
     Card c = view(card);
     uint8_t column[256];
-    columns(&c, column);
+    memset(column, c.m, sizeof column);
+    for (int i = c.m; i-- > 0;) column[c.letters[i]] = (uint8_t)i;
     size_t s = 0, k = 0, dead = 0;
     const size_t m = (size_t)c.m;
     int hopeless = c.marks[0] == 2;
@@ -175,51 +170,4 @@ void plain_judge(const uint8_t *card, size_t length, const uint8_t *plan, size_t
     int number = tested(card, length);
     if (number) answer(out, (uint64_t)number, 0, 0);
     else plain_walk(card, plan, letters, out);
-}
-
-static const size_t never = SIZE_MAX; // no plan has as many letters, nor as many less a place
-
-// The pass, from right to left, over known letters, on a card that allows something: `ends` has for each state the least place up to which the letters from i on
-// lead it to the dead state. So the shortest factor from i that lies inside no allowed plan ends at the greatest of them; of equally long ones the last found
-// is the leftmost. A card has one dead state or none; where it has none, the entry `dead` is one that no state is led to. One step for a letter and a state.
-static void shortest(const Card *c, const uint8_t *column, const uint8_t *plan, size_t letters, uint64_t out[4]) {
-    const size_t n = (size_t)c->n, m = (size_t)c->m;
-    size_t one[MOST_STATES + 1], two[MOST_STATES + 1], *ends = one, *fresh = two, dead = 0, start = never, best = letters;
-    while (dead < n && c->marks[dead] != 2) dead++;
-    for (size_t q = 0; q < n; q++) ends[q] = never;
-    ends[dead] = letters;
-    for (size_t i = letters; i-- > 0;) {
-        const uint8_t *move = c->moves + column[plan[i]];
-        size_t last = 0, *swap = ends;
-        for (size_t q = 0; q < n; q++) {
-            size_t end = ends[move[q * m]];
-            fresh[q] = end;
-            if (end > last) last = end;
-        }
-        fresh[dead] = i;
-        ends = fresh, fresh = swap;
-        start = last - i <= best ? i : start;
-        best = last - i < best ? last - i : best;
-    }
-    if (start == never) answer(out, 0, 0, 0);
-    else answer(out, 0, 1, start), out[3] = best;
-}
-
-void plain_shortest(const uint8_t *card, size_t length, const uint8_t *plan, size_t letters, uint64_t out[4]) {
-    int number = tested(card, length);
-    out[3] = 0;
-    if (number) {
-        answer(out, (uint64_t)number, 0, 0);
-        return;
-    }
-    Card c = view(card);
-    uint8_t column[256];
-    columns(&c, column);
-    for (size_t k = 0; k < letters; k++)
-        if (column[plan[k]] >= c.m) {
-            answer(out, 27, 0, k);
-            return;
-        }
-    if (c.marks[0] == 2) answer(out, 0, 1, 0);
-    else shortest(&c, column, plan, letters, out);
 }
