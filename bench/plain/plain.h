@@ -81,7 +81,7 @@ void plain_judge(const uint8_t *card, size_t length, const uint8_t *plan, size_t
 void plain_walk(const uint8_t *card, const uint8_t *plan, size_t letters, uint64_t out[3]);
 
 // The shortest stretch of the plan that lies inside no allowed plan, of equal ones the leftmost: 0, 1, its start, its length; 0, 0, 0, 0 where the whole plan
-// lies inside one; or 21 to 26; or 27, 0, the place, 0.
+// lies inside one; or 21 to 26; or 27, 0, the letters before the first unknown one, 0.
 void plain_shortest(const uint8_t *card, size_t length, const uint8_t *plan, size_t letters, uint64_t out[4]);
 
 #endif

@@ -3,7 +3,7 @@
 pier compile ramp.book -o ramp.card >/dev/null
 printf ':ab\n>aaaa\n' | pier compile - -o four.card >/dev/null
 printf '\014\0\2\0\016\0\1\0\017\0\2\0ab\2\0\0' >nothing.card
-printf ':ab\n>a / .* _ .*\n' | pier compile - -o everything.card >/dev/null 2>&1
+printf '\014\0\2\0\016\0\1\0\017\0\2\0ab\1\0\0' >everything.card
 
 # A card, a plan (- is the empty one), the plan as --explain shows it, the reply.
 while read -r card plan shown reply; do
@@ -83,7 +83,7 @@ for book in *.book; do
     pier judge "$name.card" "$name.plans" --explain 2>/dev/null | cut -f 2- \
         | sed -E 's/^(allowed|unfinished)$/none/; s/^hopeless [0-9]+\t//; s/^no stretch: .*/none/' >explained
     check "judge --explain on $name" "$(cat found)" "$(cat explained)"
-    check "its first two fields" "$(pier judge "$name.card" "$name.plans" 2>/dev/null)" \
+    check "its replies" "$(pier judge "$name.card" "$name.plans" 2>/dev/null)" \
         "$(pier judge "$name.card" "$name.plans" --explain 2>/dev/null | cut -f 2)"
 done
 check "a hopeless plan with a stretch" "c!wlcu	hopeless 1	stretch 2 2" "$(echo cwlcu | pier judge ramp.card --explain)"

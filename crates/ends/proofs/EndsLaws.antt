@@ -10,7 +10,7 @@ use lib.ListN.{length, getD, set, length-set}
 use lib.Seq.{getD-set-same, getD-set-other}
 use Rattle.automata.specs.Basics.{LtCases, lt-cases, SameCases, same-cases, nat-test}
 use Rattle.automata.specs.Rows.{cell-below}
-use Rattle.ends.specs.Ends.{DeadState, placed, Filled, Stepping, nextPlace, Stepped}
+use Rattle.ends.specs.Ends.{placed, Filled, Stepping, nextPlace, Stepped}
 
 -- ---- the dead state
 
@@ -18,21 +18,12 @@ pub record NoneDead (marks : List ℕ) (q : ℕ) : Type 0 where
   pub none : (p : ℕ) → p < q → getD marks p 0 ≢ 2
 
 module _ (marks : List ℕ) (q : ℕ) where
-  pub none-start : NoneDead marks 0
-  none-start = record { none = λ p h. absurd (omega arith) }
-
   pub none-next : NoneDead marks q → getD marks q 0 ≢ 2 → NoneDead marks (q + 1)
   none-next s f = record { none = λ p h. go p h (lt-cases p q) }
     where
       go : (p : ℕ) → p < q + 1 → LtCases p q → getD marks p 0 ≢ 2
       go p h (inl b) = s .none p (b .0)
       go p h (inr b) = let z : p ≡ q = omega arith in rw z f
-
-  pub dead-found : NoneDead marks q → q < length marks → getD marks q 0 ≡ 2 → DeadState marks q
-  dead-found s h e = record { most = omega arith; dead = λ _. e; before = s .none }
-
-  pub dead-nowhere : NoneDead marks q → q ≤ length marks → length marks ≤ q → DeadState marks q
-  dead-nowhere s h b = record { most = h; dead = λ x. absurd (omega arith); before = s .none }
 
 -- ---- no letter
 
@@ -41,9 +32,6 @@ pub record FilledTo (never : ℕ) (old new : List ℕ) (q : ℕ) : Type 0 where
   pub done : (p : ℕ) → p < q → getD new p 0 ≡ never
 
 module _ (never : ℕ) (old new : List ℕ) (q : ℕ) where
-  pub filled-start : FilledTo never old old 0
-  filled-start = record { long = refl; done = λ p h. absurd (omega arith) }
-
   pub filled-next : FilledTo never old new q → q < length old → FilledTo never old (set new q never) (q + 1)
   filled-next s h = record { long = length-set new q never ∙ s .long; done = λ p b. go p b (same-cases nat-test p q) }
     where
@@ -135,7 +123,7 @@ module _ (moves : List ℕ) (m n column dead : ℕ) (old : List ℕ) (from to : 
     }
       where
         at : (p : ℕ) → p < n → SameCases nat-test p dead → getD (set new (to + dead) here) (to + p) 0 ≡ placed dead here (nextPlace moves m column old from) p
-        at p b (inl z) = rw (z .1, z .0) (getD-set-same new (to + dead) here 0 (omega (arith, s .long, r .after, r .least)))
+        at p b (inl z) = rw (z .1, z .0) (getD-set-same new (to + dead) here 0 (omega (arith, s .long, r .after, r .most)))
         at p b (inr z) = rw (z .1) (getD-set-other new (to + dead) (to + p) here 0 (λ y. z .0 (omega arith)) ∙ s .done p (omega arith))
 
         some : (last ≡ 0) ⊎ ((p : ℕ) × (p < q) × (nextPlace moves m column old from p ≡ last)) → (last ≡ 0) ⊎ ((p : ℕ) × (p < n) × (nextPlace moves m column old from p ≡ last))

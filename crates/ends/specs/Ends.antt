@@ -26,7 +26,7 @@ pub record Stepping (moves : List ℕ) (m n column dead : ℕ) (ends : List ℕ)
   pub known : column < m
   pub table : length moves ≡ n * m
   pub inside : (q : ℕ) → q < n → getD moves (q * m + column) 0 < n
-  pub least : dead ≤ n
+  pub most : dead ≤ n
   pub before : from + n ≤ length ends
   pub after : to + n < length ends
   pub apart : (from + n ≤ to) ⊎ (to + n < from)

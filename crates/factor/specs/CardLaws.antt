@@ -137,7 +137,7 @@ module _ (fmt : Format) (c : List ℕ) (l : Loaded fmt c) where
           go m (is-dead d) = contradict accepted (d (columns ls v) (rw (← width) kv))
           go m (is-live f w x t) = refl
 
-  -- from one state that is led to no dead one, and from all
+  -- Inside where s leads some state to one that is not dead; outside where it leads every state to a dead one.
   pub inside-from : (s : List ℕ) → Known ls s → (p : ℕ) → p < stateCount fmt c → markAt fmt c (stateAfter fmt c s p) ≢ 2 → Inside (cardAllows fmt c) s
   unfolding liesInside
   inside-from s o p h f = inside-exact s o .0
@@ -229,7 +229,7 @@ module _ (fmt : Format) (c plan : List ℕ) (z : loadTest fmt c ≡ 0) (o : Know
     λ s. shortest-iff none .1 (blames-none (cardAllows fmt c) plan .1 s),
   )
 
-  -- also where judging says allowed or unfinished: the plan then begins an allowed one,
+  -- so where judging says allowed or unfinished: the plan then begins an allowed one,
   pub judged-none : (v : Verdict) → judge fmt c plan ≡ verdict v → ((k : ℕ) → v ≢ hopeless k) → shortest fmt c plan ≡ found none
   judged-none v e f = none-iff .1 (go v f (judge-iff fmt c plan v z o .0 e))
     where

@@ -14,11 +14,15 @@ use Rattle.card.specs.Layout.{letterCount, stateCount, markAt, moveAt, lettersO
 use Rattle.card.specs.LayoutLaws.{letters-length, marksOf-length, marks-at, size-is}
 use Rattle.card.specs.Alphabet.{column, Known}
 use Rattle.card.specs.Loads.{Loaded, loaded-card}
-use Rattle.card.specs.Judge.{stateAfter, firstDead}
+use Rattle.card.specs.Judge.{Place, none, found, stateAfter, firstDead}
 use Rattle.card.specs.RunLaws.{dead-stays}
 use Rattle.factor.specs.CardLaws.{known-factor}
 use Rattle.ends.specs.Ends.{DeadState}
-use Rattle.forbidden.specs.Pass.{placeOr}
+
+-- A place as a number, `never` where there is none.
+abbrev pub placeOr : ℕ → Place → ℕ
+placeOr never none = never
+placeOr never (found k) = k
 
 module _ (c : List ℕ) (l : Loaded narrow c) (never : ℕ) where
   abbrev ls : List ℕ

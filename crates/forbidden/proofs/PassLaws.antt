@@ -17,8 +17,8 @@ use Rattle.ends.specs.Ends.{DeadState, Filled, Stepping, Stepped}
 use Rattle.fields.specs.Counts.{Counted}
 use Rattle.forbidden.specs.declared.Answer.the-variants.{None, At}
 use Rattle.forbidden.specs.declared.Best.{Best}
-use Rattle.forbidden.specs.Pass.{Searchable, Searched, Places, Bettered}
-use Rattle.forbidden.proofs.PlacesLaws.{something, nothing, places-start, places-step, last-low, last-inside, last-start}
+use Rattle.forbidden.specs.Pass.{Searchable, Searched, Bettered}
+use Rattle.forbidden.proofs.PlacesLaws.{Places, something, nothing, places-start, places-step, last-low, last-inside, last-start}
 use Rattle.forbidden.proofs.BestLaws.{BestFrom, best-start, best-next, best-none, best-at}
 
 pub record Under (c : List ℕ) (m n : ℕ) (table plan moves : List ℕ) (dead never room i from : ℕ) (places : List ℕ) (b : Best) : Type 0 where
@@ -105,7 +105,7 @@ module _ (c : List ℕ) (m n : ℕ) (table plan moves : List ℕ) (d never room 
           let y : q < stateCount narrow c = rw (S .ready .states) h in
           let z : k < letterCount narrow c = rw (S .ready .letters) under-column in
           rw (U .moved, ← S .ready .letters, moves-at narrow c q k y z, ← S .ready .states) (loaded c m n table plan S .inside q k y z);
-      least = omega (arith, U .first .most, marksOf-length narrow c (loaded c m n table plan S .contents), S .ready .states);
+      most = omega (arith, U .first .most, marksOf-length narrow c (loaded c m n table plan S .contents), S .ready .states);
       before = go (U .half);
       after = on (U .half);
       apart = aside (U .half);

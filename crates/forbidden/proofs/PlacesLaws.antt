@@ -21,8 +21,11 @@ use Rattle.factor.specs.Factor.{Inside, at, Blames, nothing-empty}
 use Rattle.factor.specs.LongerLaws.{ShortestStart}
 use Rattle.factor.specs.CardLaws.{known-factor, inside-from, outside-dead}
 use Rattle.ends.specs.Ends.{DeadState, Filled, nextPlace, Stepped}
-use Rattle.forbidden.specs.Pass.{placeOr, Places}
-use Rattle.forbidden.proofs.DeadLaws.{move-state, first-low, dead-by, no-word, dead-is}
+use Rattle.forbidden.proofs.DeadLaws.{placeOr, move-state, first-low, dead-by, no-word, dead-is}
+
+-- Of each state the place where, by the letters from i on, it is dead first.
+pub record Places (c plan : List ℕ) (never i from : ℕ) (ends : List ℕ) : Type 0 where
+  pub entry : (q : ℕ) → q < stateCount narrow c → getD ends (from + q) 0 ≡ placeOr never (firstDead narrow c (drop i plan) q i)
 
 module _ (c : List ℕ) (l : Loaded narrow c) (plan : List ℕ) (o : Known (lettersOf narrow c) plan) where
   abbrev ls : List ℕ

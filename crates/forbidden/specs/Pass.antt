@@ -1,12 +1,12 @@
--- The pass from the plan's end: where each state is dead first, and the best stretch so far.
+-- What the pass and its parts require and leave.
 use mathlib.Core.Path.{_≡_}
 use mathlib.Core.List.{List}
-use Prim.Native.Nat.{ℕ, _+_, _-_, _≤_, _<_}
-use lib.ListN.{length, getD, drop}
+use Prim.Native.Nat.{ℕ, _-_, _≤_, _<_}
+use lib.ListN.{length}
 use Rattle.automata.specs.Format.{narrow}
-use Rattle.card.specs.Layout.{stateCount, lettersOf}
+use Rattle.card.specs.Layout.{lettersOf}
 use Rattle.card.specs.Alphabet.{Known}
-use Rattle.card.specs.Judge.{Place, none, found, firstDead, cardAllows}
+use Rattle.card.specs.Judge.{cardAllows}
 use Rattle.factor.specs.Factor.{Shortest, Blames}
 use Rattle.factor.specs.Shortest.{found as replied}
 use Rattle.run.specs.Walk.{Ready, ColumnTable}
@@ -25,15 +25,6 @@ pub record Searched (c plan : List ℕ) (a : Answer) : Type 0 where
   pub answer : Shortest
   pub is : answerOf a ≡ replied answer
   pub right : Blames (cardAllows narrow c) plan answer
-
--- A place as a number, `never` where there is none.
-abbrev pub placeOr : ℕ → Place → ℕ
-placeOr never none = never
-placeOr never (found k) = k
-
--- Of each state the place where, by the letters from i on, it is dead first.
-pub record Places (c plan : List ℕ) (never i from : ℕ) (ends : List ℕ) : Type 0 where
-  pub entry : (q : ℕ) → q < stateCount narrow c → getD ends (from + q) 0 ≡ placeOr never (firstDead narrow c (drop i plan) q i)
 
 -- The stretch from i to `last`, where there is one and it is not longer than the best; else the best.
 pub data Bettered (b : Best) (i last never : ℕ) (r : Best) : Type 0 where

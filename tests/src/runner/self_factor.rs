@@ -14,6 +14,10 @@ use reference::pieces::{allows, words};
 use reference::reader;
 use std::collections::BTreeSet;
 
+/// One of so many random cards and books at least is small enough to be tried.
+const CARDS_TRIED: usize = 4;
+const BOOKS_TRIED: usize = 8;
+
 pub fn run(tally: &mut Tally, effort: Effort) {
     if effort.fixed {
         tally.group("reference: stretches worked out by hand", |tally| {
@@ -32,17 +36,15 @@ pub fn run(tally: &mut Tally, effort: Effort) {
     }
     tally.group("reference: stretches of the plans that a card allows", |tally| {
         let mut rng = tally.rng("stretches of a card's plans");
-        for _ in 0..effort.of(400) {
-            let card = random_cards::strict(&mut rng, 4);
-            by_allowed_plans(tally, &card);
-        }
+        let cards = effort.of(400);
+        let tried = (0..cards).filter(|_| by_allowed_plans(tally, &random_cards::strict(&mut rng, 4))).count();
+        tally.check(tried * CARDS_TRIED >= cards, || format!("{tried} of {cards} cards were tried"));
     });
     tally.group("reference: stretches of the plans that a book allows", |tally| {
         let mut rng = tally.rng("stretches of a book's plans");
-        for _ in 0..effort.of(200) {
-            let text = random_books::book(&mut rng);
-            by_meaning(tally, &text);
-        }
+        let books = effort.of(200);
+        let tried = (0..books).filter(|_| by_meaning(tally, &random_books::book(&mut rng))).count();
+        tally.check(tried * BOOKS_TRIED >= books, || format!("{tried} of {books} books were tried"));
     });
 }
 
@@ -53,23 +55,26 @@ fn longest_plan(letters: usize, around: usize, most: usize) -> Option<usize> {
     (3..=8).rev().find(|&length| tried(length) <= most)
 }
 
-fn by_allowed_plans(tally: &mut Tally, card: &[u8]) {
-    let Ok(bodies) = board::load(card) else { return };
+/// Whether the card was tried: it loads, and its plans are not too many.
+fn by_allowed_plans(tally: &mut Tally, card: &[u8]) -> bool {
+    let Ok(bodies) = board::load(card) else { return false };
     let machine = board::machine(&bodies);
-    let Some(longest) = longest_plan(bodies.letters.len(), bodies.states(), 4096) else { return };
+    let Some(longest) = longest_plan(bodies.letters.len(), bodies.states(), 4096) else { return false };
     let column = |letter: &u8| bodies.letters.iter().position(|known| known == letter).expect("a letter of the card");
     let allowed = |plan: &[u8]| machine.accepts(&plan.iter().map(column).collect::<Vec<usize>>());
     let wrong = wrong_stretch(card, bodies.letters, longest, bodies.states(), allowed);
     tally.check(wrong.is_none(), || format!("{}: {wrong:?}", hex(card)));
+    true
 }
 
 /// The same with no automaton but for the answer itself.
-fn by_meaning(tally: &mut Tally, text: &[u8]) {
-    let (Ok(accepted), Ok(book)) = (compile(text, &Lent::plenty()), reader::read_book(text)) else { return };
-    let Ok(bodies) = board::load(&accepted.card) else { return };
-    let Some(longest) = longest_plan(book.alphabet.len(), bodies.states(), 1024) else { return };
+fn by_meaning(tally: &mut Tally, text: &[u8]) -> bool {
+    let (Ok(accepted), Ok(book)) = (compile(text, &Lent::plenty()), reader::read_book(text)) else { return false };
+    let Ok(bodies) = board::load(&accepted.card) else { return false };
+    let Some(longest) = longest_plan(book.alphabet.len(), bodies.states(), 1024) else { return false };
     let wrong = wrong_stretch(&accepted.card, &book.alphabet, longest, bodies.states(), |plan| allows(&book, plan));
     tally.check(wrong.is_none(), || format!("{}: {wrong:?}", shown(text)));
+    true
 }
 
 /// A plan with a wrong answer. Letters before and behind a stretch need not be
