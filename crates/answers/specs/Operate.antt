@@ -11,8 +11,8 @@ use Rattle.automata.specs.Format.{Format}
 use Rattle.automata.specs.Stage.{Made, made, refused, MoreThan, Smallest, StageResult, kept-one, too-many-sets, too-many-states}
 use Rattle.automata.specs.Stages.{pairStage, concatStage, starStage, eraseStage}
 use Rattle.sets.specs.Operations.{Operation, pairing, concatenation, star, erase, rowsOf}
-use Rattle.explore.specs.Answer.{AllRows}
-use Rattle.explore.specs.AnswerLaws.{explored-closed, explored-words, explored-counts}
+use Rattle.turns.specs.Exploring.{AllRows}
+use Rattle.turns.specs.ExploringLaws.{explored-closed, explored-words, explored-counts}
 use Rattle.answers.specs.RowSets.{pair-stage-by, concat-stage-by, star-stage-by, erase-stage-by}
 
 -- The stage of an operation on machines over m letters and the mark; star and erase take the first machine.

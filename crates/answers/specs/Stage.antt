@@ -12,7 +12,7 @@ use Rattle.automata.specs.Stage.{Made as Answer, made, refused}
 use Rattle.rows.specs.Rows.{numberAt}
 use Rattle.sets.specs.Operations.{Operation, pairing, concatenation, star, erase, operationOf, rowWidth, rowsOf}
 use Rattle.turns.specs.declared.Explored.{Explored}
-use Rattle.explore.specs.Answer.{Answers}
+use Rattle.turns.specs.Exploring.{Answers}
 use Rattle.slots.specs.declared.slot.Sizes.{Sizes}
 use Rattle.answers.specs.declared.Limits.{Limits}
 use Rattle.answers.specs.declared.Staged.{Staged}

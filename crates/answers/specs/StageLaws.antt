@@ -18,8 +18,8 @@ use Rattle.sets.specs.Operations.{operationOf, rowWidth, rowsOf}
 use Rattle.sets.specs.declared.Shape.{Shape}
 use Rattle.turns.specs.declared.Explored.{Explored}
 use Rattle.turns.specs.declared.Explored.the-variants.{Sets, TooMany}
-use Rattle.explore.specs.Answer.{Answers, Explores}
-use Rattle.explore.specs.AnswerLaws.{explored-closed}
+use Rattle.turns.specs.Exploring.{Answers, Explores}
+use Rattle.turns.specs.ExploringLaws.{explored-closed, explored-more}
 use Rattle.minimise.specs.declared.Kept.{Kept}
 use Rattle.minimise.specs.declared.Kept.the-variants.{States, TooMany as TooLarge}
 use Rattle.slots.specs.declared.slot.Sizes.{Sizes}
@@ -134,7 +134,7 @@ module _ {m : ℕ} {l : Limits} {left right : ℕ} {slots operands rows table : 
 
     pub done-many : (op : ℕ) (rows′ table′ : List ℕ) (x : Explored) → Reached op (m + 1) l r t rows′ table′ x → x ≡ TooMany → StageDone op m l left right slots slots TooManySets
     done-many op rows′ table′ x H e = record {
-      answer = λ fmt es et. found op fmt (refused 8) (found-many (tableRows op (m + 1) (l .states) r t) (m + 1) (l .sets) fmt es (rw e at (H .answers)));
+      answer = λ fmt es et. found op fmt (refused 8) (found-many (tableRows op (m + 1) (l .states) r t) (m + 1) (l .sets) fmt es (explored-more (tableRows op (m + 1) (l .states) r t) (m + 1) (H .w) (l .sets) rows′ table′ (rw e at (H .answers))));
       slot = tt;
       aside = record { long = refl; same = λ j h. refl };
     }

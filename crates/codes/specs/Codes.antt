@@ -18,7 +18,7 @@ use Rattle.language.specs.Environment.{lookup}
 use Rattle.language.specs.Evaluate.{column}
 use Rattle.book.specs.Kind.{kindOf, signKind, signs, isLetter, isName}
 use Rattle.book.specs.StackLaws.{heightAfter, heightWhile, besides}
-use Rattle.explore.specs.Rows.{operationOf}
+use Rattle.sets.specs.Operations.{operationOf}
 use Rattle.answers.specs.Operate.{operate}
 use Rattle.codes.specs.Execute.{Store, Ran, ran, stuck, pushMade, withOne, withTwo, step}
 use Rattle.codes.specs.declared.Source.{Source}

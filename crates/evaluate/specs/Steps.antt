@@ -17,7 +17,7 @@ use Rattle.automata.specs.Given.{emptyMachine}
 use Rattle.language.specs.Environment.{lookup}
 use Rattle.book.specs.Kind.{isName}
 use Rattle.book.specs.StackLaws.{heightAfter, heightWhile, besides}
-use Rattle.explore.specs.Rows.{operationOf}
+use Rattle.sets.specs.Operations.{operationOf}
 use Rattle.slots.specs.Slot.{Slot, slotMachine, Holds, Written}
 use Rattle.slots.specs.Keep.{Aside}
 use Rattle.answers.specs.Operate.{operate}

@@ -23,7 +23,7 @@ use Rattle.turns.specs.declared.Explored.{Explored}
 use Rattle.turns.specs.declared.Explored.the-variants.{Sets, TooMany}
 use Rattle.turns.proofs.LoopLaws.{partial-start, partial-wrap}
 use Rattle.readings.specs.Flagged.{Flagging, Flagged}
-use Rattle.explore.specs.Answer.{Explores, AllRows}
+use Rattle.turns.specs.Exploring.{Explores, AllRows}
 
 -- The transitions before the q-th are laid out; it is that of the row p by the column c.
 pub record Running (s : Shape) (a b rows row table heads : List ℕ) (count p c q : ℕ) : Type 0 where

@@ -5,7 +5,7 @@ use rows::chains;
 pub use sets::Shape;
 pub use turns::Explored;
 ghost use Rattle.sets.specs.Fits.{Listing, rowsFor};
-ghost use Rattle.explore.specs.Answer.{Explores, Answers};
+ghost use Rattle.turns.specs.Exploring.{Explores, Answers};
 
 // All sets that are reached, each once, with their transitions and flags.
 pub fn explore(

@@ -14,7 +14,7 @@ use Rattle.automata.specs.Booleans.{choose}
 use borrow.Author.Tests.{le-leb, lt-leb}
 use Rattle.automata.specs.Basics.{LtCases, lt-cases, lt-ltb, ltb-false}
 use Rattle.automata.specs.Machine.{Machine}
-use Rattle.explore.specs.Rows.{numberAt}
+use Rattle.rows.specs.Rows.{numberAt}
 use Rattle.card.specs.Same.{cardOf}
 use Rattle.book.specs.Text.{Line, linesOf, lettersOf}
 use Rattle.book.specs.Line as L
@@ -32,7 +32,7 @@ use Rattle.scans.specs.Head.{headOf}
 use Rattle.scans.specs.declared.head.Head.{Head}
 use Rattle.scans.specs.declared.head.Head as head
 use Rattle.kept.specs.Stored.{InSlot}
-use Rattle.lines.specs.Lines.{linesFrom}
+use Rattle.progress.specs.Rest.{linesFrom}
 use Rattle.compiler.specs.Lent.{documented}
 use Rattle.frame.specs.Frame.{Answers, Writable, PutsCard, Headed, Heads, Opens}
 use Rattle.frame.specs.declared.Compiled.{Compiled}

@@ -15,7 +15,7 @@ use Rattle.compiler.specs.Book.{compileBook, stopped}
 use Rattle.compiler.specs.Outcome.{Outcome, card, stop, Answer, answer, bufferAfter, enough, outcome}
 use Rattle.compiler.specs.Lent.{documented}
 use Rattle.kept.specs.Stored.{InSlot}
-use Rattle.lines.specs.Lines.{linesFrom, Placed}
+use Rattle.progress.specs.Rest.{linesFrom, Placed}
 use Rattle.frame.specs.declared.Compiled.{Compiled}
 use Rattle.frame.specs.declared.Compiled.the-variants.{Card, Refused}
 use Rattle.frame.specs.declared.Opened.{Opened}

@@ -17,7 +17,7 @@ use Rattle.automata.specs.Given.{emptyMachine, allMachine}
 use Rattle.language.specs.Expression.{member}
 use Rattle.language.specs.Environment.{lookup, namesOf}
 use Rattle.book.specs.Kind.{isName}
-use Rattle.explore.specs.Rows.{numberAt}
+use Rattle.rows.specs.Rows.{numberAt}
 use Rattle.slots.specs.Slot.{slotMachine, Slot, Written, table-same}
 use Rattle.reader.proofs.SymbolLaws.{name-byte, member-other}
 use Rattle.kept.specs.Stored.{InSlot, nameSlot, Registers, Stored, StoresName, Begins, Right, Keeps}

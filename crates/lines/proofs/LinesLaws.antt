@@ -16,7 +16,8 @@ use Rattle.line.specs.Line.{Drafted, Going, LineSays, CompilesLine}
 use Rattle.progress.specs.declared.Book.{Book}
 use Rattle.progress.specs.declared.Next.{Next}
 use Rattle.progress.specs.declared.Ended.{Ended}
-use Rattle.lines.specs.Lines.{linesFrom, Placed, Lent, CompilesLines}
+use Rattle.progress.specs.Rest.{linesFrom, Placed}
+use Rattle.lines.specs.Lines.{Lent, CompilesLines}
 use Rattle.progress.specs.declared.Ended.the-variants.{Done, Refused}
 
 -- The lines before the book's place are compiled: what is left of the lines, with the draft that the buffers hold, gives what all the lines give.

@@ -1,26 +1,15 @@
 -- What the loop over the lines promises: the definitions' draft behind the last line, or the first refusal with its line.
 use mathlib.Core.Path.{_≡_}
 use mathlib.Core.List.{List}
-use Prim.Native.Nat.{ℕ, suc, _≤_}
-use lib.ListN.{length, drop}
-use Rattle.automata.specs.Format.{narrow}
-use Rattle.book.specs.Text.{linesOf}
-use Rattle.compiler.specs.Book.{BookResult, Draft, done, stopped, compileLines, startDraft}
+use Prim.Native.Nat.{ℕ, _≤_}
+use lib.ListN.{length}
+use Rattle.compiler.specs.Book.{Draft, done, stopped}
 use Rattle.compiler.specs.Outcome.{most}
 use Rattle.kept.specs.Stored.{InSlot}
 use Rattle.line.specs.Line.{Room}
+use Rattle.progress.specs.Rest.{linesFrom}
 use Rattle.progress.specs.declared.Ended.{Ended}
 use Rattle.progress.specs.declared.Ended.the-variants.{Done, Refused}
-
--- the lines of a text from a place on, where line 2 starts
-abbrev pub linesFrom : List ℕ → List ℕ → ℕ → BookResult
-linesFrom text ls next = compileLines narrow ls (linesOf (drop next text)) 2 (startDraft (length ls))
-
--- The place of line 2, in a text that is not too long, with the letters of line 1.
-pub record Placed (text ls : List ℕ) (next : ℕ) : Type 0 where
-  pub letters : (1 ≤ length ls) × (length ls ≤ 26)
-  pub short : length text ≤ 16384
-  pub at : next ≤ suc (length text)
 
 -- The lent buffers have their documented lengths.
 pub record Lent (low high registers stack rows table work code : List ℕ) : Type 0 where

@@ -11,7 +11,7 @@ use lib.Seq.{getD-drop}
 use Rattle.automata.specs.Basics.{LtCases, lt-cases}
 use Rattle.automata.specs.Machine.{Machine}
 use Rattle.automata.specs.Table.{ClosedTable, tableMachine}
-use Rattle.explore.specs.Rows.{numberAt}
+use Rattle.rows.specs.Rows.{numberAt}
 use Rattle.slots.specs.Slot.{Slot, slotMachine, Holds, table-same, slot-cells, slot-ends as slot-length, number-drop}
 
 -- the bytes that a slot needs for any machine that is kept

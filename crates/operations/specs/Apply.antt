@@ -11,7 +11,7 @@ use Rattle.automata.specs.Format.{Format}
 use Rattle.automata.specs.Machine.{Machine}
 use Rattle.automata.specs.Stage.{Made, made, refused, after, thenMade}
 use Rattle.automata.specs.Stages.{starStage, concatStage}
-use Rattle.explore.specs.Rows.{operationOf}
+use Rattle.sets.specs.Operations.{operationOf}
 use Rattle.slots.specs.Slot.{Slot, Holds, Written}
 use Rattle.slots.specs.Keep.{Aside}
 use Rattle.answers.specs.Operate.{operate}

@@ -10,7 +10,7 @@ ghost use Rattle.automata.specs.Stage.{thenMade};
 ghost use Prim.Native.Nat.{suc, max, _<_};
 ghost use mathlib.Core.Path.{_≡_};
 ghost use Rattle.automata.specs.Stages.{starStage, concatStage};
-ghost use Rattle.explore.specs.Rows.{operationOf};
+ghost use Rattle.sets.specs.Operations.{operationOf};
 ghost use Rattle.answers.specs.Operate.{operate};
 ghost use lib.ListN.{length};
 ghost use Rattle.operands.specs.Stack.{slotAt};

@@ -8,7 +8,7 @@ use lib.ListN.{length, getD, drop, length-drop}
 use lib.Seq.{getD-drop}
 use Rattle.automata.specs.Basics.{LtCases, lt-cases, SameCases, same-cases, nat-test}
 use Rattle.automata.specs.Machine.{Machine}
-use Rattle.explore.specs.Rows.{numberAt}
+use Rattle.rows.specs.Rows.{numberAt}
 use Rattle.answers.specs.declared.Staged.{Staged}
 use Rattle.answers.specs.declared.Staged.the-variants.{Made, TooManySets, TooManyStates}
 use Rattle.stages_run.specs.declared.Turn.{Turn}

@@ -1,5 +1,5 @@
--- What the answer of the exploring is worth: n rows counted, and a closed table whose machine accepts the words of the automaton of rows. Row i is the
--- table's state i.
+-- What the answer of the exploring is worth: n rows counted, and a closed table whose machine accepts the words of the automaton of rows, where row i is the
+-- table's state i; or more rows than the limit.
 use mathlib.Core.Path.{_≡_, refl, sym, ap, _∙_}
 use mathlib.Core.Bool.{Bool, true, false}
 use mathlib.Core.List.{List, [], _∷_}
@@ -11,13 +11,18 @@ use Rattle.automata.specs.Basics.{LtCases, lt-cases, Inj}
 use Rattle.automata.specs.Automaton.{Automaton, Over, run, Reachable}
 use Rattle.automata.specs.Machine.{automaton, SameWords}
 use Rattle.automata.specs.Table.{ClosedTable, tableMachine, table-step, table-accepting, flagOf}
-use Rattle.automata.specs.Stage.{Counts}
+use Rattle.automata.specs.Stage.{Counts, MoreThan}
 use Rattle.rows.specs.Rows.{rowAt, bit}
-use Rattle.explore.specs.Answer.{AllRows}
+use Rattle.turns.specs.Exploring.{AllRows, Answers}
+use Rattle.turns.specs.declared.Explored.the-variants.{TooMany}
 
 flag-bit : (b : Bool) → flagOf (bit b) ≡ b
 flag-bit true = refl
 flag-bit false = refl
+
+-- More rows are reached than the limit.
+pub explored-more : (R : Automaton (List ℕ)) (k w limit : ℕ) (rows table : List ℕ) → Answers R k w limit rows table TooMany → MoreThan k R limit
+explored-more R k w limit rows table m = m
 
 module _ (R : Automaton (List ℕ)) (k w limit n : ℕ) (rows table : List ℕ) (A : AllRows R k w limit n rows table) where
   pub explored-closed : ClosedTable limit n k table

@@ -1,0 +1,17 @@
+-- A book's lines behind line 1: where they begin in the text, and what the definitions make of them.
+use mathlib.Core.List.{List}
+use Prim.Native.Nat.{ℕ, suc, _≤_}
+use lib.ListN.{length, drop}
+use Rattle.automata.specs.Format.{narrow}
+use Rattle.book.specs.Text.{linesOf}
+use Rattle.compiler.specs.Book.{BookResult, compileLines, startDraft}
+
+-- the lines of a text from a place on, where line 2 starts
+abbrev pub linesFrom : List ℕ → List ℕ → ℕ → BookResult
+linesFrom text ls next = compileLines narrow ls (linesOf (drop next text)) 2 (startDraft (length ls))
+
+-- The place of line 2, in a text that is not too long, with the letters of line 1.
+pub record Placed (text ls : List ℕ) (next : ℕ) : Type 0 where
+  pub letters : (1 ≤ length ls) × (length ls ≤ 26)
+  pub short : length text ≤ 16384
+  pub at : next ≤ suc (length text)
