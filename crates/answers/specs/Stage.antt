@@ -18,7 +18,7 @@ use Rattle.answers.specs.declared.Limits.{Limits}
 use Rattle.answers.specs.declared.Staged.{Staged}
 use Rattle.answers.specs.declared.Staged.the-variants.{Made, TooManySets, TooManyStates}
 use Rattle.slots.specs.Slot.{Slot, slotMachine}
-use Rattle.slots.specs.Keep.{Aside}
+use Rattle.slots.specs.Aside.{Aside}
 use Rattle.answers.specs.Operate.{operate}
 
 -- ---- the row's width

@@ -26,7 +26,7 @@ use Rattle.slots.specs.declared.slot.Sizes.{Sizes}
 use Rattle.answers.specs.declared.Limits.{Limits}
 use Rattle.answers.specs.declared.Staged.the-variants.{Made, TooManySets, TooManyStates}
 use Rattle.slots.specs.Slot.{Slot, slotMachine, Loaded}
-use Rattle.slots.specs.Keep.{Keepable, KeptAt}
+use Rattle.packing.specs.Keep.{Keepable, KeptAt}
 use Rattle.answers.specs.Operate.{operate, operate-by, found-kept, found-large, found-many}
 use Rattle.answers.specs.Stage.{width-most, tableRows, Reaches, Reached, Ready, StageDone}
 

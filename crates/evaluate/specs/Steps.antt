@@ -19,7 +19,7 @@ use Rattle.book.specs.Kind.{isName}
 use Rattle.book.specs.StackLaws.{heightAfter, heightWhile, besides}
 use Rattle.sets.specs.Operations.{operationOf}
 use Rattle.slots.specs.Slot.{Slot, slotMachine, Holds, Written}
-use Rattle.slots.specs.Keep.{Aside}
+use Rattle.slots.specs.Aside.{Aside}
 use Rattle.answers.specs.Operate.{operate}
 use Rattle.codes.specs.Execute.{Store, Ran, ran, failed, stuck, pushMade, withOne, withTwo, step}
 use Rattle.operands.specs.Stack.{needs, slotAt, Slots, machines, fills, fills-most, slot-same, slots-below, slots-less, slots-more, machines-below}

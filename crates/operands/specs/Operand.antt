@@ -17,7 +17,7 @@ use Rattle.automata.specs.Machine.{Machine}
 use Rattle.automata.specs.Given.{letterMachine, emptyMachine, allMachine, dotMachine, markMachine}
 use Rattle.language.specs.Evaluate.{column}
 use Rattle.slots.specs.Slot.{Slot, slotMachine, Holds, Written}
-use Rattle.slots.specs.Keep.{Aside, part-at}
+use Rattle.slots.specs.Aside.{Aside, part-at}
 use Rattle.operands.specs.Stack.{needs, slotAt, fills, fills-most, slot-filled, slot-same}
 use Rattle.codes.specs.Codes.{givenOf}
 use Rattle.operands.specs.declared.Layout.{Layout}

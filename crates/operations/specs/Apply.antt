@@ -13,7 +13,7 @@ use Rattle.automata.specs.Stage.{Made, made, refused, after, thenMade}
 use Rattle.automata.specs.Stages.{starStage, concatStage}
 use Rattle.sets.specs.Operations.{operationOf}
 use Rattle.slots.specs.Slot.{Slot, Holds, Written}
-use Rattle.slots.specs.Keep.{Aside}
+use Rattle.slots.specs.Aside.{Aside}
 use Rattle.answers.specs.Operate.{operate}
 use Rattle.answers.specs.Stage.{Ready, StageDone, answerOf, InSlot}
 use Rattle.answers.specs.declared.Limits.{Limits}

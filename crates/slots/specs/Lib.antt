@@ -1,4 +1,4 @@
--- What stands behind machines in slots of bytes: a slot, the given machines in slots, a machine kept in a slot among others.
+-- What stands behind machines in slots of bytes: a slot, a slot that is changed alone, the given machines in slots.
 pub mod Slot
+pub mod Aside
 pub mod GivenSlots
-pub mod Keep

@@ -1,5 +1,4 @@
-// Machines in slots of bytes: unpacked into tables, kept, and the given ones, which no stage makes. These are parts: callers give slots that are long
+// Machines in slots of bytes: unpacked into tables, and the given ones, which no stage makes. These are parts: callers give slots that are long
 // enough, and where a machine is read, slots that hold one.
 pub mod given;
-pub mod keep;
 pub mod slot;

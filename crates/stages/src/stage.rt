@@ -4,7 +4,6 @@ use answers::Staged;
 use explore::Explored;
 use explore::Shape;
 use minimise::Kept;
-use slots::keep;
 use slots::slot;
 use slots::slot::Sizes;
 ghost use mathlib.Core.Path.{_≡_};
@@ -93,7 +92,7 @@ pub fn stage(
         return Staged::TooManySets;
     };
     let limit = limits.sets;
-    let Kept::States(q) = keep::keep(&table[..], limit, n, k, most, operands, slots, left) else {
+    let Kept::States(q) = packing::keep(&table[..], limit, n, k, most, operands, slots, left) else {
         return Staged::TooManyStates;
     };
     Staged::Made(n, q)

@@ -14,7 +14,7 @@ use Rattle.answers.specs.declared.Staged.the-variants.{Made, TooManySets, TooMa
 use Rattle.stages_run.specs.declared.Turn.{Turn}
 use Rattle.stages_run.specs.declared.Turn.the-variants.{Next, Stop}
 use Rattle.slots.specs.Slot.{Slot, Holds, Written, table-same}
-use Rattle.slots.specs.Keep.{Aside}
+use Rattle.slots.specs.Aside.{Aside}
 use Rattle.answers.specs.Stage.{Ready, StageDone}
 
 -- the first d slots hold machines

@@ -3,7 +3,7 @@ use mathlib.Core.Path.{refl}
 use Prim.Native.Nat.{_+_, _*_, _≤_}
 use native.Mathlib.Omega.{arith}
 use lib.ListN.{length}
-use Rattle.slots.specs.Keep.{part-at}
+use Rattle.slots.specs.Aside.{part-at}
 use Rattle.stages_run.specs.Stack.{stack-push}
 use borrow.Author.Needs.{needs}
 use Rattle.stages_run.proofs.push.Statement.{statement}

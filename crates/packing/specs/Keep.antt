@@ -1,13 +1,12 @@
 -- A machine kept in a slot among others: what is asked of the buffers, what the slot then holds, and that nothing else is changed.
-use mathlib.Core.Path.{_≡_, sym, ap, ap₂, _∙_, subst}
+use mathlib.Core.Path.{_≡_, sym, ap, ap₂, _∙_}
 use mathlib.Core.Logic.{_⊎_, inl, inr, _≢_}
-use mathlib.Core.List.{List, _++_}
-use Prim.Native.Nat.{ℕ, _+_, _*_, _/_, _%_, _-_, _≤_, _<_}
+use mathlib.Core.List.{List}
+use Prim.Native.Nat.{ℕ, _+_, _*_, _/_, _%_, _≤_, _<_}
 use native.Mathlib.Nat.{div-add-mod', mul-le-mul-right}
 use native.Mathlib.Omega.{arith}
-use lib.ListN.{length, getD, take, drop, set, length-drop, length-set, List·getD-append}
-use lib.Seq.{getD-take, getD-drop, getD-set-same, getD-set-other, getD-append-add, length-take-le}
-use borrow.Rule.Slice.PartMut.{same-len-mid, drop-put}
+use lib.ListN.{length, getD, drop, set, length-drop, length-set}
+use lib.Seq.{getD-drop, getD-set-same, getD-set-other}
 use Rattle.automata.specs.Machine.{Machine, size}
 use Rattle.automata.specs.Smallest.{smallest}
 use Rattle.automata.specs.Table.{tableMachine, ClosedTable}
@@ -16,7 +15,8 @@ use Rattle.minimise.specs.declared.Kept.{Kept}
 use Rattle.minimise.specs.declared.Kept.the-variants.{States, TooMany}
 use Rattle.minimise.specs.Minimised.{Minimised}
 use Rattle.minimise.specs.MinimisedLaws.{Found, kept-many}
 use Rattle.slots.specs.Slot.{slotMachine, Holds, Written, table-same, number-drop}
+use Rattle.slots.specs.Aside.{Aside}
 
 -- A table of n states over k columns, room for the classes, and room for a slot at a place.
 pub record Keepable (base n k most at : ℕ) (t w s : List ℕ) : Type 0 where
@@ -28,11 +28,6 @@ pub record Keepable (base n k most at : ℕ) (t w s : List ℕ) : Type 0 where
   pub order : n + n + most ≤ length w
   pub slot : at + 2 + (most + most * k) ≤ length s
 
--- Only the entries of the slot at a place may differ.
-pub record Aside (at len : ℕ) (s t : List ℕ) : Type 0 where
-  pub long : length t ≡ length s
-  pub same : (j : ℕ) → (j < at) ⊎ (at + len ≤ j) → getD t j 0 ≡ getD s j 0
-
 -- The slot holds the smallest machine of M, which has m states; or that has more than so many.
 abbrev pub KeptIn : ℕ → ℕ → ℕ → Machine → List ℕ → Kept → Type 0
 KeptIn k most at M s (States m) = Holds most k (drop at s) (smallest k M) × (size (smallest k M) ≡ m) × (m ≤ most)
@@ -41,37 +36,6 @@ KeptIn k most at M s TooMany = most < size (smallest k M)
 pub record KeptAt (k most at : ℕ) (M : Machine) (s t : List ℕ) (r : Kept) : Type 0 where
   pub answer : KeptIn k most at M t r
   pub aside : Aside at (2 + (most + most * k)) s t
-
--- ---- a part of a list that is put back
-
--- The part from a on and before e is ys.
-pub part-written : (a e : ℕ) (xs ys : List ℕ) → a ≤ e → e ≤ length xs → length ys ≡ length (take (e - a) (drop a xs))
-    → Written xs (take a xs ++ (ys ++ drop (e - a) (drop a xs))) a (e - a) (λ i. getD ys i 0)
-part-written a e xs ys h g l = record { long = same-len-mid a (e - a) xs ys l; here = here; there = there }
-  where
-    front : length (take a xs) ≡ a
-    front = length-take-le a xs (omega arith)
-
-    long : length ys ≡ e - a
-    long = l ∙ length-take-le (e - a) (drop a xs) (omega (arith, length-drop a xs))
-
-    whole : List ℕ
-    whole = take a xs ++ (ys ++ drop (e - a) (drop a xs))
-
-    here : (i : ℕ) → i < e - a → getD whole (a + i) 0 ≡ getD ys i 0
-    here i b = ap (λ n. getD whole (n + i) 0) (sym front) ∙ getD-append-add (take a xs) (ys ++ drop (e - a) (drop a xs)) i 0 ∙ List·getD-append ys (drop (e - a) (drop a xs)) 0 i (omega (arith, long))
-
-    there : (j : ℕ) → (j < a) ⊎ (a + (e - a) ≤ j) → getD whole j 0 ≡ getD xs j 0
-    there j (inl b) = List·getD-append (take a xs) (ys ++ drop (e - a) (drop a xs)) 0 j (omega (arith, front)) ∙ getD-take a xs j 0 b
-    there j (inr b) =
-        let z : j ≡ e + (j - e) = omega arith in
-        ap (λ n. getD whole n 0) z ∙ sym (getD-drop e whole (j - e) 0) ∙ ap (λ v. getD v (j - e) 0) (drop-put a e xs ys h g long) ∙ getD-drop e xs (j - e) 0 ∙ ap (λ n. getD xs n 0) (sym z)
-
-pub part-at : (a e len : ℕ) (xs ys : List ℕ) → a + len ≡ e → e ≤ length xs → length ys ≡ length (take (e - a) (drop a xs))
-    → Written xs (take a xs ++ (ys ++ drop (e - a) (drop a xs))) a len (λ i. getD ys i 0)
-part-at a e len xs ys h g l =
-    let z : e - a ≡ len = omega arith in
-    subst (λ n. Written xs (take a xs ++ (ys ++ drop (e - a) (drop a xs))) a n (λ i. getD ys i 0)) z (part-written a e xs ys (omega arith) g l)
 
 -- ---- what is kept
 

@@ -1,10 +1,11 @@
-// The smallest machine of a table, kept in a slot: its number of states, then its table of bytes.
+// The smallest machine of a table, kept in a slot: its number of states, then its table of bytes. A part: callers give a closed table and a slot that is long
+// enough.
 use minimise::Kept;
 ghost use mathlib.Core.Path.{_≡_};
 ghost use Prim.Native.Nat.{_+_, _/_, _%_, _<_, _≤_};
 ghost use lib.ListN.{length, set};
 ghost use Rattle.automata.specs.Table.{tableMachine};
-ghost use Rattle.slots.specs.Keep.{Keepable, KeptAt};
+ghost use Rattle.packing.specs.Keep.{Keepable, KeptAt};
 
 // Puts a number into two bytes, low byte first.
 fn put_number(s: &mut [u8], at: usize, n: usize)

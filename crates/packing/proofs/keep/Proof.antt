@@ -1,12 +1,13 @@
--- `slots::keep::keep` meets its contract.
+-- `packing::keep` meets its contract.
 use mathlib.Core.Path.{refl}
 use Prim.Native.Nat.{_+_, _*_}
 use native.Mathlib.Omega.{arith}
 use Rattle.minimise.specs.MinimisedLaws.{kept-found}
-use Rattle.slots.specs.Keep.{part-at, keep-many, keep-found}
+use Rattle.slots.specs.Aside.{part-at}
+use Rattle.packing.specs.Keep.{keep-many, keep-found}
 use borrow.Author.Needs.{needs}
-use Rattle.slots.proofs.keep.keep.Statement.{statement}
-use Rattle.slots.proofs.keep.keep.Tie as tie
+use Rattle.packing.proofs.keep.Statement.{statement}
+use Rattle.packing.proofs.keep.Tie as tie
 
 returns : tie.Need-returns
 returns c =

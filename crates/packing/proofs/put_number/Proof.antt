@@ -1,9 +1,9 @@
--- `slots::keep::put_number` meets its contract.
+-- `packing::put_number` meets its contract.
 use native.Mathlib.Omega.{arith}
 use lib.ListN.{length-set}
 use borrow.Author.Needs.{needs}
-use Rattle.slots.proofs.keep.put_number.Statement.{statement}
-use Rattle.slots.proofs.keep.put_number.Tie as tie
+use Rattle.packing.proofs.put_number.Statement.{statement}
+use Rattle.packing.proofs.put_number.Tie as tie
 
 slice-write-s-2 : tie.Need-slice-write-s-2
 slice-write-s-2 c = simp length-set (omega arith)

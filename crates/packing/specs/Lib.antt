@@ -1,0 +1,2 @@
+-- A machine kept in a slot among others.
+pub mod Keep
