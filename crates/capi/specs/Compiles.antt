@@ -3,7 +3,7 @@ use mathlib.Core.Path.{_≡_, ap, _∙_}
 use mathlib.Core.List.{List}
 use Prim.Native.Nat.{ℕ}
 use Rattle.compiler.specs.Outcome.{Outcome, answer, bufferAfter}
-use Rattle.frame.specs.declared.Compiled.{Compiled}
+use Rattle.compiler.specs.declared.Compiled.{Compiled}
 use Rattle.driver.specs.Entry.{Answers, reading}
 use Rattle.numbers.specs.Handed.{handed, answerNumbers}
 

@@ -3,7 +3,7 @@ use mathlib.Core.Path.{_≡_, subst}
 use mathlib.Core.List.{List}
 use Prim.Native.Nat.{ℕ}
 use lib.ListN.{length}
-use Rattle.frame.specs.declared.Compiled.{Compiled}
+use Rattle.compiler.specs.declared.Compiled.{Compiled}
 use Rattle.automata.specs.Format.{narrow}
 use Rattle.compiler.specs.Outcome.{outcome}
 use Rattle.driver.specs.Entry.{documented, Answers}

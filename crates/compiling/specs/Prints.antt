@@ -4,7 +4,7 @@ use mathlib.Core.List.{List}
 use lib.ListN.{length}
 use Rattle.automata.specs.Format.{narrow}
 use Rattle.compiler.specs.Outcome.{outcome}
-use Rattle.frame.specs.declared.Compiled.{Compiled}
+use Rattle.compiler.specs.declared.Compiled.{Compiled}
 use Rattle.driver.specs.Entry.{documented, Answers}
 use Rattle.report.specs.Shown.{Shows}
 

@@ -15,7 +15,7 @@ use Rattle.card.specs.Judge.{judge, unknown-letter}
 use Rattle.card.specs.JudgeLaws.{replies-only}
 use Rattle.card.specs.Demand.{Demand3}
 use Rattle.compiler.specs.Outcome.{Outcome, card, stop, answer, outcome, card-stands}
-use Rattle.frame.specs.declared.Compiled as C
+use Rattle.compiler.specs.declared.Compiled as C
 use Rattle.driver.specs.Entry.{documented, reading, Answers}
 use Rattle.promises.specs.Demands.{bookAllows}
 use Rattle.promises.specs.Today.{card-keeps-demand, rules-obeyed, one-card}

@@ -20,8 +20,8 @@ use Rattle.progress.specs.declared.Ended.the-variants as ended
 use Rattle.driver.specs.Entry.{documented, lentLengths, Answers}
 use Rattle.frame.proofs.FrameLaws.{stops}
 use Rattle.frame.specs.Frame.{Writable, cardOrStop, PutsCard, Headed, FirstLine, OpensSay, Opens}
-use Rattle.frame.specs.declared.Compiled.{Compiled}
-use Rattle.frame.specs.declared.Compiled.the-variants.{Refused}
+use Rattle.compiler.specs.declared.Compiled.{Compiled}
+use Rattle.compiler.specs.declared.Compiled.the-variants.{Refused}
 use Rattle.frame.specs.declared.Opened.{Opened}
 use Rattle.frame.specs.declared.Opened.the-variants as opened
 

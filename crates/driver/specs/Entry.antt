@@ -3,7 +3,7 @@ use mathlib.Core.List.{List, [], _∷_}
 use Prim.Native.Nat.{ℕ}
 use lib.ListN.{length}
 pub use Rattle.compiler.specs.Lent.{documented}
-pub use Rattle.frame.specs.Frame.{reading, Answers}
+pub use Rattle.compiler.specs.Reading.{reading, Answers}
 
 -- the lengths of the lent buffers, in this order
 abbrev pub lentLengths : List ℕ → List ℕ → List ℕ → List ℕ → List ℕ → List ℕ → List ℕ → List ℕ → List ℕ

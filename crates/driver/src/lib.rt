@@ -1,5 +1,5 @@
 // The compiler's entry: the lines of a book in order, their stages, and the card. It has no requires; all below it are its parts.
-use frame::Compiled;
+use compiler::Compiled;
 use frame::Opened;
 use lexer::kinds::KindTable;
 use progress::Ended;

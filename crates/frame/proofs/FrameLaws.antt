@@ -32,11 +32,12 @@ use Rattle.scans.specs.Head.{headOf}
 use Rattle.scans.specs.declared.head.Head.{Head}
 use Rattle.scans.specs.declared.head.Head as head
 use Rattle.kept.specs.Stored.{InSlot}
-use Rattle.progress.specs.Rest.{linesFrom}
+use Rattle.compiler.specs.Reading.{Answers}
+use Rattle.compiler.specs.Rest.{linesFrom}
 use Rattle.compiler.specs.Lent.{documented}
-use Rattle.frame.specs.Frame.{Answers, Writable, PutsCard, Headed, Heads, Opens}
-use Rattle.frame.specs.declared.Compiled.{Compiled}
-use Rattle.frame.specs.declared.Compiled.the-variants.{Card, Refused}
+use Rattle.frame.specs.Frame.{Writable, PutsCard, Headed, Heads, Opens}
+use Rattle.compiler.specs.declared.Compiled.{Compiled}
+use Rattle.compiler.specs.declared.Compiled.the-variants.{Card, Refused}
 use Rattle.frame.specs.declared.Opened.{Opened}
 use Rattle.frame.specs.declared.Opened.the-variants as opened
 
@@ -160,7 +161,7 @@ module _ (text : List ℕ) (end : ℕ) (E : Ends text 0 end) (h : 0 < length tex
       let one : 1 ≤ end = some end (K′ .least) in
       let y : drop 1 (lineAt text 0 end .bytes) ≡ take (end - 1) (drop 1 text) = behind-colon text end one in
       let H : Headed text (drop 1 (lineAt text 0 end .bytes)) (suc end) = record {
-        is = book-head ∙ ap (λ r. afterHead r (λ ls. linesFrom text ls (suc end))) g;
+        is = book-head ∙ ap (λ r. afterHead r (λ ls. linesFrom narrow text ls (suc end))) g;
         placed = record { letters = (K′ .least, K′ .most); short = s; at = omega (arith, E .within) };
       } in
       record {
@@ -178,7 +179,7 @@ module _ (text : List ℕ) (end : ℕ) (E : Ends text 0 end) (h : 0 < length tex
   pub head-stops : (n : ℕ) (x : Head) → readHead narrow (lineAt text 0 end) ≡ headOf (lineAt text 0 end .bytes) x → x ≡ head.the-variants.Refused n → Heads text (opened.Refused n 1)
   head-stops n x e q =
       let f : readHead narrow (lineAt text 0 end) ≡ L.HeadRead.stops n = rw q at e in
-      record { says = book-head ∙ ap (λ r. afterHead r (λ ls. linesFrom text ls (suc end))) f }
+      record { says = book-head ∙ ap (λ r. afterHead r (λ ls. linesFrom narrow text ls (suc end))) f }
 
 -- ---- 1 and 2
 

@@ -1,4 +1,4 @@
--- The compiler's answer, read with the paper's numbers; what line 1 says, and what the card is.
+-- What line 1 says, and what the card is.
 use mathlib.Core.Path.{_≡_}
 use mathlib.Core.Bool.{true}
 use mathlib.Core.List.{List, [], _∷_}
@@ -12,24 +12,14 @@ use Rattle.automata.specs.Machine.{Machine, Canonical}
 use Rattle.automata.specs.Restrict.{Unmarked}
 use Rattle.card.specs.Same.{cardOf}
 use Rattle.compiler.specs.Book.{compileBook, stopped}
-use Rattle.compiler.specs.Outcome.{Outcome, card, stop, Answer, answer, bufferAfter, enough, outcome}
+use Rattle.compiler.specs.Outcome.{Outcome, card, stop, enough, outcome}
+use Rattle.compiler.specs.Reading.{Answers}
+use Rattle.compiler.specs.Rest.{linesFrom, Placed}
+use Rattle.compiler.specs.declared.Compiled.{Compiled}
 use Rattle.compiler.specs.Lent.{documented}
 use Rattle.kept.specs.Stored.{InSlot}
-use Rattle.progress.specs.Rest.{linesFrom, Placed}
-use Rattle.frame.specs.declared.Compiled.{Compiled}
-use Rattle.frame.specs.declared.Compiled.the-variants.{Card, Refused}
 use Rattle.frame.specs.declared.Opened.{Opened}
 use Rattle.frame.specs.declared.Opened.the-variants as opened
-
--- "A book's refusal returns the number, its line, length 0, peak 0"; "Success returns the card's length and the peak".
-abbrev pub reading : Compiled → Answer
-reading (Card length peak) = record { number = 0; line = 0; length = length; peak = peak }
-reading (Refused number line) = record { number = number; line = line; length = 0; peak = 0 }
-
--- The answer, and the card buffer behind it, are those of an outcome.
-pub record Answers (o : Outcome) (old new : List ℕ) (r : Compiled) : Type 0 where
-  pub answer : reading r ≡ answer o
-  pub buffer : new ≡ bufferAfter o old
 
 -- ---- the card
 
@@ -52,7 +42,7 @@ pub record PutsCard (ls slot : List ℕ) (peak : ℕ) (old new : List ℕ) (r : 
 
 -- Line 1 was read, and the other lines start at a place.
 pub record Headed (text ls : List ℕ) (next : ℕ) : Type 0 where
-  pub is : compileBook narrow text ≡ linesFrom text ls next
+  pub is : compileBook narrow text ≡ linesFrom narrow text ls next
   pub placed : Placed text ls next
 
 -- Line 1 ends at a place, and its letters stand behind its first byte.

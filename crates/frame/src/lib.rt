@@ -1,5 +1,6 @@
 // What stands before a book's lines and behind them: the lengths of the text and the lent buffers, line 1, and the card. Parts of the compiler's entry: callers
 // give the table of kinds, and a slot that holds the book's machine.
+use compiler::Compiled;
 use lexer::kinds::KindTable;
 use scans::ends;
 use scans::head;
@@ -32,12 +33,6 @@ pub const CODE: usize = 32832;
 
 // The longest text, in bytes.
 pub const TEXT: usize = 16384;
-
-// The card's length and the peak, or the number of a refusal and its line.
-pub enum Compiled {
-    Card(usize, usize),
-    Refused(u8, usize),
-}
 
 // Each lent buffer has its documented length.
 fn long_enough(

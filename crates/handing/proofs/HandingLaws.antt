@@ -11,7 +11,7 @@ use Rattle.run.specs.declared.Answer as R
 use Rattle.run.specs.Reading.{replyOf}
 use Rattle.board.specs.declared.Loaded as B
 use Rattle.board.specs.Answers.{loading}
-use Rattle.frame.specs.declared.Compiled as C
+use Rattle.compiler.specs.declared.Compiled as C
 use Rattle.handing.specs.declared.BoardAnswer as S
 use Rattle.handing.specs.declared.Delivered as D
 use Rattle.handing.specs.Answers.{onBoard, boardSays, delivery}

@@ -5,8 +5,8 @@ use lib.ListN.{length, take}
 use Rattle.automata.specs.Format.{narrow}
 use Rattle.card.specs.Answer.{load}
 use Rattle.card.specs.Judge.{judge}
-use Rattle.frame.specs.declared.Compiled.{Compiled}
-use Rattle.frame.specs.declared.Compiled.the-variants.{Card, Refused}
+use Rattle.compiler.specs.declared.Compiled.{Compiled}
+use Rattle.compiler.specs.declared.Compiled.the-variants.{Card, Refused}
 use Rattle.handing.specs.Answers.{boardSays, Delivery, card, refused}
 
 -- The card is within its buffer.

@@ -16,7 +16,7 @@ use Rattle.line.specs.Line.{Drafted, Going, LineSays, CompilesLine}
 use Rattle.progress.specs.declared.Book.{Book}
 use Rattle.progress.specs.declared.Next.{Next}
 use Rattle.progress.specs.declared.Ended.{Ended}
-use Rattle.progress.specs.Rest.{linesFrom, Placed}
+use Rattle.compiler.specs.Rest.{linesFrom, Placed}
 use Rattle.lines.specs.Lines.{Lent, CompilesLines}
 use Rattle.progress.specs.declared.Ended.the-variants.{Done, Refused}
 
@@ -24,7 +24,7 @@ use Rattle.progress.specs.declared.Ended.the-variants.{Done, Refused}
 pub record Reached (text ls : List ℕ) (next : ℕ) (b : Book) (low high registers : List ℕ) : Type 0 where
   pub draft : Draft
   pub drafted : Drafted ls draft b low high registers
-  pub says : linesFrom text ls next ≡ compileLines narrow ls (linesOf (drop (b .at) text)) (b .line) draft
+  pub says : linesFrom narrow text ls next ≡ compileLines narrow ls (linesOf (drop (b .at) text)) (b .line) draft
   pub at : b .at ≤ suc (length text)
   pub line : b .line ≤ b .at + 2
 
@@ -54,7 +54,7 @@ module _ (text ls : List ℕ) (next : ℕ) (b : Book) (low high registers : List
   module _ (low′ high′ registers′ : List ℕ) (r : Next) (C : CompilesLine text ls b low high registers low′ high′ registers′ r) (h : b .at < length text) where
     -- the next line in front
     first : (x : LineResult) → compileLine narrow ls (R .draft) (lineAt text (b .at) (C .end)) ≡ x
-        → linesFrom text ls next ≡ afterLine x (λ d. compileLines narrow ls (linesOf (drop (suc (C .end)) text)) (suc (b .line)) d) (λ r. stopped r (b .line))
+        → linesFrom narrow text ls next ≡ afterLine x (λ d. compileLines narrow ls (linesOf (drop (suc (C .end)) text)) (suc (b .line)) d) (λ r. stopped r (b .line))
     unfolding compileLines
     first x e =
         R .says ∙ ap (λ l. compileLines narrow ls l (b .line) (R .draft)) (C .ends .lines h)
@@ -82,7 +82,7 @@ module _ (text ls : List ℕ) (next : ℕ) (b : Book) (low high registers : List
     lines-off q = record { says = first (off (r .number)) (said false q) }
 
   module _ (h : length text ≤ b .at) where
-    at-end : linesFrom text ls next ≡ choose (R .draft .ruled) (λ _. done ls (R .draft)) (λ _. stopped 10 0)
+    at-end : linesFrom narrow text ls next ≡ choose (R .draft .ruled) (λ _. done ls (R .draft)) (λ _. stopped 10 0)
     unfolding compileLines
     at-end = R .says ∙ ap (λ s. compileLines narrow ls (linesOf s) (b .line) (R .draft)) (drop-of-length-le text {i = b .at} h)
 

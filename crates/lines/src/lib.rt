@@ -3,7 +3,7 @@ use lexer::kinds::KindTable;
 use progress::Book;
 use progress::Ended;
 ghost use Rattle.lexer.specs.Kinds.{Kinds};
-ghost use Rattle.progress.specs.Rest.{Placed};
+ghost use Rattle.compiler.specs.Rest.{Placed};
 ghost use Rattle.lines.specs.Lines.{Lent, CompilesLines};
 
 // Compiles the lines from line 2 on, which starts at a place. The machine of the book is left in the first register.

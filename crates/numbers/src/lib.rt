@@ -6,7 +6,7 @@ ghost use Rattle.run.specs.Reading.{replyOf};
 ghost use Rattle.board.specs.Answers.{loading, stepping};
 ghost use Rattle.forbidden.specs.Reading.{answerOf};
 ghost use Rattle.plans.specs.Many.{manyOf};
-ghost use Rattle.frame.specs.Frame.{reading};
+ghost use Rattle.compiler.specs.Reading.{reading};
 ghost use Rattle.numbers.specs.Handed.{handed, numbers, answerNumbers, shortestNumbers};
 
 // The number handed back, and three numbers in `out`.
@@ -75,11 +75,11 @@ pub fn counted(answer: plans::Many, out: &mut [u64; 3]) -> u64
 }
 
 // Compiling: 0, and 0, the card's length, the peak; or the number of a refusal, and its line, 0, 0.
-pub fn compiled(answer: frame::Compiled, out: &mut [u64; 3]) -> u64
+pub fn compiled(answer: compiler::Compiled, out: &mut [u64; 3]) -> u64
     ensures { λ r. ⌜ handed r (now (out .exit)) ≡ answerNumbers (reading answer) ⌝ }
 {
     match answer {
-        frame::Compiled::Card(length, peak) => put(out, 0, 0, length as u64, peak as u64),
-        frame::Compiled::Refused(number, line) => put(out, number as u64, line as u64, 0, 0),
+        compiler::Compiled::Card(length, peak) => put(out, 0, 0, length as u64, peak as u64),
+        compiler::Compiled::Refused(number, line) => put(out, number as u64, line as u64, 0, 0),
     }
 }

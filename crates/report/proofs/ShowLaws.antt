@@ -5,8 +5,8 @@ use Prim.Native.Nat.{ℕ, _≤_, _<_}
 use native.Mathlib.Omega.{arith}
 use lib.ListN.{length}
 use lib.Seq.{take-all, take-length}
-use Rattle.frame.specs.declared.Compiled.{Compiled}
-use Rattle.frame.specs.declared.Compiled.the-variants.{Card, Refused}
+use Rattle.compiler.specs.declared.Compiled.{Compiled}
+use Rattle.compiler.specs.declared.Compiled.the-variants.{Card, Refused}
 use Rattle.stream.specs.Text.{Put, PutNumber, decimal}
 use Rattle.stream.specs.TextLaws.{put-put}
 use Rattle.report.specs.Shown.{refusedWord, lineWord, newline, refusalLine, longest, shown, Shows}

@@ -3,8 +3,8 @@ use mathlib.Core.Path.{_≡_}
 use mathlib.Core.List.{List, [], _∷_, _++_}
 use Prim.Native.Nat.{ℕ, _≤_}
 use lib.ListN.{length, take}
-use Rattle.frame.specs.declared.Compiled.{Compiled}
-use Rattle.frame.specs.declared.Compiled.the-variants.{Card, Refused}
+use Rattle.compiler.specs.declared.Compiled.{Compiled}
+use Rattle.compiler.specs.declared.Compiled.the-variants.{Card, Refused}
 use Rattle.stream.specs.Text.{decimal}
 
 -- "refused ", " line " and the line end

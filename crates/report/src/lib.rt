@@ -2,7 +2,7 @@
 ghost use Prim.Native.Nat.{_≤_};
 ghost use lib.ListN.{length};
 ghost use Rattle.report.specs.Shown.{longest, Shows};
-use frame::Compiled;
+use compiler::Compiled;
 
 // The bytes to be written for an answer, in front of `card`, where the card stands already. How many they are.
 pub fn show(answer: Compiled, card: &mut [u8]) -> usize

@@ -2,7 +2,7 @@
 use mathlib.Core.Path.{sym}
 use Rattle.numbers.specs.HandedLaws.{handed-as}
 use Rattle.numbers.specs.Handed.{answerNumbers}
-use Rattle.frame.specs.Frame.{reading}
+use Rattle.compiler.specs.Reading.{reading}
 use borrow.Author.Needs.{needs}
 use Rattle.numbers.proofs.compiled.Statement.{statement}
 use Rattle.numbers.proofs.compiled.Tie as tie

@@ -2,13 +2,13 @@
 use mathlib.Core.List.{List}
 use Prim.Native.Nat.{ℕ, suc, _≤_}
 use lib.ListN.{length, drop}
-use Rattle.automata.specs.Format.{narrow}
+use Rattle.automata.specs.Format.{Format}
 use Rattle.book.specs.Text.{linesOf}
 use Rattle.compiler.specs.Book.{BookResult, compileLines, startDraft}
 
 -- the lines of a text from a place on, where line 2 starts
-abbrev pub linesFrom : List ℕ → List ℕ → ℕ → BookResult
-linesFrom text ls next = compileLines narrow ls (linesOf (drop next text)) 2 (startDraft (length ls))
+abbrev pub linesFrom : Format → List ℕ → List ℕ → ℕ → BookResult
+linesFrom fmt text ls next = compileLines fmt ls (linesOf (drop next text)) 2 (startDraft (length ls))
 
 -- The place of line 2, in a text that is not too long, with the letters of line 1.
 pub record Placed (text ls : List ℕ) (next : ℕ) : Type 0 where
