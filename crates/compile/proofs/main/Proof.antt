@@ -1,7 +1,7 @@
--- `run` meets its contract.
+-- `main` meets its contract.
 use borrow.Author.Needs.{needs}
-use Rattle.compiling.proofs.run.Statement.{statement}
-use Rattle.compiling.proofs.run.Tie as tie
+use Rattle.compile.proofs.main.Statement.{statement}
+use Rattle.compile.proofs.main.Tie as tie
 
 array-share-prefix-text : tie.Need-array-share-prefix-text
 array-share-prefix-text c = (rw (c .before .size .given .1) at (c .before .before .before .before .read-all .ensures)) .0
@@ -9,8 +9,8 @@ array-share-prefix-text c = (rw (c .before .size .given .1) at (c .before .befor
 slice-aggregate-print : tie.Need-slice-aggregate-print
 slice-aggregate-print c = (rw (c .before .before .size .given .1) at (c .before .before .before .before .before .read-all .ensures)) .1
 
-pub run-spec : {M : Type 1} → statement M
-run-spec =
+pub main-spec : {M : Type 1} → statement M
+main-spec =
     tie.close
     (tie.spec
     (λ c. search needs)

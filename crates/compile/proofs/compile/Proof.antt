@@ -3,9 +3,9 @@ use mathlib.Core.Path.{sym}
 use mathlib.Core.List.{_∷_, []}
 use native.Mathlib.Omega.{arith}
 use borrow.Author.Needs.{needs}
-use Rattle.compiling.proofs.PrintLaws.{prints-with}
-use Rattle.compiling.proofs.compile.Statement.{statement}
-use Rattle.compiling.proofs.compile.Tie as tie
+use Rattle.compile.proofs.PrintLaws.{prints-with}
+use Rattle.compile.proofs.compile.Statement.{statement}
+use Rattle.compile.proofs.compile.Tie as tie
 
 slice-aggregate-compile : tie.Need-slice-aggregate-compile
 slice-aggregate-compile c = search needs

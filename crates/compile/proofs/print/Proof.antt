@@ -2,8 +2,8 @@
 use mathlib.Core.Path.{sym}
 use lib.Seq.{length-take-le}
 use borrow.Author.Needs.{needs}
-use Rattle.compiling.proofs.print.Statement.{statement}
-use Rattle.compiling.proofs.print.Tie as tie
+use Rattle.compile.proofs.print.Statement.{statement}
+use Rattle.compile.proofs.print.Tie as tie
 
 slice-aggregate-write-all : tie.Need-slice-aggregate-write-all
 slice-aggregate-write-all c = sym (length-take-le _ _ (c .before .compile .ensures .shows .within))

@@ -8,7 +8,7 @@ use Rattle.automata.specs.Format.{narrow}
 use Rattle.compiler.specs.Outcome.{outcome}
 use Rattle.driver.specs.Entry.{documented, Answers}
 use Rattle.report.specs.Shown.{Shows}
-use Rattle.compiling.specs.Prints.{Prints}
+use Rattle.compile.specs.Prints.{Prints}
 
 -- the lent buffers have the documented lengths
 pub prints-with : (text old out : List ℕ) (r : ℕ) (a : Compiled) (card lent : List ℕ) → Answers (outcome narrow documented text lent (length old)) old card a → lent ≡ documented
