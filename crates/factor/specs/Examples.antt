@@ -24,14 +24,14 @@ abbrev nothing : List ℕ
 nothing = 0x0C ∷ 0 ∷ 1 ∷ 0 ∷ 0x0D ∷ 0 ∷ 1 ∷ 0 ∷ 0x0E ∷ 0 ∷ 1 ∷ 0 ∷ 0x61 ∷ 2 ∷ 0 ∷ []
 
 -- `abb`, `babbabb`, the hopeless `bab` which lies inside `abab`, the empty plan, `abc`
-pub stretches : map (shortest narrow first) ((97 ∷ 98 ∷ 98 ∷ []) ∷ (98 ∷ 97 ∷ 98 ∷ 98 ∷ 97 ∷ 98 ∷ 98 ∷ []) ∷ (98 ∷ 97 ∷ 98 ∷ []) ∷ [] ∷ (97 ∷ 98 ∷ 99 ∷ []) ∷ [])
+pub factors : map (shortest narrow first) ((97 ∷ 98 ∷ 98 ∷ []) ∷ (98 ∷ 97 ∷ 98 ∷ 98 ∷ 97 ∷ 98 ∷ 98 ∷ []) ∷ (98 ∷ 97 ∷ 98 ∷ []) ∷ [] ∷ (97 ∷ 98 ∷ 99 ∷ []) ∷ [])
     ≡ found (at 1 2) ∷ found (at 2 2) ∷ found none ∷ found none ∷ refused 27 2 ∷ []
 unfolding shortest shortestBy least leftmost liesInside loadTest unless contentsTest alphabetTest lettersOf insideTest rowInside numberedTest rowNumbered across seen machineOf marksOf movesOf marksTest marks live liveRound liveNext reducedTest classes settle rounds refine firsts
-stretches = refl
+factors = refl
 
-pub empty-stretches : map (shortest narrow nothing) ((97 ∷ 97 ∷ []) ∷ [] ∷ (98 ∷ []) ∷ []) ≡ found (at 0 0) ∷ found (at 0 0) ∷ refused 27 0 ∷ []
+pub empty-factors : map (shortest narrow nothing) ((97 ∷ 97 ∷ []) ∷ [] ∷ (98 ∷ []) ∷ []) ≡ found (at 0 0) ∷ found (at 0 0) ∷ refused 27 0 ∷ []
 unfolding shortest shortestBy least leftmost liesInside loadTest unless contentsTest alphabetTest lettersOf insideTest rowInside numberedTest rowNumbered across seen machineOf marksOf movesOf marksTest marks live liveRound liveNext reducedTest classes settle rounds refine firsts
-empty-stretches = refl
+empty-factors = refl
 
 -- no card
 pub no-bytes : shortest narrow [] (97 ∷ []) ≡ refused 21 0

@@ -4,4 +4,4 @@ pub mod Refusals
 pub mod PlanCuts
 pub mod Demands
 pub mod Today
-pub mod Stretch
+pub mod Factor

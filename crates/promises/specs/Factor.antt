@@ -30,8 +30,8 @@ module _ (fmt : Format) (s : Sound fmt) (two : 2 ≤ fmt .mostStates) (needs tex
   own = rw (D .letters) o
 
   -- THE REPLY IS r EXACTLY WHEN r is the right answer for the plans that the book allows,
-  pub stretch-of-book : (r : Shortest) → (shortest fmt c plan ≡ found r) ↔ Blames (bookAllows text) plan r
-  stretch-of-book r = rw (← same) (shortest-iff fmt c plan (D .loads) own r)
+  pub shortest-of-book : (r : Shortest) → (shortest fmt c plan ≡ found r) ↔ Blames (bookAllows text) plan r
+  shortest-of-book r = rw (← same) (shortest-iff fmt c plan (D .loads) own r)
 
   -- NONE EXACTLY WHEN the whole plan lies inside some plan that the book allows,
   pub none-of-book : (shortest fmt c plan ≡ found none) ↔ Inside (bookAllows text) plan
@@ -44,8 +44,8 @@ module _ (fmt : Format) (s : Sound fmt) (two : 2 ≤ fmt .mostStates) (needs tex
 -- For today's cards nothing is left to assume but that compiling answered a card and the plan is of the book's letters.
 module _ (needs text lent : List ℕ) (room : ℕ) (c : List ℕ) (peak : ℕ) (e : outcome narrow needs text lent room ≡ card c peak)
     (plan : List ℕ) (o : Known (bookLetters (linesOf text)) plan) where
-  pub stretch-today : (r : Shortest) → (shortest narrow c plan ≡ found r) ↔ Blames (bookAllows text) plan r
-  stretch-today = stretch-of-book narrow narrow-sound (omega arith) needs text lent room c peak e plan o
+  pub shortest-today : (r : Shortest) → (shortest narrow c plan ≡ found r) ↔ Blames (bookAllows text) plan r
+  shortest-today = shortest-of-book narrow narrow-sound (omega arith) needs text lent room c peak e plan o
 
   pub none-today : (shortest narrow c plan ≡ found none) ↔ Inside (bookAllows text) plan
   none-today = none-of-book narrow narrow-sound (omega arith) needs text lent room c peak e plan o
