@@ -1,5 +1,5 @@
 -- The entry: the lines behind line 1, and what the lengths say.
-use mathlib.Core.Path.{_≡_, sym, _∙_, subst}
+use mathlib.Core.Path.{_≡_, refl, sym, _∙_, subst}
 use mathlib.Core.Bool.{true}
 use mathlib.Core.List.{List}
 use Prim.Native.Nat.{ℕ, _≤_}
@@ -17,7 +17,7 @@ use Rattle.compiler.specs.Outcome.{stop, written, outcome, enough}
 use Rattle.lines.specs.Lines.{Lent, LinesSay, CompilesLines}
 use Rattle.progress.specs.declared.Ended.{Ended}
 use Rattle.progress.specs.declared.Ended.the-variants as ended
-use Rattle.driver.specs.Entry.{documented, lentLengths, Answers}
+use Rattle.driver.specs.Entry.{documented, lentLengths, Answers, Ready, PutsSay, Puts}
 use Rattle.frame.proofs.FrameLaws.{stops}
 use Rattle.frame.specs.Frame.{Writable, cardOrStop, PutsCard, Headed, FirstLine, OpensSay, Opens}
 use Rattle.compiler.specs.declared.Compiled.{Compiled}
@@ -32,7 +32,7 @@ module _ (text ls : List ℕ) (next : ℕ) (T : Headed text ls next) (registers 
   said q e = subst (LinesSay text ls next registers) e (C .says)
 
   -- the machine of a book that was compiled
-  pub writable : (p : ℕ) → r ≡ ended.Done p → Writable ls registers
+  writable : (p : ℕ) → r ≡ ended.Done p → Writable ls registers
   writable p q =
       let (d, e, _, H) = said (ended.Done p) q in
       let R : Right (length ls) (d .kept) (allows text) = accepted-right narrow text ls d (T .is ∙ e) in
@@ -44,16 +44,40 @@ module _ (text ls : List ℕ) (next : ℕ) (T : Headed text ls next) (registers 
         unmarked = λ w o t. R .letters w (sym (R .recognizes .exact w o) ∙ t);
       }
 
-  pub lines-put : (p : ℕ) (old new : List ℕ) (x : Compiled) → r ≡ ended.Done p → PutsCard ls registers p old new x → Answers (written narrow (length old) (compileBook narrow text)) old new x
+  pub ready : Ready ls registers r
+  ready = go r refl
+    where
+      go : (q : Ended) → r ≡ q → Ready ls registers q
+      go (ended.Done p) e = writable p e
+      go (ended.Refused n l) e = tt
+
+  lines-put : (p : ℕ) (old new : List ℕ) (x : Compiled) → r ≡ ended.Done p → PutsCard ls registers p old new x → Answers (written narrow (length old) (compileBook narrow text)) old new x
   lines-put p old new x q P =
       let (d, e, m, H) = said (ended.Done p) q in
       let z : compileBook narrow text ≡ done ls d = T .is ∙ e in
       rw z (subst (λ p. Answers (cardOrStop ls (d .kept) p (length old)) old new x) m (P .says (d .kept) H))
 
-  pub lines-stop : (n l : ℕ) (old : List ℕ) → r ≡ ended.Refused n l → Answers (written narrow (length old) (compileBook narrow text)) old old (Refused n l)
+  lines-stop : (n l : ℕ) (old : List ℕ) → r ≡ ended.Refused n l → Answers (written narrow (length old) (compileBook narrow text)) old old (Refused n l)
   lines-stop n l old q =
       let z : compileBook narrow text ≡ stopped n l = T .is ∙ said (ended.Refused n l) q in
       rw z (stops n l old)
+
+  -- what the lines say, with the card, is the book's outcome
+  pub lines-answer : (old new : List ℕ) (x : Compiled) → Puts ls registers r old new x → Answers (written narrow (length old) (compileBook narrow text)) old new x
+  lines-answer old new x P = go r refl (P .says)
+    where
+      go : (q : Ended) → r ≡ q → PutsSay ls registers q old new x → Answers (written narrow (length old) (compileBook narrow text)) old new x
+      go (ended.Done p) e S = lines-put p old new x e S
+      go (ended.Refused n l) e (f, g) =
+          subst (λ new. Answers (written narrow (length old) (compileBook narrow text)) old new x) (sym f)
+          (subst (Answers (written narrow (length old) (compileBook narrow text)) old old) (sym g) (lines-stop n l old e))
+
+-- what the lines say, in place of an equation
+pub ready-at : (ls slot : List ℕ) (e q : Ended) → e ≡ q → Ready ls slot e → Ready ls slot q
+ready-at ls slot e q f R = subst (Ready ls slot) f R
+
+pub puts-at : (ls slot : List ℕ) (e q : Ended) → e ≡ q → (old new : List ℕ) (x : Compiled) → PutsSay ls slot q old new x → Puts ls slot e old new x
+puts-at ls slot e q f old new x S = record { says = subst (λ e. PutsSay ls slot e old new x) (sym f) S }
 
 -- ---- 1 and 2
 

@@ -25,10 +25,10 @@ use Rattle.reader.specs.declared.line.LineAnswer.{LineAnswer}
 use Rattle.evaluate.specs.Evaluated.{Evaluates, lineMade}
 use Rattle.evaluate.specs.declared.run.Evaluated.{Evaluated}
 use Rattle.evaluate.specs.declared.run.Evaluated.the-variants as evaluated
-use Rattle.kept.specs.Stored.{InSlot, Registers, Keeps, Right}
+use Rattle.kept.specs.Stored.{InSlot, Registers, Keeps, Right, Shelves}
 use Rattle.kept.specs.declared.Place.{Place}
 use Rattle.kept.specs.declared.Place.the-variants as place
-use Rattle.line.specs.Line.{Program, Runs, Drafted, FormSays, CompilesForm, IsForm, Going, LineSays, CompilesLine}
+use Rattle.line.specs.Line.{Program, Runs, Drafted, FormSays, CompilesForm, IsForm, Finishes, Going, LineSays, CompilesLine}
 use Rattle.progress.specs.Progress.{Behind, tellOf}
 use Rattle.progress.specs.declared.Book.{Book}
 use Rattle.progress.specs.declared.Told.{Told}
@@ -83,7 +83,7 @@ module _ (ls : List ℕ) (d : Draft) (b : Book) (low high registers : List ℕ) 
   form-off malformed next n low′ high′ registers′ q = ap (λ r. onMade r (λ counts M. on d)) q
 
 module _ (ls : List ℕ) (b : Book) (next len : ℕ) (code low high registers registers′ stack : List ℕ) (r : Evaluated) (E : Evaluates layout ls low high code len registers registers′ stack r) where
-  pub form-goes : (pl : Place) (p : ℕ) → r ≡ evaluated.Made p → length ls ≤ 26 → (n : Next) (low′ high′ registers″ : List ℕ) → Keeps pl stack low high registers′ low′ high′ registers″
+  form-goes : (pl : Place) (p : ℕ) → r ≡ evaluated.Made p → length ls ≤ 26 → (n : Next) (low′ high′ registers″ : List ℕ) → Keeps pl stack low high registers′ low′ high′ registers″
       → (n .on ≡ true) × Behind pl b next p (n .book) → CompilesForm ls b next len code low high registers low′ high′ registers″ (IsForm pl) n
   form-goes pl p e few n low′ high′ registers″ K (t, U) = record {
     says = λ d F i D P.
@@ -92,14 +92,36 @@ module _ (ls : List ℕ) (b : Book) (next len : ℕ) (code low high registers re
         (stages-made ls len code low high registers registers′ stack r E (d .env) (d .kept) F (D .stored) P p e) K U);
   }
 
-  pub form-stops : (pl : Place) (k : ℕ) → r ≡ evaluated.Refused k → (n : Next) (low′ high′ : List ℕ) → (n .on ≡ false) × (n .number ≡ k)
-      → CompilesForm ls b next len code low high registers low′ high′ registers′ (IsForm pl) n
-  form-stops pl k e n low′ high′ (t, z) = record {
+  form-stops : (pl : Place) (k : ℕ) → r ≡ evaluated.Refused k → (n : Next) (low′ high′ registers″ : List ℕ) → (n .on ≡ false) × (n .number ≡ k)
+      → CompilesForm ls b next len code low high registers low′ high′ registers″ (IsForm pl) n
+  form-stops pl k e n low′ high′ registers″ (t, z) = record {
     says = λ d F i D P.
         let s : lineMade narrow ls (d .env) (d .kept) F ≡ refused k = stages-stopped ls len code low high registers registers′ stack r E (d .env) (d .kept) F (D .stored) P k e in
-        subst (λ v. FormSays ls d F b next low′ high′ registers′ v n) (sym t)
-        (form-off ls d b low high registers D F next n low′ high′ registers′ (s ∙ ap refused (sym z)));
+        subst (λ v. FormSays ls d F b next low′ high′ registers″ v n) (sym t)
+        (form-off ls d b low high registers D F next n low′ high′ registers″ (s ∙ ap refused (sym z)));
   }
+
+-- a form whose program was run
+pub form-run : (ls : List ℕ) (b : Book) (code low high registers registers′ stack : List ℕ) (r : Evaluated) (t : Told) → Evaluates layout ls low high code (t .len) registers registers′ stack r
+    → length ls ≤ 26 → (n : Next) (low′ high′ registers″ : List ℕ) → Finishes t b stack low high registers′ low′ high′ registers″ n r
+    → CompilesForm ls b (t .next) (t .len) code low high registers low′ high′ registers″ (IsForm (t .place)) n
+form-run ls b code low high registers registers′ stack r t E few n low′ high′ registers″ F = go r refl F
+  where
+    go : (q : Evaluated) → r ≡ q → Finishes t b stack low high registers′ low′ high′ registers″ n q
+        → CompilesForm ls b (t .next) (t .len) code low high registers low′ high′ registers″ (IsForm (t .place)) n
+    go (evaluated.Made p) e (K, U) = form-goes ls b (t .next) (t .len) code low high registers registers′ stack r E (t .place) p e few n low′ high′ registers″ K U
+    go (evaluated.Refused k) e U = form-stops ls b (t .next) (t .len) code low high registers registers′ stack r E (t .place) k e n low′ high′ registers″ U
+
+-- what a run's answer says, in place of an equation
+pub finishes-as : (t : Told) (b : Book) (stack low high registers low′ high′ registers′ : List ℕ) (n : Next) (r q : Evaluated) → r ≡ q
+    → Finishes t b stack low high registers low′ high′ registers′ n q → Finishes t b stack low high registers low′ high′ registers′ n r
+finishes-as t b stack low high registers low′ high′ registers′ n r q e F = subst (Finishes t b stack low high registers low′ high′ registers′ n) (sym e) F
+
+-- what keeping the machine asks of the buffers behind the run
+pub kept-asks : {text ls : List ℕ} {b : Book} {low high registers stack rows table work code : List ℕ} → Going text ls b low high registers stack rows table work code
+    → (registers′ stack′ : List ℕ) → length registers′ ≡ length registers → length stack′ ≡ length stack → (3362 ≤ length stack′) × Shelves low high registers′
+kept-asks G registers′ stack′ e f =
+    (omega (arith, G .room .stack, f), record { low = G .room .low; high = G .room .high; registers = omega (arith, G .room .registers, e) })
 
 -- ---- lines
 

@@ -17,10 +17,14 @@ use Rattle.compiler.specs.Book.{Draft, on, off, compileForm, compileLine}
 use Rattle.compiler.specs.Outcome.{most}
 use Rattle.reader.specs.Names.{Holds}
 use Rattle.scans.specs.Lines.{lineAt, Ends}
-use Rattle.kept.specs.Stored.{Stored}
+use Rattle.evaluate.specs.declared.run.Evaluated.{Evaluated}
+use Rattle.evaluate.specs.declared.run.Evaluated.the-variants as evaluated
+use Rattle.kept.specs.Stored.{Stored, Keeps}
 use Rattle.kept.specs.declared.Place.{Place}
 use Rattle.kept.specs.declared.Place.the-variants as place
+use Rattle.progress.specs.Progress.{Behind}
 use Rattle.progress.specs.declared.Book.{Book}
+use Rattle.progress.specs.declared.Told.{Told}
 use Rattle.progress.specs.declared.Next.{Next}
 
 -- ---- the lent buffers
@@ -76,6 +80,12 @@ pub record CompilesForm (ls : List ℕ) (b : Book) (next len : ℕ) (code low hi
 abbrev pub IsForm : Place → Form → Type 0
 IsForm (place.Name x) F = (e : Expr) × (F ≡ define x e)
 IsForm place.Book F = (p : Expr) × (cs : List (Expr × Expr)) × (F ≡ rule restricts p cs)
+
+-- The machine in front of the stack is kept at its place, and the book goes on behind the line; or it stops with the number of a refusal.
+abbrev pub Finishes : Told → Book → List ℕ → List ℕ → List ℕ → List ℕ → List ℕ → List ℕ → List ℕ → Next → Evaluated → Type 0
+Finishes t b stack low high registers low′ high′ registers′ r (evaluated.Made p) =
+    Keeps (t .place) stack low high registers low′ high′ registers′ × ((r .on ≡ true) × Behind (t .place) b (t .next) p (r .book))
+Finishes t b stack low high registers low′ high′ registers′ r (evaluated.Refused n) = (r .on ≡ false) × (r .number ≡ n)
 
 -- ---- lines
 

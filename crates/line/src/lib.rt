@@ -2,65 +2,43 @@
 // long enough.
 use evaluate::run;
 use evaluate::run::Evaluated;
-use kept::Place;
 use lexer::kinds::KindTable;
 use operands::Layout;
 use progress::Book;
 use progress::Next;
+use progress::Told;
 use reader::line;
-use reader::line::LineAnswer;
-ghost use Prim.Native.Nat.{_<_};
+ghost use Prim.Native.Nat.{_≤_, _<_};
 ghost use lib.ListN.{length};
 ghost use Rattle.lexer.specs.Kinds.{Kinds};
-ghost use Rattle.kept.specs.Stored.{Right};
-ghost use Rattle.line.specs.Line.{Runs, CompilesForm, IsForm, Going, CompilesLine};
+ghost use Rattle.kept.specs.Stored.{Right, Shelves};
+ghost use Rattle.line.specs.Line.{Finishes, Going, CompilesLine};
 
 // The most sets that a stage may make, and the most states that a kept machine may have.
 pub const SETS: usize = 512;
 
 pub const STATES: usize = 120;
 
-// A line by its program: its stages are made, and its machine is kept at its place.
-fn form(
-    place: Place,
-    len: usize,
-    next: usize,
-    letters: &[u8],
+// What a line's program made is kept at the line's place, from the front of the stack, and the book goes on; or it stops.
+fn finish(
+    made: Evaluated,
+    read: Told,
     book: Book,
-    code: &[u8],
+    stack: &[u8],
     low: &mut [u8],
     high: &mut [u8],
     registers: &mut [u8],
-    stack: &mut [u8],
-    rows: &mut [u8],
-    table: &mut [u16],
-    work: &mut [u16],
 ) -> Next
-    requires { ⌜ Runs (now letters) len (now code) (now low) (now high) (now registers) (now stack) (now rows) (now table) (now work) ⌝ }
-    requires { ⌜ Right place × (book .line < 65536) ⌝ }
-    ensures { λ r. ⌜ CompilesForm (now (letters .entry)) book next len (now (code .entry)) (now (low .entry)) (now (high .entry)) (now (registers .entry)) (now (low .exit)) (now (high .exit)) (now (registers .exit)) (IsForm place) r ⌝ }
+    requires { ⌜ Right (read .place) × (book .line < 65536) ⌝ }
+    requires { ⌜ 3362 ≤ length (now stack) ⌝ }
+    requires { ⌜ Shelves (now low) (now high) (now registers) ⌝ }
+    ensures { λ r. ⌜ Finishes read book (now (stack .entry)) (now (low .entry)) (now (high .entry)) (now (registers .entry)) (now (low .exit)) (now (high .exit)) (now (registers .exit)) r made ⌝ }
 {
-    let l = Layout {
-        sets: SETS,
-        states: STATES,
-        size: kept::SLOT,
-    };
-    match run::run(
-        code,
-        len,
-        l,
-        letters,
-        &low[..],
-        &high[..],
-        registers,
-        stack,
-        rows,
-        table,
-        work,
-    ) {
+    match made {
         Evaluated::Made(peak) => {
-            kept::keep(place, &stack[..], low, high, registers);
-            progress::goes(place, book, next, peak)
+            let place = read.place;
+            kept::keep(place, stack, low, high, registers);
+            progress::goes(place, book, read.next, peak)
         }
         Evaluated::Refused(n) => progress::stops(book, n),
     }
@@ -92,20 +70,23 @@ pub fn one_line(
     if !read.on {
         return progress::stops(book, read.number);
     }
-    let place = read.place;
-    form(
-        place,
-        read.len,
-        read.next,
-        letters,
-        book,
+    let l = Layout {
+        sets: SETS,
+        states: STATES,
+        size: kept::SLOT,
+    };
+    let made = run::run(
         &code[..],
-        low,
-        high,
+        read.len,
+        l,
+        letters,
+        &low[..],
+        &high[..],
         registers,
         stack,
         rows,
         table,
         work,
-    )
+    );
+    finish(made, read, book, &stack[..], low, high, registers)
 }

@@ -2,12 +2,13 @@
 use mathlib.Core.Path.{_≡_, refl, sym, ap, ap₂, _∙_, subst}
 use mathlib.Core.Bool.{Bool, true, false, cond, false≢true}
 use mathlib.Core.List.{List}
-use Prim.Native.Nat.{ℕ, suc, _+_, _≤_, _<_}
+use Prim.Native.Nat.{ℕ, suc, _+_, _-_, _≤_, _<_}
 use native.Mathlib.Omega.{arith}
 use lib.ListN.{length, drop, drop-of-length-le}
 use Rattle.automata.specs.Format.{narrow}
 use Rattle.automata.specs.Booleans.{choose}
 use Rattle.book.specs.Text.{linesOf}
+use borrow.Author.Tests.{ltb-true, ltb-false}
 use Rattle.compiler.specs.Book.{Draft, LineResult, on, off, afterLine, compileLine, compileLines, done, stopped, startDraft}
 use Rattle.scans.specs.Lines.{lineAt}
 use Rattle.kept.specs.Stored.{Begins}
@@ -18,6 +19,8 @@ use Rattle.progress.specs.declared.Next.{Next}
 use Rattle.progress.specs.declared.Ended.{Ended}
 use Rattle.compiler.specs.Rest.{linesFrom, Placed}
 use Rattle.lines.specs.Lines.{Lent, CompilesLines}
+use Rattle.lines.specs.Course.{Reaches, Follows}
+use Rattle.lines.specs.declared.Course.{Course}
 use Rattle.progress.specs.declared.Ended.the-variants.{Done, Refused}
 
 -- The lines before the book's place are compiled: what is left of the lines, with the draft that the buffers hold, gives what all the lines give.
@@ -64,7 +67,7 @@ module _ (text ls : List ℕ) (next : ℕ) (b : Book) (low high registers : List
     said v e = subst (λ v. LineSays text ls (R .draft) b (C .end) low′ high′ registers′ v r) e (C .says (R .draft) (R .drafted))
 
     -- the next line's place is further on
-    pub reached-next : r .on ≡ true → Reached text ls next (r .book) low′ high′ registers′ × (b .at < r .book .at)
+    reached-next : r .on ≡ true → Reached text ls next (r .book) low′ high′ registers′ × (b .at < r .book .at)
     reached-next q =
         let (d, f, D, at, ln, w) = said true q in
         let g : b .at ≤ C .end = C .ends .from in (
@@ -78,7 +81,7 @@ module _ (text ls : List ℕ) (next : ℕ) (b : Book) (low high registers : List
           omega (arith, at, g),
         )
 
-    pub lines-off : r .on ≡ false → CompilesLines text ls next registers′ (Refused (r .number) (b .line))
+    lines-off : r .on ≡ false → CompilesLines text ls next registers′ (Refused (r .number) (b .line))
     lines-off q = record { says = first (off (r .number)) (said false q) }
 
   module _ (h : length text ≤ b .at) where
@@ -96,12 +99,70 @@ module _ (text ls : List ℕ) (next : ℕ) (b : Book) (low high registers : List
         let z : R .draft .ruled ≡ false = sym (R .drafted .ruled) ∙ t in
         record { says = at-end ∙ ap (λ v. choose v (λ _. done ls (R .draft)) (λ _. stopped 10 0)) z }
 
-    pub lines-end : (r : Ended) → r ≡ endOf b → CompilesLines text ls next registers r
+    lines-end : (r : Ended) → r ≡ endOf b → CompilesLines text ls next registers r
     lines-end r e = subst (CompilesLines text ls next registers) (sym e) (go (b .ruled) refl)
       where
         go : (v : Bool) → b .ruled ≡ v → CompilesLines text ls next registers (cond v (Done (b .peak)) (Refused 10 0))
         go true t = lines-done t
         go false t = lines-none t
+
+-- ---- the course
+
+-- The lines before the book's place are compiled, and there is a next line; or all are compiled.
+abbrev pub CourseSays : List ℕ → List ℕ → ℕ → List ℕ → List ℕ → List ℕ → Bool → Course → Type 0
+CourseSays text ls next low high registers true r = Reached text ls next (r .book) low high registers × (r .book .at < length text)
+CourseSays text ls next low high registers false r = CompilesLines text ls next registers (r .end)
+
+-- what is left of a text of n bytes
+abbrev pub left : ℕ → Course → ℕ
+left n r = cond (r .on) (n - r .book .at) 0
+
+pub follows-off : (line : ℕ) (x : Next) (n : ℕ) (r : Course) → x .on ≡ false → (r .on ≡ false) × (r .end ≡ Refused (x .number) line) → Follows line x n (x .on) r
+follows-off line x n r e F = subst (λ v. Follows line x n v r) (sym e) F
+
+pub follows-on : (line : ℕ) (x : Next) (n : ℕ) (r : Course) → x .on ≡ true → Reaches (x .book) n r → Follows line x n (x .on) r
+follows-on line x n r e F = subst (λ v. Follows line x n v r) (sym e) F
+
+module _ (text ls : List ℕ) (next : ℕ) (low high registers : List ℕ) (r : Course) where
+  pub course-on : r .on ≡ true → CourseSays text ls next low high registers (r .on) r → Reached text ls next (r .book) low high registers × (r .book .at < length text)
+  course-on e S = subst (λ v. CourseSays text ls next low high registers v r) e S
+
+  pub course-over : r .on ≡ false → CourseSays text ls next low high registers (r .on) r → CompilesLines text ls next registers (r .end)
+  course-over e S = subst (λ v. CourseSays text ls next low high registers v r) e S
+
+  pub course-reached : (b : Book) → Reached text ls next b low high registers → Reaches b (length text) r → CourseSays text ls next low high registers (r .on) r
+  course-reached b R S = go (r .on) refl
+    where
+      go : (v : Bool) → r .on ≡ v → CourseSays text ls next low high registers v r
+      go true e = subst (λ b. Reached text ls next b low high registers × (b .at < length text)) (sym (S .book)) (R, ltb-true (b .at) (length text) (sym (S .on) ∙ e))
+      go false e = lines-end text ls next b low high registers R (ltb-false (b .at) (length text) (sym (S .on) ∙ e)) (r .end) (S .end)
+
+module _ (text ls : List ℕ) (next : ℕ) (low high registers : List ℕ) (q : Course) (S : Reached text ls next (q .book) low high registers × (q .book .at < length text))
+    (low′ high′ registers′ : List ℕ) (x : Next) (C : CompilesLine text ls (q .book) low high registers low′ high′ registers′ x) (r : Course) (F : Follows (q .book .line) x (length text) (x .on) r) where
+  follows : (v : Bool) → x .on ≡ v → Follows (q .book .line) x (length text) v r
+  follows v e = subst (λ v. Follows (q .book .line) x (length text) v r) e F
+
+  further : x .on ≡ true → Reached text ls next (x .book) low′ high′ registers′ × (q .book .at < x .book .at)
+  further e = reached-next text ls next (q .book) low high registers (S .0) low′ high′ registers′ x C (S .1) e
+
+  pub course-next : CourseSays text ls next low′ high′ registers′ (r .on) r
+  course-next = go (x .on) refl
+    where
+      go : (v : Bool) → x .on ≡ v → CourseSays text ls next low′ high′ registers′ (r .on) r
+      go true e = course-reached text ls next low′ high′ registers′ r (x .book) (further e .0) (follows true e)
+      go false e =
+          let (f, g) = follows false e in
+          subst (λ v. CourseSays text ls next low′ high′ registers′ v r) (sym f)
+          (subst (CompilesLines text ls next registers′) (sym g) (lines-off text ls next (q .book) low high registers (S .0) low′ high′ registers′ x C (S .1) e))
+
+  -- the next line's place is further on, or there is none
+  pub course-less : q .on ≡ true → left (length text) r < left (length text) q
+  course-less t = rw t (go (x .on) refl (r .on) refl)
+    where
+      go : (v : Bool) → x .on ≡ v → (w : Bool) → r .on ≡ w → cond (r .on) (length text - r .book .at) 0 < length text - q .book .at
+      go v e false f = rw f (omega (arith, S .1))
+      go true e true f = let z : r .book .at ≡ x .book .at = ap (λ b. b .at) (follows true e .book) in rw f (omega (arith, S .1, z, further e .1))
+      go false e true f = absurd (false≢true (sym (follows false e .0) ∙ f))
 
 -- the buffers behind the start
 pub lent-begun : {low high registers registers′ stack stack′ rows table work code : List ℕ} → Lent low high registers stack rows table work code → length registers′ ≡ length registers

@@ -1,2 +1,3 @@
 -- What the loop over the lines promises.
 pub mod Lines
+pub mod Course

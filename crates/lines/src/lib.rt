@@ -2,9 +2,47 @@
 use lexer::kinds::KindTable;
 use progress::Book;
 use progress::Ended;
+use progress::Next;
 ghost use Rattle.lexer.specs.Kinds.{Kinds};
 ghost use Rattle.compiler.specs.Rest.{Placed};
 ghost use Rattle.lines.specs.Lines.{Lent, CompilesLines};
+ghost use Rattle.lines.specs.Course.{Reaches, Follows};
+
+// Whether a book goes on, at its next line; and how its lines end, where it does not.
+struct Course {
+    on: bool,
+    book: Book,
+    end: Ended,
+}
+
+// A book behind a line goes on where a text of so many bytes has a next line.
+fn reach(book: Book, len: usize) -> Course
+    ensures { λ r. ⌜ Reaches book len r ⌝ }
+{
+    let at = book.at;
+    let end = book.end();
+    Course {
+        on: at < len,
+        book: book,
+        end: end,
+    }
+}
+
+// The course behind a line of a number.
+fn follow(line: usize, next: Next, len: usize) -> Course
+    ensures { λ r. ⌜ Follows line next len (next .on) r ⌝ }
+{
+    let book = next.book;
+    if !next.on {
+        let end = Ended::Refused(next.number, line);
+        return Course {
+            on: false,
+            book: book,
+            end: end,
+        };
+    }
+    reach(book, len)
+}
 
 // Compiles the lines from line 2 on, which starts at a place. The machine of the book is left in the first register.
 pub fn lines(
@@ -27,14 +65,10 @@ pub fn lines(
     ensures { λ r. ⌜ CompilesLines (now (text .entry)) (now (letters .entry)) next (now (registers .exit)) r ⌝ }
 {
     kept::begin(letters.len(), registers, stack);
-    let mut book = Book::start(next);
-    loop {
-        let at = book.at;
-        if text.len() <= at {
-            return book.end();
-        }
-        let number = book.line;
-        let next = line::one_line(
+    let mut course = reach(Book::start(next), text.len());
+    while course.on {
+        let book = course.book;
+        let answer = line::one_line(
             kinds,
             text,
             letters,
@@ -48,9 +82,7 @@ pub fn lines(
             work,
             code,
         );
-        if !next.on {
-            return Ended::Refused(next.number, number);
-        }
-        book = next.book;
+        course = follow(book.line, answer, text.len());
     }
+    course.end
 }

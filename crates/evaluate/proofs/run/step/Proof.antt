@@ -1,3 +1,4 @@
+use mathlib.Core.Path.{refl}
 use native.Mathlib.Omega.{arith}
 use Rattle.operations.specs.Apply.{lent-columns}
 use Rattle.evaluate.specs.Steps.{tall, push-bring, push-steps, top-low, top-stuck, top-apply, top-steps, beside-stuck, beside-ready, beside-steps, plus-stuck, plus-ready, plus-steps, unknown-steps, store-stuck, store-from, store-to, store-asks, store-steps}
@@ -70,46 +71,46 @@ step-spec =
     tie.close
     (tie.spec
     (λ c κs. search needs)
-    (λ c. search needs)
+    (λ c. c .match .keys1)
     bring-requires
     add-t26
-    (λ c. search needs)
+    (λ c. c .match .keys2)
     returns
     sub-apply
     apply-requires
-    (λ c. search needs)
+    (λ c. c .match .keys3)
     returns-2
     beside-requires
-    (λ c. search needs)
+    (λ c. c .match .keys4)
     returns-3
     plus-requires
-    (λ c. search needs)
+    (λ c. c .match .keys5)
     returns-4
     mul-copy
     mul-copy-2
     add-copy
     copy-requires
-    (λ c. search needs)
-    (λ c. search needs)
-    (λ c. search needs)
+    (λ c. c .match .keys6)
+    (λ c. refl)
+    (λ c. c .before .before .bring .kept .1 .1 .1 .1 .1 .1 .0)
     returns-5
-    (λ c. search needs)
-    (λ c. search needs)
-    (λ c. search needs)
-    (λ c. search needs)
+    (λ c. c .before .before .before .before .before .before .before .before .apply .kept .1 .1 .1 .1 .1 .0)
+    (λ c. c .before .before .before .before .before .before .before .before .apply .kept .1 .1 .1 .1 .1 .1 .0)
+    (λ c. c .before .before .before .before .before .before .before .before .apply .kept .1 .1 .1 .1 .1 .1 .1 .0)
+    (λ c. c .before .before .before .before .before .before .before .before .apply .kept .1 .1 .1 .1 .1 .1 .1 .1 .0)
     returns-6
-    (λ c. search needs)
-    (λ c. search needs)
-    (λ c. search needs)
-    (λ c. search needs)
-    (λ c. search needs)
+    (λ c. refl)
+    (λ c. c .before .before .before .before .before .before .before .before .beside .kept .1 .1 .1 .1 .1 .1 .1 .1 .0)
+    (λ c. c .before .before .before .before .before .before .before .before .beside .kept .1 .1 .1 .1 .1 .1 .1 .1 .1 .0)
+    (λ c. c .before .before .before .before .before .before .before .before .beside .kept .1 .1 .1 .1 .1 .1 .1 .1 .1 .1 .0)
+    (λ c. c .before .before .before .before .before .before .before .before .beside .kept .1 .1 .1 .1 .1 .1 .1 .1 .1 .1 .1 .0)
     returns-7
-    (λ c. search needs)
-    (λ c. search needs)
-    (λ c. search needs)
-    (λ c. search needs)
+    (λ c. c .before .before .before .before .before .before .before .before .plus .kept .1 .1 .1 .0)
+    (λ c. c .before .before .before .before .before .before .before .before .plus .kept .1 .1 .1 .1 .0)
+    (λ c. c .before .before .before .before .before .before .before .before .plus .kept .1 .1 .1 .1 .1 .0)
+    (λ c. c .before .before .before .before .before .before .before .before .plus .kept .1 .1 .1 .1 .1 .1 .0)
     returns-8
-    (λ c. search needs)
-    (λ c. search needs)
+    (λ c. c .before .before .copy .kept .1 .1 .0)
+    (λ c. refl)
     returns-9
     returns-10)

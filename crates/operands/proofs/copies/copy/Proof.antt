@@ -57,12 +57,12 @@ copy-spec =
     add-len
     add-len-2
     loop-holds
-    (λ c. search needs)
-    (λ c. search needs)
-    (λ c. search needs)
-    (λ c. search needs)
-    (λ c. search needs)
-    (λ c. search needs)
+    (λ c. omega (arith, c .before .loop .inv .2, c .loop-test .taken))
+    (λ c. omega (arith, c .before .before .loop .inv .2, c .before .loop-test .taken))
+    (λ c. omega (arith, c .before .before .loop .inv .3, c .before .loop-test .taken))
+    (λ c. omega (arith, c .before .before .loop .inv .3, c .before .loop-test .taken, c .before .before .loop .inv .4 .long))
+    (λ c. omega (arith, c .before .before .loop .inv .2, c .before .loop-test .taken))
+    (λ c. omega (arith, c .before .loop-test .taken))
     loop-again
-    (λ c. search needs)
+    (λ c. c .before .loop .inv .4 .long)
     returns)

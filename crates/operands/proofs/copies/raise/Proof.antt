@@ -68,8 +68,8 @@ raise-spec =
     (λ c. search needs)
     (λ c. search needs)
     (λ c. search needs)
-    (λ c. search needs)
-    (λ c. search needs)
+    (λ c. omega (arith, c .before .before .loop .inv .2, c .before .loop-test .taken))
+    (λ c. omega (arith, c .before .loop-test .taken))
     loop-again
-    (λ c. search needs)
+    (λ c. c .before .loop .inv .4 .long)
     returns)

@@ -53,16 +53,16 @@ pub bring-spec : {M : Type 1} → statement M
 bring-spec =
     tie.close
     (tie.spec
-    (λ c. search needs)
-    (λ c. search needs)
+    (λ c. omega (arith, c .before .before .before .before .before .pre .room))
+    (λ c. omega (arith, c .before .before .before .before .before .pre .room))
     add-k
-    (λ c. search needs)
-    (λ c κs. search needs)
-    (λ c. search needs)
-    (λ c. search needs)
-    (λ c. search needs)
+    (λ c. c .match .keys1)
+    (λ c κs. tt)
+    (λ c. omega arith)
+    (λ c. omega (arith, c .before .before .before .before .before .before .before .before .before .pre .room))
+    (λ c. omega (arith, c .before .before .before .before .before .before .before .before .before .pre .room))
     letter-requires
-    (λ c. search needs)
+    (λ c. c .match .keys2)
     sub-copy
     (λ c. search needs)
     mul-copy
@@ -71,21 +71,21 @@ bring-spec =
     (λ c. search needs)
     mul-copy-2
     copy-requires-2
-    (λ c. search needs)
-    (λ c. search needs)
-    (λ c. search needs)
-    (λ c. search needs)
+    (λ c. c .match .keys3)
+    (λ c. omega arith)
+    (λ c. omega (arith, c .before .before .before .before .before .before .before .before .pre .room))
+    (λ c. omega (arith, c .before .before .before .before .before .before .before .before .pre .room))
     given-requires
-    (λ c. search needs)
+    (λ c. c .match .keys4)
     mul-copy-3
     copy-requires-3
     (λ c. search needs)
     returns
-    (λ c. search needs)
+    (λ c. c .before .before .copy .kept .1 .1 .0)
     returns-2
-    (λ c. search needs)
+    (λ c. c .before .before .copy2 .kept .1 .1 .0)
     returns-3
     (λ c. search needs)
     returns-4
-    (λ c. search needs)
+    (λ c. c .before .before .copy3 .kept .1 .1 .0)
     returns-5)

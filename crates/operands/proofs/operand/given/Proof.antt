@@ -23,11 +23,11 @@ given-spec =
     (λ c κs. search needs)
     (λ c κs. search needs)
     (λ c κs. search needs)
-    (λ c. search needs)
+    (λ c. c .before .before .empty .kept .0)
     returns
-    (λ c. search needs)
+    (λ c. c .before .before .all .kept .0)
     returns-2
-    (λ c. search needs)
+    (λ c. c .before .before .dot .kept .0)
     returns-3
-    (λ c. search needs)
+    (λ c. c .before .before .letter .kept .0)
     returns-4)

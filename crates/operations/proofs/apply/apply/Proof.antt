@@ -1,7 +1,6 @@
 -- `operations::apply::apply` meets its contract.
 use native.Mathlib.Omega.{arith}
 use Rattle.operations.specs.Apply.{apply-ready, apply-done, slot-room}
-use borrow.Author.Needs.{needs}
 use Rattle.operations.proofs.apply.apply.Statement.{statement}
 use Rattle.operations.proofs.apply.apply.Tie as tie
 
@@ -36,7 +35,7 @@ apply-spec =
     mul-stage
     mul-stage-2
     stage-requires
-    (λ c κs. search needs)
+    (λ c κs. c .before .before .before .before .before .before .before .before .before .before .before .before .before .before .before .before .before .pre .low)
     same-length
     same-length-2
     same-length-3

@@ -1,7 +1,6 @@
 use mathlib.Core.Path.{refl, _∙_}
 use native.Mathlib.Omega.{arith}
 use Rattle.operations.specs.Apply.{lent-columns, double-room, raise-asks, raised, beside-bring, beside-apply, beside-makes}
-use borrow.Author.Needs.{needs}
 use Rattle.operations.proofs.apply.beside.Statement.{statement}
 use Rattle.operations.proofs.apply.beside.Tie as tie
 
@@ -43,7 +42,7 @@ beside-spec =
     add-raise
     raise-requires
     bring-requires
-    (λ c. search needs)
+    (λ c. omega (arith, c .before .before .before .before .before .before .before .before .before .before .before .before .before .before .before .before .pre .doubling .low))
     apply-requires
     same-length
     same-length-2

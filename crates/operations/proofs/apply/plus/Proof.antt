@@ -1,7 +1,7 @@
 -- `operations::apply::plus` meets its contract.
 use mathlib.Core.Path.{_∙_}
+use native.Mathlib.Omega.{arith}
 use Rattle.operations.specs.Apply.{plus-second, plus-done, plus-refused, plus-stuck}
-use borrow.Author.Needs.{needs}
 use Rattle.operations.proofs.apply.plus.Statement.{statement}
 use Rattle.operations.proofs.apply.plus.Tie as tie
 
@@ -57,13 +57,13 @@ pub plus-spec : {M : Type 1} → statement M
 plus-spec =
     tie.close
     (tie.spec
-    (λ c κs. search needs)
-    (λ c. search needs)
-    (λ c. search needs)
+    (λ c κs. c .before .before .before .before .before .before .before .before .pre)
+    (λ c. c .match .keys1)
+    (λ c. omega (arith, c .before .before .before .before .before .before .before .before .before .before .before .before .before .before .before .before .before .before .before .before .pre .low))
     apply-requires
-    (λ c κs. search needs)
-    (λ c. search needs)
-    (λ c. search needs)
+    (λ c κs. tt)
+    (λ c. c .match .keys2)
+    (λ c. c .match .keys3)
     same-length
     same-length-2
     same-length-3

@@ -2,7 +2,6 @@
 use mathlib.Core.Path.{_∙_}
 use native.Mathlib.Omega.{arith}
 use Rattle.operations.specs.Apply.{lent-columns, double-room, raise-asks, raised, star-asks, starred}
-use borrow.Author.Needs.{needs}
 use Rattle.operations.proofs.apply.star_above.Statement.{statement}
 use Rattle.operations.proofs.apply.star_above.Tie as tie
 
@@ -40,8 +39,8 @@ star-above-spec =
     mul-raise
     add-raise
     raise-requires
-    (λ c. search needs)
-    (λ c. search needs)
+    (λ c. omega (arith, c .before .before .before .before .before .before .before .before .pre .low))
+    (λ c. omega (arith, c .before .before .before .before .before .before .before .before .pre .low))
     apply-requires
     same-length
     same-length-2
