@@ -6,6 +6,8 @@ use Prim.Native.Nat.{ℕ, suc, _+_, _*_, _-_, _≤_, _<_}
 use native.Mathlib.Numerals.{add-one}
 use native.Mathlib.Omega.{arith}
 use lib.ListN.{length, getD}
+use mir.Syntax.{w8, w64}
+use mir.Val.{Fits}
 use Rattle.automata.specs.Format.{narrow}
 use Rattle.card.specs.Layout.{letterCount, stateCount, lettersOf, marksOf, movesOf}
 use Rattle.card.specs.LayoutLaws.{letters-length, marksOf-length, moves-length, moves-at}
@@ -20,6 +22,16 @@ use Rattle.forbidden.specs.declared.Best.{Best}
 use Rattle.forbidden.specs.Pass.{Searchable, Searched, Bettered}
 use Rattle.forbidden.proofs.PlacesLaws.{Places, something, nothing, places-start, places-step, last-low, last-inside, last-start}
 use Rattle.forbidden.proofs.BestLaws.{BestFrom, best-start, best-next, best-none, best-at}
+
+pub byte-wide : (x : ℕ) → Fits w8 x → Fits w64 x
+byte-wide x f = record { fits = omega (arith, f .fits) }
+
+pub one-less : (i : ℕ) → 0 < i → i - 1 < i
+one-less i h = omega arith
+
+-- a row and an entry more fit
+pub row-fits : (n l : ℕ) → n + n + 2 ≤ l → n < l
+row-fits n l h = omega arith
 
 pub record Under (c : List ℕ) (m n : ℕ) (table plan moves : List ℕ) (dead never room i from : ℕ) (places : List ℕ) (b : Best) : Type 0 where
   pub searchable : Searchable c m n table plan
@@ -83,12 +95,18 @@ module _ (c : List ℕ) (m n : ℕ) (table plan moves : List ℕ) (d never room 
       go (inl z) = omega arith
       go (inr z) = omega arith
 
+  pub under-rows : Fits w64 (n + 1)
+  under-rows = record { fits = omega (arith, loaded c m n table plan S .contents .states-most, S .ready .states) }
+
+  pub under-before : 0 < i → i - 1 < length plan
+  under-before p = omega (arith, U .low)
+
   module _ (p : 0 < i) (byte : getD plan (i - 1) 0 < 256) where
     abbrev k : ℕ
     k = getD table (getD plan (i - 1) 0) 0
 
     before : i - 1 < length plan
-    before = omega (arith, U .low)
+    before = under-before p
 
     is : k ≡ column (lettersOf narrow c) (getD plan (i - 1) 0)
     is = S .columns .entry (getD plan (i - 1) 0) byte
@@ -96,6 +114,9 @@ module _ (c : List ℕ) (m n : ℕ) (table plan moves : List ℕ) (d never room 
     -- the letter's column is one of the card's
     pub under-column : k < m
     under-column = rw (is, ← S .ready .letters, ← letters-length narrow c (loaded c m n table plan S .contents)) (known-at (lettersOf narrow c) plan (S .known) (i - 1) before)
+
+    pub under-wide : Fits w64 k
+    under-wide = record { fits = omega (arith, under-column, loaded c m n table plan S .contents .letters-most, S .ready .letters) }
 
     pub under-stepping : Stepping moves m n k d places from (n + 1 - from)
     under-stepping = record {

@@ -10,6 +10,8 @@ use native.Mathlib.Omega.{arith}
 use lib.ListN.{length, getD, take, drop, drop-of-length-le}
 use lib.Seq.{drop-cons, getD-take, getD-drop}
 use lib.Dec.{eqb}
+use mir.Syntax.{w8, w64}
+use mir.Val.{Fits}
 use borrow.Author.Tests.{eq-eqb, ne-eqb}
 use Rattle.automata.specs.Basics.{LtCases, lt-cases, nat-test, find-le}
 use Rattle.automata.specs.Rows.{cell-below}
@@ -26,7 +28,8 @@ use Rattle.card.specs.Mark.{Mark, is-accepting, is-dead, is-live}
 use Rattle.card.specs.Judge.{Place, none, found, byPlace, deadAt}
 use Rattle.card.specs.Run.{Run, going, halted, runOn}
 use Rattle.card.specs.RunLaws.{letter-known, letter-unknown, run-halted, dead-stays}
-use Rattle.run.specs.Walk.{Ready, ColumnTable, KnownTo}
+use Rattle.run.specs.declared.Walk.the-variants.{Dead as Stopped, Unknown}
+use Rattle.run.specs.Walk.{Ready, ColumnTable, KnownTo, Walked}
 
 -- ---- what the card's parts say
 
@@ -134,6 +137,53 @@ module _ (c plan : List ℕ) where
 
   pub walk-done : (p s k : ℕ) → WalkUpto p s k → k ≡ length plan → (j : ℕ) → runOn narrow c (going p j none) plan ≡ going s (j + length plan) none
   walk-done p s k u e j = let z : drop k plan ≡ [] = drop-of-length-le plan {i = k} (omega arith) in rw (← e) (u .is j ∙ (rw z))
+
+-- ---- a letter's column
+
+pub byte-wide : (x : ℕ) → Fits w8 x → Fits w64 x
+byte-wide x f = record { fits = omega (arith, f .fits) }
+
+module _ (c : List ℕ) (m n : ℕ) (r : Ready c m n) (t : List ℕ) (T : ColumnTable (lettersOf narrow c) t) (b : ℕ) (f : Fits w8 b) where
+  pub column-wide : Fits w64 (getD t b 0)
+  column-wide = record { fits = omega (arith, column-most c m n r t T b (f .fits), letters-few c m n r) }
+
+  pub column-unknown : m ≤ getD t b 0 → length (lettersOf narrow c) ≤ column (lettersOf narrow c) b
+  column-unknown h = rw (letters-many c m n r, ← T .entry b (f .fits)) h
+
+  pub column-known : getD t b 0 < m → column (lettersOf narrow c) b < length (lettersOf narrow c)
+  column-known h = rw (letters-many c m n r, ← T .entry b (f .fits)) h
+
+-- ---- a turn of the walk
+
+pub turn-most : (k l : ℕ) → k < l → k + 1 ≤ l
+turn-most k l h = omega arith
+
+module _ (c : List ℕ) (m n : ℕ) (r : Ready c m n) (t : List ℕ) (T : ColumnTable (lettersOf narrow c) t) (plan : List ℕ) (p s k : ℕ) (h : k < length plan) (a : s < n) (u : WalkUpto c plan p s k)
+    (f : Fits w8 (getD plan k 0)) where
+  pub turn-unknown : m ≤ getD t (getD plan k 0) 0 → Walked c n plan p (Unknown s k)
+  turn-unknown v = record { is = walk-unknown c plan p s k h u (column-unknown c m n r t T (getD plan k 0) f v); end = (a, omega arith) }
+
+  module _ (v : getD t (getD plan k 0) 0 < m) (moves : List ℕ) (me : moves ≡ movesOf narrow c) (marks : List ℕ) (ke : marks ≡ marksOf narrow c) (q : ℕ)
+      (e : q ≡ getD moves (s * m + getD t (getD plan k 0) 0) 0) where
+    there : q ≡ moveAt narrow c s (getD t (getD plan k 0) 0)
+    there = e ∙ move-is c m n r s (getD t (getD plan k 0) 0) a v moves me
+
+    to : q ≡ moveAt narrow c s (column (lettersOf narrow c) (getD plan k 0))
+    to = there ∙ ap (moveAt narrow c s) (T .entry (getD plan k 0) (f .fits))
+
+    pub turn-inside : q < n
+    turn-inside = rw there (move-inside c m n r s (getD t (getD plan k 0) 0) a v)
+
+    pub turn-room : q < length marks
+    turn-room = mark-room c m n r q marks ke turn-inside
+
+    pub turn-dead : getD marks q 0 ≡ 2 → Walked c n plan p (Stopped q (k + 1))
+    turn-dead d =
+        let y : markAt narrow c q ≡ 2 = sym (mark-is c m n r q marks ke turn-inside) ∙ d in
+        record { is = walk-dead c plan p s k h u q to (column-known c m n r t T (getD plan k 0) f v) y; end = (turn-inside, y, omega arith) }
+
+    pub turn-next : getD marks q 0 ≢ 2 → WalkUpto c plan p q (k + 1)
+    turn-next d = walk-next c plan p s k h u q to (column-known c m n r t T (getD plan k 0) f v) (λ y. d (mark-is c m n r q marks ke turn-inside ∙ y))
 
 -- ---- letters only
 

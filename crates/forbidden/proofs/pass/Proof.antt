@@ -1,9 +1,9 @@
 -- `pass` meets its contract.
 use borrow.Author.Needs.{needs}
+use mathlib.Core.Path.{_∙_}
 use Prim.Native.Nat.{_-_}
-use native.Mathlib.Omega.{arith}
 use lib.ListN.{length}
-use Rattle.forbidden.proofs.PassLaws.{searched-counted, dead-most, pass-nothing, Under, under-start, half-most, under-column, under-stepping, under-last, under-next, under-none, under-at}
+use Rattle.forbidden.proofs.PassLaws.{searched-counted, dead-most, pass-nothing, Under, under-start, half-most, byte-wide, one-less, row-fits, under-rows, under-before, under-wide, under-stepping, under-last, under-next, under-none, under-at}
 use Rattle.forbidden.proofs.pass.Statement.{statement}
 use Rattle.forbidden.proofs.pass.Tie as tie
 
@@ -23,31 +23,31 @@ returns : tie.Need-returns Inv-loop μ-loop
 returns c = pass-nothing _ _ _ _ _ (c .before .before .before .before .before .before .before .pre .0) _ _ (c .before .before .marks .ensures) (c .before .dead-state .ensures) (c .if1 .taken)
 
 fill-requires : tie.Need-fill-requires Inv-loop μ-loop
-fill-requires c κs = (omega arith, dead-most _ _ _ _ _ (c .before .before .before .before .before .before .before .before .pre .0) _ _ (c .before .before .before .marks .ensures) (c .before .before .dead-state .ensures))
+fill-requires c κs = (row-fits _ _ (c .before .before .before .before .before .before .before .before .pre .1), dead-most _ _ _ _ _ (c .before .before .before .before .before .before .before .before .pre .0) _ _ (c .before .before .before .marks .ensures) (c .before .before .dead-state .ensures))
 
 loop-holds : tie.Need-loop-holds Inv-loop μ-loop
 loop-holds c = under-start _ _ _ _ _ (c .before .before .before .before .before .before .before .before .before .before .before .pre .0) _ _ (c .before .before .before .before .before .before .marks .ensures) (c .before .before .before .before .before .dead-state .ensures) _ _ _ (c .before .before .before .before .if1 .left) (c .before .before .before .before .before .before .before .moves .ensures) (c .before .before .before .before .before .before .before .before .before .before .before .pre .1) (c .before .before .fill .ensures)
 
 cast-b : tie.Need-cast-b Inv-loop μ-loop
-cast-b c = omega (arith, c .shared-slice-known3 .given (c .before .before .loop .i - 1))
+cast-b c = byte-wide _ (c .shared-slice-known3 .given (c .before .before .loop .i - 1))
 
 element-copy-out-column : tie.Need-element-copy-out-column Inv-loop μ-loop
-element-copy-out-column c = omega (arith, c .shared-slice-known3 .given (c .before .before .loop .i - 1))
+element-copy-out-column c = c .shared-slice-known3 .given (c .before .before .loop .i - 1) .fits
 
 cast-column : tie.Need-cast-column Inv-loop μ-loop
-cast-column c = omega (arith, under-column _ _ _ _ _ _ _ _ _ _ _ _ _ (c .before .before .before .loop .inv) (c .before .before .loop-test .taken) (omega (arith, c .before .shared-slice-known3 .given (c .before .before .before .loop .i - 1))))
+cast-column c = under-wide _ _ _ _ _ _ _ _ _ _ _ _ _ (c .before .before .before .loop .inv) (c .before .before .loop-test .taken) (c .before .shared-slice-known3 .given (c .before .before .before .loop .i - 1) .fits)
 
 sub-to : tie.Need-sub-to Inv-loop μ-loop
 sub-to c = half-most _ _ _ _ _ _ _ _ _ _ _ _ _ (c .before .before .before .loop .inv)
 
 step-requires : tie.Need-step-requires Inv-loop μ-loop
-step-requires c κs = under-stepping _ _ _ _ _ _ _ _ _ _ _ _ _ (c .before .before .before .before .loop .inv) (c .before .before .before .loop-test .taken) (omega (arith, c .before .before .shared-slice-known3 .given (c .before .before .before .before .loop .i - 1)))
+step-requires c κs = under-stepping _ _ _ _ _ _ _ _ _ _ _ _ _ (c .before .before .before .before .loop .inv) (c .before .before .before .loop-test .taken) (c .before .before .shared-slice-known3 .given (c .before .before .before .before .loop .i - 1) .fits)
 
 better-requires : tie.Need-better-requires Inv-loop μ-loop
-better-requires c κs = under-last _ _ _ _ _ _ _ _ _ _ _ _ _ (c .before .before .before .before .before .before .before .loop .inv) (c .before .before .before .before .before .before .loop-test .taken) (omega (arith, c .before .before .before .before .before .shared-slice-known3 .given (c .before .before .before .before .before .before .before .loop .i - 1))) _ _ (c .before .before .step .ensures)
+better-requires c κs = under-last _ _ _ _ _ _ _ _ _ _ _ _ _ (c .before .before .before .before .before .before .before .loop .inv) (c .before .before .before .before .before .before .loop-test .taken) (c .before .before .before .before .before .shared-slice-known3 .given (c .before .before .before .before .before .before .before .loop .i - 1) .fits) _ _ (c .before .before .step .ensures)
 
 loop-again : tie.Need-loop-again Inv-loop μ-loop
-loop-again c = under-next _ _ _ _ _ _ _ _ _ _ _ _ _ (c .before .before .before .before .before .before .before .before .loop .inv) (c .before .before .before .before .before .before .before .loop-test .taken) (omega (arith, c .before .before .before .before .before .before .shared-slice-known3 .given (c .before .before .before .before .before .before .before .before .loop .i - 1))) _ _ (c .before .before .before .step .ensures) _ (c .better .ensures)
+loop-again c = under-next _ _ _ _ _ _ _ _ _ _ _ _ _ (c .before .before .before .before .before .before .before .before .loop .inv) (c .before .before .before .before .before .before .before .loop-test .taken) (c .before .before .before .before .before .before .shared-slice-known3 .given (c .before .before .before .before .before .before .before .before .loop .i - 1) .fits) _ _ (c .before .before .before .step .ensures) _ (c .better .ensures)
 
 returns-2 : tie.Need-returns-2 Inv-loop μ-loop
 returns-2 c = under-none _ _ _ _ _ _ _ _ _ _ _ _ _ (c .before .before .loop .inv) (c .before .loop-test .left) (c .if2 .taken)
@@ -63,23 +63,23 @@ pass-spec =
     μ-loop
     moves-requires
     marks-requires
-    (λ c κs. search needs)
+    (λ c κs. tt)
     returns
     (λ c. search needs)
     fill-requires
     loop-holds
-    (λ c. search needs)
-    (λ c. search needs)
+    (λ c. c .loop-test .taken)
+    (λ c. under-before _ _ _ _ _ _ _ _ _ _ _ _ _ (c .before .before .loop .inv) (c .before .loop-test .taken))
     cast-b
     element-copy-out-column
     cast-column
-    (λ c. search needs)
+    (λ c. under-rows _ _ _ _ _ _ _ _ _ _ _ _ _ (c .before .before .before .loop .inv))
     sub-to
     step-requires
     better-requires
-    (λ c. search needs)
+    (λ c. one-less _ (c .before .before .before .before .before .before .before .loop-test .taken))
     loop-again
-    (λ c. search needs)
+    (λ c. c .before .before .loop .inv .long ∙ c .before .before .before .before .before .fill .ensures .long)
     returns-2
-    (λ c. search needs)
+    (λ c. c .before .before .loop .inv .long ∙ c .before .before .before .before .before .fill .ensures .long)
     returns-3)

@@ -1,11 +1,11 @@
 -- `known` meets its contract: the letters passed are on the card.
 use Prim.Native.Nat.{_≤_, _-_}
 use native.Mathlib.Omega.{arith}
-use lib.ListN.{length, getD}
+use lib.ListN.{length}
 use borrow.Author.Needs.{needs}
 use Rattle.automata.specs.Format.{narrow}
 use Rattle.card.specs.Layout.{lettersOf}
-use Rattle.run.proofs.WalkLaws.{letters-many, letters-few, column-most, KnownUpto, known-start, known-next, known-stop, known-end}
+use Rattle.run.proofs.WalkLaws.{KnownUpto, known-start, known-next, known-stop, known-end, byte-wide, column-wide, column-unknown, column-known, turn-most}
 use Rattle.run.proofs.known.Statement.{statement}
 use Rattle.run.proofs.known.Tie as tie
 
@@ -19,19 +19,19 @@ loop-holds : tie.Need-loop-holds Inv-loop μ-loop
 loop-holds c = (c .pre .2, known-start _ _ _)
 
 cast-b : tie.Need-cast-b Inv-loop μ-loop
-cast-b c = omega (arith, c .shared-slice-known .given (c .before .before .loop .k))
+cast-b c = byte-wide _ (c .shared-slice-known .given (c .before .before .loop .k))
 
 element-copy-out-i : tie.Need-element-copy-out-i Inv-loop μ-loop
-element-copy-out-i c = omega (arith, c .shared-slice-known .given (c .before .before .loop .k))
+element-copy-out-i c = c .shared-slice-known .given (c .before .before .loop .k) .fits
 
 cast-i : tie.Need-cast-i Inv-loop μ-loop
-cast-i c = omega (arith, column-most _ _ _ (c .before .before .before .before .pre .0) _ (c .before .before .before .before .pre .1) (getD (c .before .before .before .before .args .plan .now) (c .before .before .before .loop .k) 0) (omega (arith, c .before .shared-slice-known .given (c .before .before .before .loop .k))), letters-few _ _ _ (c .before .before .before .before .pre .0))
+cast-i c = column-wide _ _ _ (c .before .before .before .before .pre .0) _ (c .before .before .before .before .pre .1) _ (c .before .shared-slice-known .given (c .before .before .before .loop .k))
 
 returns : tie.Need-returns Inv-loop μ-loop
-returns c = known-stop _ _ _ _ (c .before .before .before .before .loop .inv .1) (c .before .before .before .loop-test .taken) (omega (arith, c .before .before .before .before .before .pre .1 .entry (getD (c .before .before .before .before .before .args .plan .now) (c .before .before .before .before .loop .k) 0) (omega (arith, c .before .before .shared-slice-known .given (c .before .before .before .before .loop .k))), letters-many _ _ _ (c .before .before .before .before .before .pre .0), c .if1 .taken))
+returns c = known-stop _ _ _ _ (c .before .before .before .before .loop .inv .1) (c .before .before .before .loop-test .taken) (column-unknown _ _ _ (c .before .before .before .before .before .pre .0) _ (c .before .before .before .before .before .pre .1) _ (c .before .before .shared-slice-known .given (c .before .before .before .before .loop .k)) (c .if1 .taken))
 
 loop-again : tie.Need-loop-again Inv-loop μ-loop
-loop-again c = (omega arith, known-next _ _ _ _ (c .before .before .before .before .loop .inv .1) (omega (arith, c .before .before .before .before .before .pre .1 .entry (getD (c .before .before .before .before .before .args .plan .now) (c .before .before .before .before .loop .k) 0) (omega (arith, c .before .before .shared-slice-known .given (c .before .before .before .before .loop .k))), letters-many _ _ _ (c .before .before .before .before .before .pre .0), c .if1 .left)))
+loop-again c = (turn-most _ _ (c .before .before .before .loop-test .taken), known-next _ _ _ _ (c .before .before .before .before .loop .inv .1) (column-known _ _ _ (c .before .before .before .before .before .pre .0) _ (c .before .before .before .before .before .pre .1) _ (c .before .before .shared-slice-known .given (c .before .before .before .before .loop .k)) (c .if1 .left)))
 
 returns-2 : tie.Need-returns-2 Inv-loop μ-loop
 returns-2 c = known-end _ _ _ _ (c .before .loop .inv .1) (omega arith)

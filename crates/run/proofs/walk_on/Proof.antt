@@ -1,12 +1,9 @@
 -- `walk_on` meets its contract: after k letters the walk is in s, and no state on the way is dead.
-use mathlib.Core.Path.{_≡_, sym, ap, _∙_}
-use Prim.Native.Nat.{_+_, _*_, _≤_, _<_, _-_}
+use Prim.Native.Nat.{_≤_, _<_, _-_}
 use native.Mathlib.Omega.{arith}
-use lib.ListN.{length, getD}
+use lib.ListN.{length}
 use borrow.Author.Needs.{needs}
-use Rattle.automata.specs.Format.{narrow}
-use Rattle.card.specs.Layout.{moveAt}
-use Rattle.run.proofs.WalkLaws.{ready-counted, letters-many, letters-few, column-most, move-room, move-is, move-inside, mark-room, mark-is, WalkUpto, walk-start, walk-next, walk-dead, walk-unknown, walk-done}
+use Rattle.run.proofs.WalkLaws.{ready-counted, move-room, WalkUpto, walk-start, walk-done, byte-wide, column-wide, turn-most, turn-unknown, turn-inside, turn-room, turn-dead, turn-next}
 use Rattle.run.proofs.walk_on.Statement.{statement}
 use Rattle.run.proofs.walk_on.Tie as tie
 
@@ -26,36 +23,32 @@ loop-holds : tie.Need-loop-holds Inv-loop μ-loop
 loop-holds c = (search needs, c .before .before .before .before .pre .2, walk-start _ _ _)
 
 cast-b : tie.Need-cast-b Inv-loop μ-loop
-cast-b c = omega (arith, c .shared-slice-known3 .given (c .before .before .loop .k))
+cast-b c = byte-wide _ (c .shared-slice-known3 .given (c .before .before .loop .k))
 
 element-copy-out-i : tie.Need-element-copy-out-i Inv-loop μ-loop
-element-copy-out-i c = omega (arith, c .shared-slice-known3 .given (c .before .before .loop .k))
+element-copy-out-i c = c .shared-slice-known3 .given (c .before .before .loop .k) .fits
 
 cast-i : tie.Need-cast-i Inv-loop μ-loop
-cast-i c = omega (arith, column-most _ _ _ (c .before .before .before .before .before .before .before .before .pre .0) _ (c .before .before .before .before .before .before .before .before .pre .1) (getD (c .before .before .before .before .before .before .before .before .args .plan .now) (c .before .before .before .loop .k) 0) (omega (arith, c .before .shared-slice-known3 .given (c .before .before .before .loop .k))), letters-few _ _ _ (c .before .before .before .before .before .before .before .before .pre .0))
+cast-i c = column-wide _ _ _ (c .before .before .before .before .before .before .before .before .pre .0) _ (c .before .before .before .before .before .before .before .before .pre .1) _ (c .before .shared-slice-known3 .given (c .before .before .before .loop .k))
 
 returns : tie.Need-returns Inv-loop μ-loop
-returns c =
-    record {
-      is = walk-unknown _ _ _ _ _ (c .before .before .before .loop-test .taken) (c .before .before .before .before .loop .inv .2) (omega (arith, c .before .before .before .before .before .before .before .before .before .pre .1 .entry (getD (c .before .before .before .before .before .before .before .before .before .args .plan .now) (c .before .before .before .before .loop .k) 0) (omega (arith, c .before .before .shared-slice-known3 .given (c .before .before .before .before .loop .k))), letters-many _ _ _ (c .before .before .before .before .before .before .before .before .before .pre .0), c .if1 .taken));
-      end = (c .before .before .before .before .loop .inv .1, omega arith);
-    }
+returns c = turn-unknown _ _ _ (c .before .before .before .before .before .before .before .before .before .pre .0) _ (c .before .before .before .before .before .before .before .before .before .pre .1) _ _ _ _ (c .before .before .before .loop-test .taken) (c .before .before .before .before .loop .inv .1) (c .before .before .before .before .loop .inv .2) (c .before .before .shared-slice-known3 .given (c .before .before .before .before .loop .k)) (c .if1 .taken)
 
 next-requires : tie.Need-next-requires Inv-loop μ-loop
-next-requires c κs = move-room _ _ _ (c .before .before .before .before .before .before .before .before .before .pre .0) (c .before .before .before .before .loop .s) (getD (c .before .before .before .before .before .before .before .before .before .args .table .now) (getD (c .before .before .before .before .before .before .before .before .before .args .plan .now) (c .before .before .before .before .loop .k) 0) 0) (c .before .before .before .before .loop .inv .1) (c .if1 .left) _ (c .before .before .before .before .before .moves .ensures)
+next-requires c κs = move-room _ _ _ (c .before .before .before .before .before .before .before .before .before .pre .0) _ _ (c .before .before .before .before .loop .inv .1) (c .if1 .left) _ (c .before .before .before .before .before .moves .ensures)
 
 shared-slice-read-if2 : tie.Need-shared-slice-read-if2 Inv-loop μ-loop
-shared-slice-read-if2 c = mark-room _ _ _ (c .before .before .before .before .before .before .before .before .before .before .before .pre .0) _ _ (c .before .before .before .before .before .before .before .before .marks .ensures) (rw (c .before .next .ensures .0 ∙ move-is _ _ _ (c .before .before .before .before .before .before .before .before .before .before .before .pre .0) (c .before .before .before .before .before .before .loop .s) (getD (c .before .before .before .before .before .before .before .before .before .before .before .args .table .now) (getD (c .before .before .before .before .before .before .before .before .before .before .before .args .plan .now) (c .before .before .before .before .before .before .loop .k) 0) 0) (c .before .before .before .before .before .before .loop .inv .1) (c .before .before .if1 .left) _ (c .before .before .before .before .before .before .before .moves .ensures)) (move-inside _ _ _ (c .before .before .before .before .before .before .before .before .before .before .before .pre .0) (c .before .before .before .before .before .before .loop .s) (getD (c .before .before .before .before .before .before .before .before .before .before .before .args .table .now) (getD (c .before .before .before .before .before .before .before .before .before .before .before .args .plan .now) (c .before .before .before .before .before .before .loop .k) 0) 0) (c .before .before .before .before .before .before .loop .inv .1) (c .before .before .if1 .left)))
+shared-slice-read-if2 c = turn-room _ _ _ (c .before .before .before .before .before .before .before .before .before .before .before .pre .0) _ (c .before .before .before .before .before .before .before .before .before .before .before .pre .1) _ _ _ _ (c .before .before .before .before .before .loop-test .taken) (c .before .before .before .before .before .before .loop .inv .1) (c .before .before .before .before .before .before .loop .inv .2) (c .before .before .before .before .shared-slice-known3 .given (c .before .before .before .before .before .before .loop .k)) (c .before .before .if1 .left) _ (c .before .before .before .before .before .before .before .moves .ensures) _ (c .before .before .before .before .before .before .before .before .marks .ensures) _ (c .before .next .ensures .0)
 
 returns-2 : tie.Need-returns-2 Inv-loop μ-loop
-returns-2 c =
-    record {
-      is = walk-dead _ _ _ _ _ (c .before .before .before .before .before .before .loop-test .taken) (c .before .before .before .before .before .before .before .loop .inv .2) _ (c .before .before .next .ensures .0 ∙ move-is _ _ _ (c .before .before .before .before .before .before .before .before .before .before .before .before .pre .0) (c .before .before .before .before .before .before .before .loop .s) (getD (c .before .before .before .before .before .before .before .before .before .before .before .before .args .table .now) (getD (c .before .before .before .before .before .before .before .before .before .before .before .before .args .plan .now) (c .before .before .before .before .before .before .before .loop .k) 0) 0) (c .before .before .before .before .before .before .before .loop .inv .1) (c .before .before .before .if1 .left) _ (c .before .before .before .before .before .before .before .before .moves .ensures) ∙ ap (moveAt narrow (c .before .before .before .before .before .before .before .before .before .before .before .before .args .card .now) (c .before .before .before .before .before .before .before .loop .s)) (c .before .before .before .before .before .before .before .before .before .before .before .before .pre .1 .entry (getD (c .before .before .before .before .before .before .before .before .before .before .before .before .args .plan .now) (c .before .before .before .before .before .before .before .loop .k) 0) (omega (arith, c .before .before .before .before .before .shared-slice-known3 .given (c .before .before .before .before .before .before .before .loop .k))))) (omega (arith, c .before .before .before .before .before .before .before .before .before .before .before .before .pre .1 .entry (getD (c .before .before .before .before .before .before .before .before .before .before .before .before .args .plan .now) (c .before .before .before .before .before .before .before .loop .k) 0) (omega (arith, c .before .before .before .before .before .shared-slice-known3 .given (c .before .before .before .before .before .before .before .loop .k))), letters-many _ _ _ (c .before .before .before .before .before .before .before .before .before .before .before .before .pre .0), c .before .before .before .if1 .left)) (sym (mark-is _ _ _ (c .before .before .before .before .before .before .before .before .before .before .before .before .pre .0) _ _ (c .before .before .before .before .before .before .before .before .before .marks .ensures) (rw (c .before .before .next .ensures .0 ∙ move-is _ _ _ (c .before .before .before .before .before .before .before .before .before .before .before .before .pre .0) (c .before .before .before .before .before .before .before .loop .s) (getD (c .before .before .before .before .before .before .before .before .before .before .before .before .args .table .now) (getD (c .before .before .before .before .before .before .before .before .before .before .before .before .args .plan .now) (c .before .before .before .before .before .before .before .loop .k) 0) 0) (c .before .before .before .before .before .before .before .loop .inv .1) (c .before .before .before .if1 .left) _ (c .before .before .before .before .before .before .before .before .moves .ensures)) (move-inside _ _ _ (c .before .before .before .before .before .before .before .before .before .before .before .before .pre .0) (c .before .before .before .before .before .before .before .loop .s) (getD (c .before .before .before .before .before .before .before .before .before .before .before .before .args .table .now) (getD (c .before .before .before .before .before .before .before .before .before .before .before .before .args .plan .now) (c .before .before .before .before .before .before .before .loop .k) 0) 0) (c .before .before .before .before .before .before .before .loop .inv .1) (c .before .before .before .if1 .left)))) ∙ c .if2 .taken);
-      end = ((rw (c .before .before .next .ensures .0 ∙ move-is _ _ _ (c .before .before .before .before .before .before .before .before .before .before .before .before .pre .0) (c .before .before .before .before .before .before .before .loop .s) (getD (c .before .before .before .before .before .before .before .before .before .before .before .before .args .table .now) (getD (c .before .before .before .before .before .before .before .before .before .before .before .before .args .plan .now) (c .before .before .before .before .before .before .before .loop .k) 0) 0) (c .before .before .before .before .before .before .before .loop .inv .1) (c .before .before .before .if1 .left) _ (c .before .before .before .before .before .before .before .before .moves .ensures)) (move-inside _ _ _ (c .before .before .before .before .before .before .before .before .before .before .before .before .pre .0) (c .before .before .before .before .before .before .before .loop .s) (getD (c .before .before .before .before .before .before .before .before .before .before .before .before .args .table .now) (getD (c .before .before .before .before .before .before .before .before .before .before .before .before .args .plan .now) (c .before .before .before .before .before .before .before .loop .k) 0) 0) (c .before .before .before .before .before .before .before .loop .inv .1) (c .before .before .before .if1 .left))), sym (mark-is _ _ _ (c .before .before .before .before .before .before .before .before .before .before .before .before .pre .0) _ _ (c .before .before .before .before .before .before .before .before .before .marks .ensures) (rw (c .before .before .next .ensures .0 ∙ move-is _ _ _ (c .before .before .before .before .before .before .before .before .before .before .before .before .pre .0) (c .before .before .before .before .before .before .before .loop .s) (getD (c .before .before .before .before .before .before .before .before .before .before .before .before .args .table .now) (getD (c .before .before .before .before .before .before .before .before .before .before .before .before .args .plan .now) (c .before .before .before .before .before .before .before .loop .k) 0) 0) (c .before .before .before .before .before .before .before .loop .inv .1) (c .before .before .before .if1 .left) _ (c .before .before .before .before .before .before .before .before .moves .ensures)) (move-inside _ _ _ (c .before .before .before .before .before .before .before .before .before .before .before .before .pre .0) (c .before .before .before .before .before .before .before .loop .s) (getD (c .before .before .before .before .before .before .before .before .before .before .before .before .args .table .now) (getD (c .before .before .before .before .before .before .before .before .before .before .before .before .args .plan .now) (c .before .before .before .before .before .before .before .loop .k) 0) 0) (c .before .before .before .before .before .before .before .loop .inv .1) (c .before .before .before .if1 .left)))) ∙ c .if2 .taken, omega arith);
-    }
+returns-2 c = turn-dead _ _ _ (c .before .before .before .before .before .before .before .before .before .before .before .before .pre .0) _ (c .before .before .before .before .before .before .before .before .before .before .before .before .pre .1) _ _ _ _ (c .before .before .before .before .before .before .loop-test .taken) (c .before .before .before .before .before .before .before .loop .inv .1) (c .before .before .before .before .before .before .before .loop .inv .2) (c .before .before .before .before .before .shared-slice-known3 .given (c .before .before .before .before .before .before .before .loop .k)) (c .before .before .before .if1 .left) _ (c .before .before .before .before .before .before .before .before .moves .ensures) _ (c .before .before .before .before .before .before .before .before .before .marks .ensures) _ (c .before .before .next .ensures .0) (c .if2 .taken)
 
 loop-again : tie.Need-loop-again Inv-loop μ-loop
-loop-again c = (omega arith, (rw (c .before .before .next .ensures .0 ∙ move-is _ _ _ (c .before .before .before .before .before .before .before .before .before .before .before .before .pre .0) (c .before .before .before .before .before .before .before .loop .s) (getD (c .before .before .before .before .before .before .before .before .before .before .before .before .args .table .now) (getD (c .before .before .before .before .before .before .before .before .before .before .before .before .args .plan .now) (c .before .before .before .before .before .before .before .loop .k) 0) 0) (c .before .before .before .before .before .before .before .loop .inv .1) (c .before .before .before .if1 .left) _ (c .before .before .before .before .before .before .before .before .moves .ensures)) (move-inside _ _ _ (c .before .before .before .before .before .before .before .before .before .before .before .before .pre .0) (c .before .before .before .before .before .before .before .loop .s) (getD (c .before .before .before .before .before .before .before .before .before .before .before .before .args .table .now) (getD (c .before .before .before .before .before .before .before .before .before .before .before .before .args .plan .now) (c .before .before .before .before .before .before .before .loop .k) 0) 0) (c .before .before .before .before .before .before .before .loop .inv .1) (c .before .before .before .if1 .left))), walk-next _ _ _ _ _ (c .before .before .before .before .before .before .loop-test .taken) (c .before .before .before .before .before .before .before .loop .inv .2) _ (c .before .before .next .ensures .0 ∙ move-is _ _ _ (c .before .before .before .before .before .before .before .before .before .before .before .before .pre .0) (c .before .before .before .before .before .before .before .loop .s) (getD (c .before .before .before .before .before .before .before .before .before .before .before .before .args .table .now) (getD (c .before .before .before .before .before .before .before .before .before .before .before .before .args .plan .now) (c .before .before .before .before .before .before .before .loop .k) 0) 0) (c .before .before .before .before .before .before .before .loop .inv .1) (c .before .before .before .if1 .left) _ (c .before .before .before .before .before .before .before .before .moves .ensures) ∙ ap (moveAt narrow (c .before .before .before .before .before .before .before .before .before .before .before .before .args .card .now) (c .before .before .before .before .before .before .before .loop .s)) (c .before .before .before .before .before .before .before .before .before .before .before .before .pre .1 .entry (getD (c .before .before .before .before .before .before .before .before .before .before .before .before .args .plan .now) (c .before .before .before .before .before .before .before .loop .k) 0) (omega (arith, c .before .before .before .before .before .shared-slice-known3 .given (c .before .before .before .before .before .before .before .loop .k))))) (omega (arith, c .before .before .before .before .before .before .before .before .before .before .before .before .pre .1 .entry (getD (c .before .before .before .before .before .before .before .before .before .before .before .before .args .plan .now) (c .before .before .before .before .before .before .before .loop .k) 0) (omega (arith, c .before .before .before .before .before .shared-slice-known3 .given (c .before .before .before .before .before .before .before .loop .k))), letters-many _ _ _ (c .before .before .before .before .before .before .before .before .before .before .before .before .pre .0), c .before .before .before .if1 .left)) (λ e. c .if2 .left (mark-is _ _ _ (c .before .before .before .before .before .before .before .before .before .before .before .before .pre .0) _ _ (c .before .before .before .before .before .before .before .before .before .marks .ensures) (rw (c .before .before .next .ensures .0 ∙ move-is _ _ _ (c .before .before .before .before .before .before .before .before .before .before .before .before .pre .0) (c .before .before .before .before .before .before .before .loop .s) (getD (c .before .before .before .before .before .before .before .before .before .before .before .before .args .table .now) (getD (c .before .before .before .before .before .before .before .before .before .before .before .before .args .plan .now) (c .before .before .before .before .before .before .before .loop .k) 0) 0) (c .before .before .before .before .before .before .before .loop .inv .1) (c .before .before .before .if1 .left) _ (c .before .before .before .before .before .before .before .before .moves .ensures)) (move-inside _ _ _ (c .before .before .before .before .before .before .before .before .before .before .before .before .pre .0) (c .before .before .before .before .before .before .before .loop .s) (getD (c .before .before .before .before .before .before .before .before .before .before .before .before .args .table .now) (getD (c .before .before .before .before .before .before .before .before .before .before .before .before .args .plan .now) (c .before .before .before .before .before .before .before .loop .k) 0) 0) (c .before .before .before .before .before .before .before .loop .inv .1) (c .before .before .before .if1 .left))) ∙ e)))
+loop-again c = (
+  turn-most _ _ (c .before .before .before .before .before .before .loop-test .taken),
+  turn-inside _ _ _ (c .before .before .before .before .before .before .before .before .before .before .before .before .pre .0) _ (c .before .before .before .before .before .before .before .before .before .before .before .before .pre .1) _ _ _ _ (c .before .before .before .before .before .before .loop-test .taken) (c .before .before .before .before .before .before .before .loop .inv .1) (c .before .before .before .before .before .before .before .loop .inv .2) (c .before .before .before .before .before .shared-slice-known3 .given (c .before .before .before .before .before .before .before .loop .k)) (c .before .before .before .if1 .left) _ (c .before .before .before .before .before .before .before .before .moves .ensures) _ (c .before .before .before .before .before .before .before .before .before .marks .ensures) _ (c .before .before .next .ensures .0),
+  turn-next _ _ _ (c .before .before .before .before .before .before .before .before .before .before .before .before .pre .0) _ (c .before .before .before .before .before .before .before .before .before .before .before .before .pre .1) _ _ _ _ (c .before .before .before .before .before .before .loop-test .taken) (c .before .before .before .before .before .before .before .loop .inv .1) (c .before .before .before .before .before .before .before .loop .inv .2) (c .before .before .before .before .before .shared-slice-known3 .given (c .before .before .before .before .before .before .before .loop .k)) (c .before .before .before .if1 .left) _ (c .before .before .before .before .before .before .before .before .moves .ensures) _ (c .before .before .before .before .before .before .before .before .before .marks .ensures) _ (c .before .before .next .ensures .0) (c .if2 .left),
+)
 
 returns-3 : tie.Need-returns-3 Inv-loop μ-loop
 returns-3 c = record { is = walk-done _ _ _ _ _ (c .before .loop .inv .2) (omega arith); end = c .before .loop .inv .1 }
