@@ -8,7 +8,7 @@ use reader::names::Names;
 use scans::ends::line_end;
 use scans::head::Head;
 use scans::head::read_head;
-ghost use Prim.Native.Nat.{_+_, _*_, _≤_};
+ghost use Prim.Native.Nat.{_≤_};
 ghost use lib.ListN.{length};
 ghost use Rattle.lexer.specs.Kinds.{Kinds};
 
@@ -18,17 +18,18 @@ struct Outcome {
 }
 
 // The lines behind line 1, whose letters these are.
-fn later(kinds: &KindTable, text: &[u8], start: usize, letters: &[u8], out: &mut [u8]) -> Outcome
+fn later(kinds: &KindTable, text: &[u8], start: usize, letters: &[u8]) -> Outcome
     requires { ⌜ Kinds (now kinds) ⌝ }
-    requires { ⌜ 2 * length (now text) + 64 ≤ length (now out) ⌝ }
+    requires { ⌜ length (now text) ≤ 4096 ⌝ }
     requires { ⌜ 2 ≤ start ⌝ }
 {
+    let mut out = io::large_buffer();
     let mut names = Names::none();
     let mut ruled = false;
     let mut line = 2;
     let mut at = start;
     while at < text.len() {
-        match read_line(kinds, text, at, letters, names, out) {
+        match read_line(kinds, text, at, letters, names, &mut out) {
             LineAnswer::Define(name, _, next) => {
                 names = names.with(name);
                 at = next;
@@ -53,9 +54,9 @@ fn later(kinds: &KindTable, text: &[u8], start: usize, letters: &[u8], out: &mut
     }
 }
 
-fn first_refusal(kinds: &KindTable, text: &[u8], out: &mut [u8]) -> Outcome
+fn first_refusal(kinds: &KindTable, text: &[u8]) -> Outcome
     requires { ⌜ Kinds (now kinds) ⌝ }
-    requires { ⌜ 2 * length (now text) + 64 ≤ length (now out) ⌝ }
+    requires { ⌜ length (now text) ≤ 4096 ⌝ }
 {
     let end = line_end(kinds, text, 0);
     let ended = end < text.len();
@@ -68,21 +69,16 @@ fn first_refusal(kinds: &KindTable, text: &[u8], out: &mut [u8]) -> Outcome
             if text.len() <= end {
                 return Outcome { number: 5, line: 1 };
             }
-            later(kinds, text, end + 1, &text[1..end], out)
+            later(kinds, text, end + 1, &text[1..end])
         }
     }
 }
 
-fn report(kinds: &KindTable, text: &[u8], out: &mut [u8])
+fn report(kinds: &KindTable, text: &[u8])
     requires { ⌜ Kinds (now kinds) ⌝ }
+    requires { ⌜ length (now text) ≤ 4096 ⌝ }
 {
-    if out.len() < 64 {
-        return;
-    }
-    if (out.len() - 64) / 2 < text.len() {
-        return;
-    }
-    let o = first_refusal(kinds, text, out);
+    let o = first_refusal(kinds, text);
     io::print_decimal(STDOUT_FILENO, o.number as u64);
     io::write_all(STDOUT_FILENO, b" ");
     io::print_decimal(STDOUT_FILENO, o.line as u64);
@@ -90,14 +86,15 @@ fn report(kinds: &KindTable, text: &[u8], out: &mut [u8])
 }
 
 // Each text of the input.
-fn report_all(kinds: &KindTable, input: &[u8], out: &mut [u8])
+fn report_all(kinds: &KindTable, input: &[u8])
     requires { ⌜ Kinds (now kinds) ⌝ }
+    requires { ⌜ length (now input) ≤ 4096 ⌝ }
 {
     let mut from = 0;
     let mut i = 0;
     while i < input.len() {
         if input[i] == 0x1E {
-            report(kinds, &input[from..i], out);
+            report(kinds, &input[from..i]);
             from = i + 1;
         }
         i += 1;
@@ -107,7 +104,6 @@ fn report_all(kinds: &KindTable, input: &[u8], out: &mut [u8])
 fn main() {
     let mut input = io::buffer();
     let n = io::read_full(0, &mut input);
-    let mut out = [0u8; 16384];
     let kinds = lexer::kinds::table();
-    report_all(&kinds, &input[..n], &mut out);
+    report_all(&kinds, &input[..n]);
 }

@@ -1,32 +1,36 @@
--- `evaluate_run::make` meets its contract: the run leaves machines in the registers.
+-- `evaluate_run::make` is safe: the buffers have their lengths, and the slots of the names and the registers hold machines.
+use mathlib.Core.Path.{sym, _∙_}
+use native.Mathlib.Omega.{arith}
 use borrow.Author.Needs.{needs}
-use borrow.Author.Tests.{not-false}
 use Rattle.evaluate_run.specs.ReadyLaws.{running, one-machine}
 use Rattle.evaluate_run.proofs.make.Statement.{statement}
 use Rattle.evaluate_run.proofs.make.Tie as tie
 
-nameless-requires : tie.Need-nameless-requires
-nameless-requires c κs = search needs
-
-returns : tie.Need-returns
-returns c = search needs
-
 run-requires : tie.Need-run-requires
-run-requires c κs = (running (c .before .before .before .before .before .before .before .before .before .before .before .before .before .before .before .pre .1 .0) (c .before .before .before .before .before .before .before .before .before .before .before .before .before .before .before .pre .1 .1) _ (c .before .before .before .before .before .before .nameless .ensures) (not-false _ (c .before .before .before .before .before .if1 .left)), one-machine (c .before .before .before .before .before .before .before .before .before .before .before .before .before .before .before .pre .1 .0) (c .before .before .before .before .before .before .before .before .before .before .before .before .before .before .before .pre .1 .1))
-
-returns-2 : tie.Need-returns-2
-returns-2 c = search needs
+run-requires c κs =
+    let b = c .before .before .before .before .before .before .before in
+    let n = b .before .before .before .before .before in
+    let pre = n .before .before .before .pre in
+    (running (pre .0) _ _ _ _ _ _ _ (pre .1) (n .names .ensures) (b .before .before .before .before .registers .ensures) (sym (n .names .ok .1 .0 .1)) (sym (b .before .before .before .before .registers .ok .1 .0 .1)) (sym (b .before .before .before .stack .ok .1 .0 .1)) (sym (b .before .before .rows .ok .1 .0 .1)) (sym (b .before .table .ok .1 .0 .1)) (sym (b .work .ok .1 .0 .1)), one-machine (pre .0))
 
 pub make-spec : {M : Type 1} → statement M
 make-spec =
     tie.close
     (tie.spec
-    nameless-requires
-    returns
+    (λ c κs. tt)
+    (λ c κs. tt)
+    (λ c κs. tt)
+    (λ c κs. tt)
+    (λ c κs. tt)
+    (λ c κs. tt)
+    (λ c. sym (c .before .before .before .before .before .before .names .ok .1 .0 .1))
+    (λ c. sym (c .before .before .before .before .before .before .before .names .ok .1 .0 .1))
+    (λ c. sym (c .before .before .before .before .before .before .before .registers .ok .1 .0 .1))
+    (λ c. sym (c .before .before .before .before .before .before .before .stack .ok .1 .0 .1))
+    (λ c. sym (c .before .before .before .before .before .before .before .rows .ok .1 .0 .1))
+    (λ c. sym (c .before .before .before .before .before .before .before .table .ok .1 .0 .1))
+    (λ c. sym (c .before .before .before .before .before .before .before .work .ok .1 .0 .1))
     run-requires
-    (λ c. search needs)
-    (λ c. search needs)
-    (λ c. search needs)
-    (λ c. search needs)
-    (λ c. search needs)
-    returns-2)
+    (λ c. sym (c .before .before .before .before .before .before .run .kept .1 .1 .1 .1 .1 .1 .1 .0 ∙ c .before .before .before .before .before .before .before .before .before .before .before .before .before .before .before .before .before .stack .ok .1 .0 .1))
+    (λ c κs. omega (arith, c .before .before .before .before .before .before .run .kept .1 .1 .1 .1 .1 .1 .1 .0 ∙ c .before .before .before .before .before .before .before .before .before .before .before .before .before .before .before .before .before .stack .ok .1 .0 .1))
+    (λ c. tt))

@@ -1,2 +1,0 @@
--- A stack of machines in slots, as the program keeps it.
-pub mod Stack
