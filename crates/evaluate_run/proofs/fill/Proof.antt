@@ -4,7 +4,7 @@ use Prim.Native.Nat.{_≤_, _-_, _*_, _+_}
 use native.Mathlib.Omega.{arith}
 use borrow.Author.Needs.{needs}
 use lib.ListN.{length}
-use Rattle.slots.specs.Keep.{part-at}
+use Rattle.slots.specs.Aside.{part-at}
 use Rattle.operands.specs.Stack.{Slots}
 use Rattle.evaluate_run.specs.ReadyLaws.{slots-none, slots-next}
 use Rattle.evaluate_run.proofs.fill.Statement.{statement}
