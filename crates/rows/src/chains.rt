@@ -22,24 +22,24 @@ pub fn hash(sum: usize) -> usize
 // Bytes that are compared at once.
 const BLOCK: usize = 16;
 
-// Whether two rows have the same bytes in the block from the place `at` on. It looks at all of them and answers by a byte, so that they are compared at once.
+// Whether two rows have the same bytes in the block from the place `at` on. It looks at all of them, so that they are compared at once.
 fn same_block(a: &[u8], b: &[u8], at: usize) -> bool
     requires { ⌜ length (now a) ≡ length (now b) ⌝ }
     requires { ⌜ at + 16 ≤ length (now a) ⌝ }
     ensures { λ r. ⌜ (r ≡ true → (i : ℕ) → i < 16 → getD (now (a .entry)) (at + i) 0 ≡ getD (now (b .entry)) (at + i) 0) × (now (a .entry) ≡ now (b .entry) → r ≡ true) ⌝ }
 {
-    let mut other = 0u8;
+    let mut same = true;
     let mut i = 0;
     while i < BLOCK {
         if a[at + i] != b[at + i] {
-            other = 1;
+            same = false;
         }
         i += 1;
     }
-    other == 0
+    same
 }
 
-// Whether two long rows are equal: block by block from the end, the first and the second overlapping where blocks do not fit.
+// Whether two long rows are equal: block by block from the end. The first block overlaps the second where the length is no multiple of a block's.
 fn same_long(a: &[u8], b: &[u8]) -> bool
     requires { ⌜ length (now a) ≡ length (now b) ⌝ }
     requires { ⌜ 16 ≤ length (now a) ⌝ }
