@@ -2,7 +2,7 @@
 // for each hash the last such row, and `links` for each row the one before it, each plus 1, or 0 where there is none.
 ghost use mathlib.Core.Bool.{true};
 ghost use mathlib.Core.Path.{_≡_};
-ghost use Prim.Native.Nat.{_+_, _*_, _/_, _%_, _<_, _≤_};
+ghost use Prim.Native.Nat.{ℕ, _+_, _*_, _/_, _%_, _<_, _≤_};
 ghost use lib.ListN.{length, getD, set};
 ghost use Rattle.rows.specs.Chains.{Chained, Looked, Appended};
 ghost use Rattle.rows.specs.Sums.{rowHash};
@@ -19,20 +19,46 @@ pub fn hash(sum: usize) -> usize
     sum / 64 % 512
 }
 
-// Whether two long rows are equal. It looks at all bytes and answers by a byte, so that many are compared at once.
-fn same_long(a: &[u8], b: &[u8]) -> bool
+// Bytes that are compared at once.
+const BLOCK: usize = 16;
+
+// Whether two rows have the same bytes in the block from the place `at` on. It looks at all of them, so that they are compared at once.
+fn same_block(a: &[u8], b: &[u8], at: usize) -> bool
     requires { ⌜ length (now a) ≡ length (now b) ⌝ }
-    ensures { λ r. ⌜ (r ≡ true → now (a .entry) ≡ now (b .entry)) × (now (a .entry) ≡ now (b .entry) → r ≡ true) ⌝ }
+    requires { ⌜ at + 16 ≤ length (now a) ⌝ }
+    ensures { λ r. ⌜ (r ≡ true → (i : ℕ) → i < 16 → getD (now (a .entry)) (at + i) 0 ≡ getD (now (b .entry)) (at + i) 0) × (now (a .entry) ≡ now (b .entry) → r ≡ true) ⌝ }
 {
-    let mut other = 0u8;
+    let mut same = true;
     let mut i = 0;
-    while i < a.len() {
-        if a[i] != b[i] {
-            other = 1;
+    while i < BLOCK {
+        if a[at + i] != b[at + i] {
+            same = false;
         }
         i += 1;
     }
-    other == 0
+    same
+}
+
+// Whether two long rows are equal: block by block from the end. The first block overlaps the second where the length is no multiple of a block's.
+fn same_long(a: &[u8], b: &[u8]) -> bool
+    requires { ⌜ length (now a) ≡ length (now b) ⌝ }
+    requires { ⌜ 16 ≤ length (now a) ⌝ }
+    ensures { λ r. ⌜ (r ≡ true → now (a .entry) ≡ now (b .entry)) × (now (a .entry) ≡ now (b .entry) → r ≡ true) ⌝ }
+{
+    let mut at = a.len() - BLOCK;
+    loop {
+        if !same_block(a, b, at) {
+            return false;
+        }
+        if at == 0 {
+            return true;
+        }
+        if at < BLOCK {
+            at = 0;
+        } else {
+            at -= BLOCK;
+        }
+    }
 }
 
 // Whether two rows are equal.
@@ -40,7 +66,7 @@ fn same(a: &[u8], b: &[u8]) -> bool
     requires { ⌜ length (now a) ≡ length (now b) ⌝ }
     ensures { λ r. ⌜ (r ≡ true → now (a .entry) ≡ now (b .entry)) × (now (a .entry) ≡ now (b .entry) → r ≡ true) ⌝ }
 {
-    if a.len() < 16 {
+    if a.len() < BLOCK {
         return check::same(a, b);
     }
     same_long(a, b)
