@@ -120,6 +120,10 @@ fn make(code: &[u8], len: usize, letters: &[u8])
     say(r, &stack);
 }
 
+fn code() -> [u8; 32832] {
+    [7; 32832]
+}
+
 // The line that starts at `at`, with no names above it: where the next line starts. A line that is refused as it is read is the last.
 fn line(kinds: &KindTable, text: &[u8], at: usize, letters: &[u8]) -> usize
     requires { ⌜ Kinds (now kinds) ⌝ }
@@ -127,7 +131,7 @@ fn line(kinds: &KindTable, text: &[u8], at: usize, letters: &[u8]) -> usize
     requires { ⌜ 2 ≡ length (now letters) ⌝ }
     ensures { λ r. ⌜ at < r ⌝ }
 {
-    let mut code = [7u8; 32832];
+    let mut code = code();
     match read_line(kinds, text, at, letters, Names::none(), &mut code) {
         LineAnswer::Define(_name, len, next) => {
             make(&code, len, letters);
