@@ -127,7 +127,7 @@ fn code() -> [u8; 32832] {
 // The line that starts at `at`, with no names above it: where the next line starts. A line that is refused as it is read is the last.
 fn line(kinds: &KindTable, text: &[u8], at: usize, letters: &[u8]) -> usize
     requires { ⌜ Kinds (now kinds) ⌝ }
-    requires { ⌜ (at < length (now text)) × (length (now text) ≤ 16384) ⌝ }
+    requires { ⌜ (at < length (now text)) × (length (now text) ≤ 4096) ⌝ }
     requires { ⌜ 2 ≡ length (now letters) ⌝ }
     ensures { λ r. ⌜ at < r ⌝ }
 {
@@ -149,7 +149,7 @@ fn line(kinds: &KindTable, text: &[u8], at: usize, letters: &[u8]) -> usize
 }
 
 fn lines(text: &[u8], letters: &[u8])
-    requires { ⌜ length (now text) ≤ 16384 ⌝ }
+    requires { ⌜ length (now text) ≤ 4096 ⌝ }
     requires { ⌜ 2 ≡ length (now letters) ⌝ }
 {
     let kinds = lexer::kinds::table();
@@ -160,7 +160,7 @@ fn lines(text: &[u8], letters: &[u8])
 }
 
 fn main() {
-    let mut text = [0u8; 16384];
+    let mut text = io::buffer();
     let size = io::read_full(STDIN_FILENO, &mut text);
     lines(&text[..size], b"ab");
 }
