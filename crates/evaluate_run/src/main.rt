@@ -120,14 +120,18 @@ fn make(code: &[u8], len: usize, letters: &[u8])
     say(r, &stack);
 }
 
+fn code() -> [u8; 32832] {
+    [7; 32832]
+}
+
 // The line that starts at `at`, with no names above it: where the next line starts. A line that is refused as it is read is the last.
 fn line(kinds: &KindTable, text: &[u8], at: usize, letters: &[u8]) -> usize
     requires { ⌜ Kinds (now kinds) ⌝ }
-    requires { ⌜ (at < length (now text)) × (length (now text) ≤ 16384) ⌝ }
+    requires { ⌜ (at < length (now text)) × (length (now text) ≤ 4096) ⌝ }
     requires { ⌜ 2 ≡ length (now letters) ⌝ }
     ensures { λ r. ⌜ at < r ⌝ }
 {
-    let mut code = [7u8; 32832];
+    let mut code = code();
     match read_line(kinds, text, at, letters, Names::none(), &mut code) {
         LineAnswer::Define(_name, len, next) => {
             make(&code, len, letters);
@@ -145,7 +149,7 @@ fn line(kinds: &KindTable, text: &[u8], at: usize, letters: &[u8]) -> usize
 }
 
 fn lines(text: &[u8], letters: &[u8])
-    requires { ⌜ length (now text) ≤ 16384 ⌝ }
+    requires { ⌜ length (now text) ≤ 4096 ⌝ }
     requires { ⌜ 2 ≡ length (now letters) ⌝ }
 {
     let kinds = lexer::kinds::table();
@@ -156,7 +160,7 @@ fn lines(text: &[u8], letters: &[u8])
 }
 
 fn main() {
-    let mut text = [0u8; 16384];
+    let mut text = io::buffer();
     let size = io::read_full(STDIN_FILENO, &mut text);
     lines(&text[..size], b"ab");
 }

@@ -121,15 +121,28 @@ fn card(mark: u8) -> [u8; 23] {
     ]
 }
 
+// The card is the paper's.
+fn on_card(card: &[u8]) {
+    let plan = b"ab";
+    let longer = b"abb";
+    say_counts(card);
+    say_several(card, plan, longer);
+    say_several(card, b"b", b"abcb");
+    say_answer(forged(card, plan));
+    say_answer(forged(card, longer));
+}
+
+// No card: each plan is refused with the card's number.
+fn on_wrong(card: &[u8]) {
+    let plan = b"ab";
+    say_counts(card);
+    say_several(card, plan, b"c");
+    say_answer(forged(card, plan));
+}
+
 fn main() {
     let good = card(1);
-    say_counts(&good[..]);
-    say_several(&good[..], b"ab", b"abb");
-    say_several(&good[..], b"b", b"abcb");
-    say_answer(forged(&good[..], b"ab"));
-    say_answer(forged(&good[..], b"abb"));
+    on_card(&good);
     let wrong = card(2);
-    say_counts(&wrong[..]);
-    say_several(&wrong[..], b"ab", b"c");
-    say_answer(forged(&wrong[..], b"ab"));
+    on_wrong(&wrong);
 }

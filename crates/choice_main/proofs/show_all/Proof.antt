@@ -1,6 +1,5 @@
 -- `choice_main::show_all` is safe and ends: each line starts behind the one before.
 use Prim.Native.Nat.{_-_}
-use native.Mathlib.Omega.{arith}
 use borrow.Author.Needs.{needs}
 use lib.ListN.{length}
 use Rattle.choice_main.proofs.show_all.Statement.{statement}

@@ -1,7 +1,6 @@
 -- `evaluate_run::make` is safe: the buffers have their lengths, and the slots of the names and the registers hold machines.
 use mathlib.Core.Path.{sym, _∙_}
 use native.Mathlib.Omega.{arith}
-use borrow.Author.Needs.{needs}
 use Rattle.evaluate_run.specs.ReadyLaws.{running, one-machine}
 use Rattle.evaluate_run.proofs.make.Statement.{statement}
 use Rattle.evaluate_run.proofs.make.Tie as tie
