@@ -1,36 +1,35 @@
 -- `compile` meets its contract.
 use mathlib.Core.Path.{sym}
 use mathlib.Core.List.{_∷_, []}
-use Prim.Native.Nat.{ℕ}
 use native.Mathlib.Omega.{arith}
-use lib.ListN.{length-replicate}
+use borrow.Author.Needs.{needs}
 use Rattle.compiling.proofs.PrintLaws.{prints-with}
 use Rattle.compiling.proofs.compile.Statement.{statement}
 use Rattle.compiling.proofs.compile.Tie as tie
 
 slice-aggregate-compile : tie.Need-slice-aggregate-compile
-slice-aggregate-compile c = sym (length-replicate {A = ℕ} 43706 0)
+slice-aggregate-compile c = search needs
 
 slice-aggregate-compile-2 : tie.Need-slice-aggregate-compile-2
-slice-aggregate-compile-2 c = sym (length-replicate {A = ℕ} 43706 0)
+slice-aggregate-compile-2 c = search needs
 
 slice-aggregate-compile-3 : tie.Need-slice-aggregate-compile-3
-slice-aggregate-compile-3 c = sym (length-replicate {A = ℕ} 10086 0)
+slice-aggregate-compile-3 c = search needs
 
 slice-aggregate-compile-4 : tie.Need-slice-aggregate-compile-4
-slice-aggregate-compile-4 c = sym (length-replicate {A = ℕ} 63878 0)
+slice-aggregate-compile-4 c = search needs
 
 slice-aggregate-compile-5 : tie.Need-slice-aggregate-compile-5
-slice-aggregate-compile-5 c = sym (length-replicate {A = ℕ} 62464 0)
+slice-aggregate-compile-5 c = search needs
 
 slice-aggregate-compile-6 : tie.Need-slice-aggregate-compile-6
-slice-aggregate-compile-6 c = sym (length-replicate {A = ℕ} 14336 0)
+slice-aggregate-compile-6 c = search needs
 
 slice-aggregate-compile-7 : tie.Need-slice-aggregate-compile-7
-slice-aggregate-compile-7 c = sym (length-replicate {A = ℕ} 6720 0)
+slice-aggregate-compile-7 c = search needs
 
 slice-aggregate-compile-8 : tie.Need-slice-aggregate-compile-8
-slice-aggregate-compile-8 c = sym (length-replicate {A = ℕ} 32832 0)
+slice-aggregate-compile-8 c = search needs
 
 show-requires : tie.Need-show-requires
 show-requires c κs = omega (arith, c .before .before .before .before .before .before .before .before .before .compile .kept .1 .0)
@@ -52,6 +51,6 @@ compile-spec =
     slice-aggregate-compile-6
     slice-aggregate-compile-7
     slice-aggregate-compile-8
-    (λ c κs. tt)
+    (λ c κs. search needs)
     show-requires
     returns)
