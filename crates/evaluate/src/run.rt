@@ -28,7 +28,6 @@ fn step(
     requires { ⌜ Stepping l (now letters) (now first) (now second) (now registers) c sp (now stack) (now rows) (now table) (now work) ⌝ }
     ensures { λ r. ⌜ Steps l (now (letters .entry)) (now (first .entry)) (now (second .entry)) c sp (now (registers .entry)) (now (stack .entry)) (now (registers .exit)) (now (stack .exit)) r ⌝ }
 {
-    let size = l.size;
     match codes::sort_of(c) {
         Sort::Push(source) => {
             operand::bring(source, l, letters, first, second, &registers[..], stack, sp);
@@ -79,6 +78,7 @@ fn step(
             if sp < 1 {
                 return Stepped::Stuck;
             }
+            let size = l.size;
             copies::copy(
                 &stack[..],
                 (sp - 1) * size,

@@ -1,7 +1,6 @@
 -- `driver::compile` meets its contract: line 1, then the others, then the card.
 use Rattle.driver.proofs.EntryLaws.{opened-lines, opened-compiled, opened-stops, ready, lines-answer, lent}
 use native.Mathlib.Omega.{arith}
-use borrow.Author.Needs.{needs}
 use Rattle.driver.proofs.compile.Statement.{statement}
 use Rattle.driver.proofs.compile.Tie as tie
 
@@ -63,16 +62,16 @@ pub compile-spec : {M : Type 1} → statement M
 compile-spec =
     tie.close
     (tie.spec
-    (λ c κs. search needs)
+    (λ c κs. tt)
     opening-requires
-    (λ c. search needs)
+    (λ c. c .match .keys1)
     sub-letters
     part-letters-start
     part-letters-end
     add-lines
     lines-requires
     put-requires
-    (λ c. search needs)
+    (λ c. c .match .keys2)
     same-length
     same-length-2
     same-length-3

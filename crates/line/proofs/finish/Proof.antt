@@ -1,6 +1,5 @@
 -- `line::finish` meets its contract: the machine is kept, or the book stops.
 use Rattle.line.proofs.LineLaws.{finishes-as}
-use borrow.Author.Needs.{needs}
 use Rattle.line.proofs.finish.Statement.{statement}
 use Rattle.line.proofs.finish.Tie as tie
 
@@ -29,11 +28,11 @@ pub finish-spec : {M : Type 1} → statement M
 finish-spec =
     tie.close
     (tie.spec
-    (λ c. search needs)
+    (λ c. c .match .keys1)
     keep-requires
     goes-requires
-    (λ c. search needs)
-    (λ c κs. search needs)
+    (λ c. c .match .keys2)
+    (λ c κs. tt)
     same-length
     same-length-2
     same-length-3

@@ -3,7 +3,6 @@ use Rattle.line.proofs.RunLaws.{running, one-machine}
 use Rattle.line.proofs.LineLaws.{told-off, told-runs, told-line, form-run, kept-asks}
 use mathlib.Core.Path.{_∙_}
 use borrow.Author.Tests.{not-true, not-false}
-use borrow.Author.Needs.{needs}
 use Rattle.line.proofs.one_line.Statement.{statement}
 use Rattle.line.proofs.one_line.Tie as tie
 
@@ -54,8 +53,8 @@ one-line-spec =
     tie.close
     (tie.spec
     read-line-requires
-    (λ c κs. search needs)
-    (λ c κs. search needs)
+    (λ c κs. tt)
+    (λ c κs. tt)
     same-length
     returns
     run-requires

@@ -1,7 +1,6 @@
 -- `lines::lines` meets its contract. The loop's invariant: the lines that are left, with the draft that the buffers hold, give what all the lines give. The
 -- measure is what is left of the text.
 use Rattle.lines.proofs.LinesLaws.{Lengths, CourseSays, left, course-on, course-over, course-reached, course-next, course-less, reached-start, lent-begun, going}
-use borrow.Author.Needs.{needs}
 use lib.ListN.{length}
 use mathlib.Core.Path.{refl, _∙_}
 use Rattle.lines.proofs.lines.Statement.{statement}
@@ -64,11 +63,11 @@ lines-spec =
     Inv-loop
     μ-loop
     begin-requires
-    (λ c κs. search needs)
-    (λ c κs. search needs)
+    (λ c κs. tt)
+    (λ c κs. tt)
     loop-holds
     one-line-requires
-    (λ c κs. search needs)
+    (λ c κs. tt)
     loop-less
     loop-again
     same-length

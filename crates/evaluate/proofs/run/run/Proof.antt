@@ -1,5 +1,4 @@
 -- `evaluate::run::run` meets its contract. The loop's invariant: the rest of the codes, on the machines that the slots hold, gives what all the codes give.
-use borrow.Author.Needs.{needs}
 use native.Mathlib.Omega.{arith}
 use Prim.Native.Nat.{_-_}
 use mathlib.Core.Path.{refl, _∙_}
@@ -98,18 +97,18 @@ run-spec =
     shared-slice-read-c
     add-i
     step-requires
-    (λ c. search needs)
-    (λ c κs. search needs)
+    (λ c. c .match .keys1)
+    (λ c κs. tt)
     loop-less
     loop-again
-    (λ c. search needs)
+    (λ c. c .match .keys2)
     same-length
     same-length-2
     same-length-3
     same-length-4
     same-length-5
     returns
-    (λ c. search needs)
+    (λ c. c .match .keys3)
     same-length-6
     same-length-7
     same-length-8

@@ -2,7 +2,6 @@ use mathlib.Core.Path.{refl}
 use native.Mathlib.Omega.{arith}
 use Rattle.operations.specs.Apply.{lent-columns}
 use Rattle.evaluate.specs.Steps.{tall, push-bring, push-steps, top-low, top-stuck, top-apply, top-steps, beside-stuck, beside-ready, beside-steps, plus-stuck, plus-ready, plus-steps, unknown-steps, store-stuck, store-from, store-to, store-asks, store-steps}
-use borrow.Author.Needs.{needs}
 use Rattle.evaluate.proofs.run.step.Statement.{statement}
 use Rattle.evaluate.proofs.run.step.Tie as tie
 
@@ -70,7 +69,7 @@ pub step-spec : {M : Type 1} → statement M
 step-spec =
     tie.close
     (tie.spec
-    (λ c κs. search needs)
+    (λ c κs. tt)
     (λ c. c .match .keys1)
     bring-requires
     add-t26

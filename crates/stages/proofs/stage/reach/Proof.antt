@@ -55,6 +55,6 @@ reach-spec =
     slice-aggregate-explore
     (λ c. search needs)
     explore-requires
-    (λ c. search needs)
-    (λ c. search needs)
+    (λ c. c .before .before .before .before .before .before .explore .kept .1 .1 .1 .0)
+    (λ c. c .before .before .before .before .before .before .explore .kept .1 .1 .1 .1 .1 .1 .0)
     returns)

@@ -1,7 +1,7 @@
 -- `stages::stage::stage` meets its contract.
+use mathlib.Core.Path.{refl, _∙_}
 use native.Mathlib.Omega.{arith}
 use Rattle.answers.specs.StageLaws.{ready-columns, ready-load, ready-reach, ready-keep, done-many, done-large, done-made}
-use borrow.Author.Needs.{needs}
 use Rattle.stages.proofs.stage.stage.Statement.{statement}
 use Rattle.stages.proofs.stage.stage.Tie as tie
 
@@ -33,23 +33,23 @@ stage-spec =
     add-k
     load-requires
     reach-requires
-    (λ c. search needs)
-    (λ c. search needs)
-    (λ c. search needs)
-    (λ c. search needs)
-    (λ c. search needs)
-    (λ c. search needs)
+    (λ c. c .match .keys1)
+    (λ c. c .match .keys2)
+    (λ c. refl)
+    (λ c. c .before .before .before .before .before .before .before .before .before .before .before .before .load .kept .1 .1 .1 .1 .1 .0)
+    (λ c. c .before .before .before .before .before .before .reach .kept .1 .1 .1 .1 .1 .0)
+    (λ c. c .before .before .before .before .before .before .reach .kept .1 .1 .1 .1 .1 .1 .0)
     returns
     keep-requires
-    (λ c. search needs)
-    (λ c. search needs)
-    (λ c. search needs)
-    (λ c. search needs)
-    (λ c. search needs)
-    (λ c. search needs)
+    (λ c. c .match2 .keys1)
+    (λ c. c .match2 .keys2)
+    (λ c. c .before .before .before .before .before .before .keep .kept .1 .1 .1 .1 .1 .1 .0)
+    (λ c. c .before .before .before .before .before .before .keep .kept .1 .1 .1 .1 .1 .0 ∙ c .before .before .before .before .before .before .before .before .before .before .before .before .before .before .before .before .before .before .before .before .before .before .before .load .kept .1 .1 .1 .1 .1 .0)
+    (λ c. c .before .before .before .before .before .before .before .before .before .before .before .before .before .before .before .before .before .reach .kept .1 .1 .1 .1 .1 .0)
+    (λ c. c .before .before .before .before .before .before .before .before .before .before .before .before .before .before .before .before .before .reach .kept .1 .1 .1 .1 .1 .1 .0)
     returns-2
-    (λ c. search needs)
-    (λ c. search needs)
-    (λ c. search needs)
-    (λ c. search needs)
+    (λ c. c .before .before .before .before .before .before .before .keep .kept .1 .1 .1 .1 .1 .1 .0)
+    (λ c. c .before .before .before .before .before .before .before .keep .kept .1 .1 .1 .1 .1 .0 ∙ c .before .before .before .before .before .before .before .before .before .before .before .before .before .before .before .before .before .before .before .before .before .before .before .before .load .kept .1 .1 .1 .1 .1 .0)
+    (λ c. c .before .before .before .before .before .before .before .before .before .before .before .before .before .before .before .before .before .before .reach .kept .1 .1 .1 .1 .1 .0)
+    (λ c. c .before .before .before .before .before .before .before .before .before .before .before .before .before .before .before .before .before .before .reach .kept .1 .1 .1 .1 .1 .1 .0)
     returns-3)
