@@ -2,3 +2,4 @@
 mod ReadLaws
 mod KindLaws
 mod ItemLaws
+mod TurnLaws

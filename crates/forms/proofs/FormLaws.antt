@@ -14,7 +14,7 @@ use Rattle.automata.specs.Booleans.{choose}
 use Rattle.automata.specs.Basics.{nat-test, SameCases, same-cases}
 use Rattle.language.specs.Restriction.{restricts}
 use Rattle.language.specs.Expression.{Expr}
-use Rattle.book.specs.Kind.{kindOf, isName, nameKind, spaceKind, equalsKind, greaterKind, slashKind, underscoreKind}
+use Rattle.book.specs.Kind.{kindOf, isName, nameKind, spaceKind, equalsKind, greaterKind, slashKind, underscoreKind, lineEndKind}
 use Rattle.book.specs.Reader.{got, bad, readChoice}
 use Rattle.book.specs.Grammar.{reader-sound}
 use Rattle.book.specs.Text.{tokens, countOf, Form, rule, malformed, formOf, defineOf, defineAs, ruleOf, contextsOf, onRead, tailAt, unless}
@@ -349,3 +349,7 @@ module _ {s o : List ℕ} {c : Spot} {o′ : List ℕ} {r : Made} (d : ReadsCont
 
   pub contexts-not : r ≡ Refused → formOf s ≡ malformed
   contexts-not e = rw e at (d .says)
+
+-- a `/` is a token
+pub slash-token : (k : ℕ) → k ≡ slashKind → k ≡ lineEndKind → ⊥
+slash-token k h e = omega arith

@@ -3,13 +3,15 @@ use mathlib.Core.Path.{_≡_, refl, sym, ap, _∙_}
 use mathlib.Core.Bool.{Bool, true, false}
 use mathlib.Core.Logic.{_⊎_, inl, inr}
 use mathlib.Core.List.{List, [], _∷_}
-use Prim.Native.Nat.{ℕ, zero, suc, _+_, _*_, _≤_, _<_}
+use Prim.Native.Nat.{ℕ, zero, suc, _+_, _*_, _-_, _≤_, _<_}
 use native.Mathlib.Nat.{le-refl, le-trans, mul-le-mul-right}
 use native.Mathlib.Numerals.{add-one}
 use native.Mathlib.Omega.{arith}
 use lib.ListN.{length, getD, take, drop, set, length-drop, length-set}
 use lib.Seq.{ext-getD, getD-set-same, getD-set-other, take-set-le, drop-set-lt, drop-set-add, take-suc-set}
 use borrow.Author.Tests.{lt-ltb, le-ltb}
+use mir.Syntax.{w64}
+use mir.Val.{Fits}
 use Rattle.automata.specs.Automaton.{Automaton}
 use Rattle.automata.specs.Basics.{LtCases, lt-cases, nat-test, find, find-at, getD-tab}
 use Rattle.automata.specs.Listing.{Extends, addTo, addTo-extends, turn-cases, turn, listing, listed, listing-extends, listing-stays, find-in}
@@ -100,6 +102,9 @@ module _ (k : ℕ) (M : Machine) (F : WellFormed k M) where
 
 -- ---- the rows
 
+pub zero-small : 0 < 65536
+zero-small = omega arith
+
 -- The first i rows are written, and the order is the listing after i turns.
 pub record Arranged (base n k most i m : ℕ) (t w s : List ℕ) : Type 0 where
   pub kept : take n w ≡ classes k (tableMachine base n k t)
@@ -120,6 +125,21 @@ module _ {base n k most : ℕ} {t w s : List ℕ} (C : Classified base n k most 
   formed = table-formed base n k t (C .fits .closed)
 
   -- the class of state 0 has number 0
+  pub order-double : Fits w64 (n + n)
+  order-double = record { fits = omega (arith, C .fits .few) }
+
+  pub order-first : n + n < length w
+  order-first = omega (arith, C .fits .order, C .fits .some)
+
+  pub order-own : (l : ℕ) → l ≡ length w → n < l
+  order-own l e = omega (arith, C .fits .order, C .fits .some)
+
+  pub order-next : {i m : ℕ} {w′ s′ : List ℕ} → Arranged base n k most i m t w′ s′ → i < m → Fits w64 (i + 1)
+  order-next A h = record { fits = omega (arith, A .roll .within, C .fits .bytes) }
+
+  pub order-less : {i m : ℕ} {w′ s′ : List ℕ} → Arranged base n k most i m t w′ s′ → i < m → most - (i + 1) < most - i
+  order-less A h = omega (arith, A .roll .within)
+
   pub order-starts : (w₁ w₂ : List ℕ) → w₁ ≡ set w (n + n) 0 → w₂ ≡ set w₁ n 0 → Arranged base n k most 0 1 t w₂ s
   unfolding listing
   order-starts w₁ w₂ e₁ e₂ = rw (e₂, e₁) record {

@@ -2,12 +2,14 @@
 use mathlib.Core.Path.{_≡_, refl, sym, ap, _∙_}
 use mathlib.Core.Logic.{inl, inr, _≢_}
 use mathlib.Core.List.{List}
-use Prim.Native.Nat.{ℕ, zero, suc, max, _+_, _*_, _≤_, _<_}
+use Prim.Native.Nat.{ℕ, zero, suc, max, _+_, _*_, _-_, _≤_, _<_}
 use native.Mathlib.Nat.{le-refl, le-trans, not-suc-le-zero}
 use native.Mathlib.Numerals.{add-one}
 use native.Mathlib.Omega.{arith}
 use lib.ListN.{length, getD, take, set}
 use lib.Seq.{getD-take, getD-set-same, getD-set-other}
+use mir.Syntax.{w8, w64}
+use mir.Val.{Fits}
 use Rattle.automata.specs.Automaton.{Automaton}
 use Rattle.automata.specs.Basics.{LtCases, lt-cases, nat-test}
 use Rattle.automata.specs.Listing.{Extends, add, addTo, add-extends}
@@ -15,6 +17,37 @@ use Rattle.automata.specs.Rows.{cell-below}
 use Rattle.entries.specs.Entries.{Target}
 use Rattle.minimise.specs.Number.{ordered, Roll, Arrived, Goes, classesOf, Rolling, Upto}
 use Rattle.minimise.proofs.ArriveLaws.{ordered-length, ordered-at, number-found, arrive-old}
+
+-- ---- numbers of a turn
+
+pub left-wide : (a b : ℕ) → Fits w64 (a + b) → Fits w64 a
+left-wide a b f = record { fits = omega (arith, f .fits) }
+
+pub right-wide : (a b : ℕ) → Fits w64 (a + b) → Fits w64 b
+right-wide a b f = record { fits = omega (arith, f .fits) }
+
+pub none-yet : (k : ℕ) → 0 ≤ k
+none-yet k = omega arith
+
+pub turn-most : (c k : ℕ) → c < k → c + 1 ≤ k
+turn-most c k h = omega arith
+
+pub turn-wide : (c k : ℕ) → c < k → Fits w64 k → Fits w64 (c + 1)
+turn-wide c k h f = record { fits = omega (arith, f .fits) }
+
+pub turn-less : (c k : ℕ) → c < k → k - (c + 1) < k - c
+turn-less c k h = omega arith
+
+pub all-columns : (c k : ℕ) → c ≤ k → k ≤ c → c ≡ k
+all-columns c k h g = omega arith
+
+pub grown-new : (m y m′ : ℕ) → y ≡ m → m′ ≡ m + 1 → m′ ≡ max m (suc y)
+grown-new m y m′ e g = omega arith
+
+pub grown-old : (m y m′ : ℕ) → y ≢ m → m′ ≡ m → y ≤ m → m′ ≡ max m (suc y)
+grown-old m y m′ e g h = omega arith
+
+-- ---- the columns of a row
 
 -- what further columns add makes the list no shorter
 pub addTo-longer : (Q : Automaton ℕ) (l : List ℕ) (p c k : ℕ) → c ≤ k → length (addTo nat-test Q c l p) ≤ length (addTo nat-test Q k l p)
@@ -80,9 +113,27 @@ module _ {base n k most i m : ℕ} {t w s : List ℕ} (R : Rolling base n k most
   same : (p : ℕ) → p ≡ getD w (n + n + i) 0 → start ≡ p
   same p e = ordered-at (R .roll) i (R .row) ∙ sym e
 
+  pub row-double : Fits w64 (n + n)
+  row-double = record { fits = omega (arith, R .roll .few) }
+
+  pub row-wide : Fits w64 (n + n + i)
+  row-wide = record { fits = omega (arith, R .row, R .roll .within, R .roll .few, R .roll .bytes) }
+
+  pub row-place : n + n + i < length w
+  row-place = omega (arith, R .row, R .roll .within, R .roll .room)
+
+  pub row-target : (r l : ℕ) → r < n → l ≡ length w → r < l
+  row-target r l h e = omega (arith, R .roll .room)
+
   -- a cell of the row lies in the slot
   pub row-cell : (c : ℕ) → c < k → most + (i * k + c) < length s
   row-cell c h = omega (arith, cell-below most k i c (le-trans (R .row) (R .roll .within)) h, R .slot)
+
+  pub row-cell-now : (c l : ℕ) → c < k → l ≡ length s → most + (i * k + c) < l
+  row-cell-now c l h e = rw e (row-cell c h)
+
+  pub row-next : {c m′ : ℕ} {w′ s′ : List ℕ} → Upto Q n k most i m w s c m′ w′ s′ → Fits w64 (m′ + 1)
+  row-next U = record { fits = omega (arith, U .roll .within, U .roll .bytes) }
 
   module _ (p c m′ r d : ℕ) (w′ s′ : List ℕ) (U : Upto Q n k most i m w s c m′ w′ s′) (hc : c < k) (e : p ≡ getD w (n + n + i) 0) (T : Target base n k t p c r)
       (ed : d ≡ getD w′ r 0) where
@@ -145,8 +196,11 @@ module _ {base n k most i m : ℕ} {t w s : List ℕ} (R : Rolling base n k most
   -- the same, of a column whose class has been given its number
   module _ (p c m′ r : ℕ) (w′ s′ : List ℕ) (U : Upto Q n k most i m w s c m′ w′ s′) (hc : c < k) (e : p ≡ getD w (n + n + i) 0) (T : Target base n k t p c r)
       (m″ l x : ℕ) (w″ : List ℕ) (N : Numbered n most m′ r w′ m″ l x w″) where
-    pub column-few : x < most
+    column-few : x < most
     column-few = row-few p c m′ r (getD w′ r 0) w′ s′ U hc e T refl x w″ (N .arrived) (N .few)
+
+    pub column-byte : Fits w8 x
+    column-byte = record { fits = omega (arith, column-few, U .roll .bytes) }
 
     pub column-turns : (s″ : List ℕ) → length s′ ≡ length s → s″ ≡ set s′ (most + (i * k + c)) x → Upto Q n k most i m w s (c + 1) m″ w″ s″
     column-turns s″ len es = row-turns p c m′ r (getD w′ r 0) w′ s′ U hc e T refl x w″ (N .arrived) m″ s″ (N .few) len es (N .grown)

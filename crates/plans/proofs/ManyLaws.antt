@@ -6,6 +6,8 @@ use mathlib.Core.List.{List, [], _∷_, _++_}
 use Prim.Native.Nat.{ℕ, zero, suc, _+_, _-_, _*_, _/_, _≤_, _<_, min}
 use native.Mathlib.Numerals.{add-one}
 use native.Mathlib.Omega.{arith}
+use mir.Syntax.{w64}
+use mir.Val.{Fits}
 use lib.ListN.{length, take, drop, set, length-append, length-take, length-drop, drop-of-length-le}
 use lib.Seq.{sets, sets-eq, take-at, drop-at, drop-drop, length-take-le, take-all}
 use lib.Dec.{eqb}
@@ -58,6 +60,13 @@ sets-as old new at a r p e = p ∙ ap (λ x. sets old at (three (replyNumbers x)
 pub line-small : (s : List ℕ) (from e : ℕ) → length (lineOf s from e) ≤ length s
 line-small s from e = omega (arith, length-take (e - from) (drop from s), length-drop from s)
 
+-- less of the text is left behind a plan's line end, and behind the last plan
+pub line-less : (l a e : ℕ) → a ≤ e → e < l → l - (e + 1) < l - a
+line-less l a e h g = omega arith
+
+pub end-less : (l a e : ℕ) → a < l → l ≤ e → l - e < l - a
+end-less l a e h g = omega arith
+
 -- ---- what was judged so far
 
 -- The first k plans are judged, and the next one begins at `from`.
@@ -83,6 +92,22 @@ module _ (c s old : List ℕ) where
 
     pub upto-length : length new ≡ length old
     upto-length = omega (arith, ap length (u .is), length-append (done k) (drop at old), long, length-drop at old, u .room)
+
+    -- the replies that are stored, and room for three numbers more
+    pub upto-within : at ≤ length new
+    upto-within = omega (arith, upto-length, u .room)
+
+    pub upto-full : length new - at < 3 → length old - at < 3
+    upto-full h = omega (arith, upto-length)
+
+    pub upto-fits : 3 ≤ length new - at → at + 3 ≤ length new
+    upto-fits h = omega (arith, upto-within)
+
+    pub upto-more : 3 ≤ length new - at → at + 3 ≤ length old
+    upto-more h = omega (arith, upto-length, u .room)
+
+    pub upto-count : Fits w64 (at + 3) → Fits w64 (k + 1)
+    upto-count f = record { fits = omega (arith, u .place, f .fits) }
 
     -- one plan more, which begins at `from` and ends at e
     module _ (b : from < length s) (e : ℕ) (l : LineEnd s from e) (a : Answer) (j : replyOf a ≡ judge narrow c (lineOf s from e)) (h : at + 3 ≤ length old)

@@ -3,12 +3,12 @@ use mathlib.Core.Path.{_≡_, refl, sym, ap, _∙_, subst}
 use mathlib.Core.Bool.{Bool, true, false, _&&_}
 use mathlib.Core.Logic.{inl, inr}
 use mathlib.Core.List.{List, [], _∷_, _++_, append-assoc, append-nil}
-use Prim.Native.Nat.{ℕ, _+_, _-_, _≤_}
+use Prim.Native.Nat.{ℕ, _+_, _*_, _-_, _≤_, _<_}
 use native.Mathlib.Numerals.{add-one}
 use native.Mathlib.Omega.{arith}
 use borrow.Author.Tests.{eq-eqb, ne-eqb}
 use lib.Dec.{ltb}
-use lib.ListN.{take, drop, getD}
+use lib.ListN.{length, take, drop, getD, length-take, length-drop}
 use Rattle.automata.specs.Booleans.{choose}
 use Rattle.automata.specs.Basics.{nat-test, LtCases, lt-cases}
 use Rattle.automata.specs.Stages.{Pairing, either, both, without}
@@ -196,3 +196,15 @@ module _ {s : List ℕ} {at end : ℕ} (e : Ends s at end) {ls : List ℕ} {f : 
 
   pub next-not : {n : ℕ} → r ≡ answer.the-variants.Refused n → ReadsNext s at ls f o o′ (lineAnswer.the-variants.Refused n)
   next-not q = record { end = end; ends = e; says = rw q at (d .says) }
+
+-- ---- where a line lies
+
+pub from-first : (e : ℕ) → 0 ≤ e
+from-first e = omega arith
+
+pub in-text : (at l : ℕ) → at < l → at ≤ l
+in-text at l h = omega arith
+
+-- there is room for the program of a line where there is room for the text's
+pub line-room : (text : List ℕ) (at end room : ℕ) → Ends text at end → 2 * length text + 64 ≤ room → 2 * length (take (end - at) (drop at text)) + 64 ≤ room
+line-room text at end room e h = omega (arith, e .from, e .within, length-take (end - at) (drop at text), length-drop at text)

@@ -3,3 +3,4 @@ pub mod LaidLaws
 pub mod RestrictLaws
 pub mod MarkLaws
 pub mod MoveLaws
+mod LoopLaws

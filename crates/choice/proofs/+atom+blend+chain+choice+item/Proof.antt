@@ -1,7 +1,7 @@
 -- choice, blend, chain, item and atom meet their contracts: each loop keeps what comes of the part ahead (`Ahead`).
 use Prim.Native.Nat.{ℕ, _+_, _*_, _-_, _<_}
-use native.Mathlib.Omega.{arith}
-use mathlib.Core.Path.{refl}
+use native.Mathlib.Nat.{le-refl}
+use mathlib.Core.Path.{refl, _∙_}
 use borrow.Author.Needs.{needs}
 use lib.ListN.{length}
 use Rattle.automata.specs.Stages.{either}
@@ -9,10 +9,10 @@ use Rattle.language.specs.Expression.{pair, join}
 use Rattle.book.specs.Program.{joinCode, eitherCode}
 use Rattle.choice.specs.Reading.{a-choice, a-blend, a-chain, an-item, more-choices, more-blends, more-chains}
 use Rattle.choice.specs.ReadingLaws.{read-to, read-not}
-use Rattle.lexer.proofs.TokenLaws.{at-fewer}
 use Rattle.choice.proofs.ReadLaws.{Ahead, choice-row, blend-row, chain-row, ahead-start, ahead-more, row-done}
 use Rattle.choice.proofs.KindLaws.{choices-stop, blends-stop, chains-stop, below-items, above-items, choices-turn, blends-turn, chains-turn}
 use Rattle.choice.proofs.ItemLaws.{item-refused, item-done, atom-put, atom-refused, bracket-refused, bracket-open, bracket-done}
+use Rattle.choice.proofs.TurnLaws.{leaf-kind, open-kind, close-kind, item-kind, blend-kind, bar-kind, below-not, above-not, below-minus, above-ampersand, below-atoms, above-atoms, inside-falls, inside-room, put-room, turn-less, turn-fewer, turn-falls, loop-falls, row-falls, row-room, part-room, same-less, same-falls, item-falls, item-room, suffix-room, negate-room}
 use borrow.Fn.Kinds.{In}
 use borrow.Fn.PlainCycle.{Measures, is, falls, and}
 use Rattle.choice.proofs.atom.Reads as atom
@@ -105,32 +105,30 @@ abbrev item-claims : ℕ → item-lts.Claims
 item-claims t = (nots-reads.Asked, nots-reads.Learnt, atom-below t, atom.Post, suffixed-reads.Asked, suffixed-reads.Learnt, negate-reads.Asked, negate-reads.Learnt)
 
 atom-returns : (t : ℕ) → atom-lts.Need-returns (atom-claims t) (atom-at t) atom.Post
-atom-returns t c = atom-refused _ (c .before .before .token .ensures .kind-is) (λ h. omega arith)
+atom-returns t c = atom-refused _ (c .before .before .token .ensures .kind-is) (below-atoms _ (c .if1 .taken))
 
 atom-put-requires : (t : ℕ) → atom-lts.Need-put-requires (atom-claims t) (atom-at t) atom.Post
-atom-put-requires t c κs =
-    let x = c .before .before .before .before .token .ensures .token (λ e. omega arith) in
-    omega (arith, x .falls)
+atom-put-requires t c κs = put-room (c .before .before .before .before .token .ensures .token (leaf-kind _ (c .before .if2 .taken))) _ _ (c .before .before .before .before .before .before .before .before .pre .1 .1)
 
 atom-returns-2 : (t : ℕ) → atom-lts.Need-returns-2 (atom-claims t) (atom-at t) atom.Post
-atom-returns-2 t c = atom-put (c .before .before .before .before .before .before .before .token .ensures .token (λ e. omega arith)) (c .before .before .before .before .before .if1 .left) (c .before .before .before .before .if2 .taken) (c .before .before .put .ensures)
+atom-returns-2 t c = atom-put (c .before .before .before .before .before .before .before .token .ensures .token (leaf-kind _ (c .before .before .before .before .if2 .taken))) (c .before .before .before .before .before .if1 .left) (c .before .before .before .before .if2 .taken) (c .before .before .put .ensures)
 
 atom-returns-3 : (t : ℕ) → atom-lts.Need-returns-3 (atom-claims t) (atom-at t) atom.Post
-atom-returns-3 t c = atom-refused _ (c .before .before .before .before .token .ensures .kind-is) (λ h. omega arith)
+atom-returns-3 t c = atom-refused _ (c .before .before .before .before .token .ensures .kind-is) (above-atoms _ (c .before .if2 .left) (c .if3 .taken))
 
 atom-choice-requires : (t : ℕ) → atom-lts.Need-choice-requires (atom-claims t) (atom-at t) atom.Post
 atom-choice-requires t c κs =
-    let x = c .before .before .before .before .before .token .ensures .token (λ e. omega arith) in
-    (omega (arith, x .falls), (search needs, omega (arith, x .falls)))
+    let x = c .before .before .before .before .before .token .ensures .token (open-kind _ (c .before .if3 .left)) in
+    (inside-falls x (c .before .before .before .before .before .before .before .before .before .pre .0), (c .before .before .before .before .before .before .before .before .before .pre .1 .0, inside-room x _ _ (c .before .before .before .before .before .before .before .before .before .pre .1 .1)))
 
 atom-returns-4 : (t : ℕ) → atom-lts.Need-returns-4 (atom-claims t) (atom-at t) atom.Post
-atom-returns-4 t c = bracket-refused (c .before .before .before .before .before .before .before .before .before .before .token .ensures .token (λ e. omega arith)) (c .before .before .before .before .before .before .if3 .left) (c .before .before .before .before .choice .ensures) (c .enum-told .given .1)
+atom-returns-4 t c = bracket-refused (c .before .before .before .before .before .before .before .before .before .before .token .ensures .token (open-kind _ (c .before .before .before .before .before .before .if3 .left))) (c .before .before .before .before .before .before .if3 .left) (c .before .before .before .before .choice .ensures) (c .enum-told .given .1)
 
 atom-returns-5 : (t : ℕ) → atom-lts.Need-returns-5 (atom-claims t) (atom-at t) atom.Post
-atom-returns-5 t c = bracket-open (c .before .before .before .before .before .before .before .before .before .before .before .before .before .before .token .ensures .token (λ e. omega arith)) (c .before .before .before .before .before .before .before .before .before .before .if3 .left) (c .before .before .before .before .before .before .before .before .choice .ensures) _ (c .before .before .before .before .n .given .1) (c .before .token2 .ensures .kind-is) (c .if4 .taken)
+atom-returns-5 t c = bracket-open (c .before .before .before .before .before .before .before .before .before .before .before .before .before .before .token .ensures .token (open-kind _ (c .before .before .before .before .before .before .before .before .before .before .if3 .left))) (c .before .before .before .before .before .before .before .before .before .before .if3 .left) (c .before .before .before .before .before .before .before .before .choice .ensures) _ (c .before .before .before .before .n .given .1) (c .before .token2 .ensures .kind-is) (c .if4 .taken)
 
 atom-returns-6 : (t : ℕ) → atom-lts.Need-returns-6 (atom-claims t) (atom-at t) atom.Post
-atom-returns-6 t c = bracket-done (c .before .before .before .before .before .before .before .before .before .before .before .before .before .before .before .token .ensures .token (λ e. omega arith)) (c .before .before .before .before .before .before .before .before .before .before .before .if3 .left) (c .before .before .before .before .before .before .before .before .before .choice .ensures) (c .before .before .before .before .before .n .given .1) (c .before .before .token2 .ensures .token (λ e. omega arith)) (c .before .if4 .left)
+atom-returns-6 t c = bracket-done (c .before .before .before .before .before .before .before .before .before .before .before .before .before .before .before .token .ensures .token (open-kind _ (c .before .before .before .before .before .before .before .before .before .before .before .if3 .left))) (c .before .before .before .before .before .before .before .before .before .before .before .if3 .left) (c .before .before .before .before .before .before .before .before .before .choice .ensures) (c .before .before .before .before .before .n .given .1) (c .before .before .token2 .ensures .token (close-kind _ (c .before .if4 .left))) (c .before .if4 .left)
 
 abbrev blend-Inv-loop : blend-lts.InvT-loop
 blend-Inv-loop kinds s out₀ here₀ more₀ operator₀ out here more operator = Ahead a-blend a-chain more-blends more operator s out₀ here₀ out here
@@ -144,7 +142,7 @@ blend-loop-holds t c = ahead-start blend-row
 blend-chain-requires : (t : ℕ) → blend-lts.Need-chain-requires (blend-claims t) (blend-at t) blend.Post blend-Inv-loop blend-μ-loop
 blend-chain-requires t c κs =
     let v = c .before .loop .inv in
-    (omega (arith, v .falls), (search needs, omega (arith, v .room, v .same-length)))
+    (row-falls _ _ _ _ _ (v .falls) (c .before .before .before .before .pre .0) (blend-row .part-less), (c .before .before .before .before .pre .1 .0, row-room _ _ _ _ (v .room) (v .same-length) (c .before .before .before .before .pre .1 .1)))
 
 blend-returns : (t : ℕ) → blend-lts.Need-returns (blend-claims t) (blend-at t) blend.Post blend-Inv-loop blend-μ-loop
 blend-returns t c = c .before .before .before .before .before .before .loop .inv .refused _ (read-not (c .before .before .before .before .chain .ensures) (c .enum-told .given .1))
@@ -153,25 +151,25 @@ blend-put-if-requires : (t : ℕ) → blend-lts.Need-put-if-requires (blend-clai
 blend-put-if-requires t c κs =
     let v = c .before .before .before .before .before .before .before .before .loop .inv in
     let w = read-to (c .before .before .before .before .before .before .chain .ensures) (c .before .before .n .given .1) in
-    omega (arith, v .room, v .same-length, w .room, c .before .before .before .before .before .before .chain .kept .1 .1 .0)
+    part-room _ _ _ _ _ _ _ (w .room) (v .room) (c .before .before .before .before .before .before .before .before .before .before .before .pre .1 .1) (v .same-length) (c .before .before .before .before .before .before .chain .kept .1 .1 .0)
 
 blend-returns-2 : (t : ℕ) → blend-lts.Need-returns-2 (blend-claims t) (blend-at t) blend.Post blend-Inv-loop blend-μ-loop
-blend-returns-2 t c = row-done blend-row (c .before .before .before .before .before .before .before .before .before .before .before .before .before .before .loop .inv .reads _ _ _ _ (read-to (c .before .before .before .before .before .before .before .before .before .before .before .before .chain .ensures) (c .before .before .before .before .before .before .before .before .n .given .1)) (c .before .before .before .before .before .put-if .ensures) (c .before .before .before .before .before .before .before .before .before .before .before .before .chain .kept .1 .1 .0) (c .before .before .before .before .before .put-if .kept .0)) (blends-stop _ _ (c .before .token .ensures .kind-is) (λ q. omega arith) (λ q. omega arith))
+blend-returns-2 t c = row-done blend-row (c .before .before .before .before .before .before .before .before .before .before .before .before .before .before .loop .inv .reads _ _ _ _ (read-to (c .before .before .before .before .before .before .before .before .before .before .before .before .chain .ensures) (c .before .before .before .before .before .before .before .before .n .given .1)) (c .before .before .before .before .before .put-if .ensures) (c .before .before .before .before .before .before .before .before .before .before .before .before .chain .kept .1 .1 .0) (c .before .before .before .before .before .put-if .kept .0)) (blends-stop _ _ (c .before .token .ensures .kind-is) (below-not _ _ (c .if1 .taken)) (below-minus _ (c .if1 .taken)))
 
 blend-returns-3 : (t : ℕ) → blend-lts.Need-returns-3 (blend-claims t) (blend-at t) blend.Post blend-Inv-loop blend-μ-loop
-blend-returns-3 t c = row-done blend-row (c .before .before .before .before .before .before .before .before .before .before .before .before .before .before .before .loop .inv .reads _ _ _ _ (read-to (c .before .before .before .before .before .before .before .before .before .before .before .before .before .chain .ensures) (c .before .before .before .before .before .before .before .before .before .n .given .1)) (c .before .before .before .before .before .before .put-if .ensures) (c .before .before .before .before .before .before .before .before .before .before .before .before .before .chain .kept .1 .1 .0) (c .before .before .before .before .before .before .put-if .kept .0)) (blends-stop _ _ (c .before .before .token .ensures .kind-is) (λ q. omega arith) (λ q. omega arith))
+blend-returns-3 t c = row-done blend-row (c .before .before .before .before .before .before .before .before .before .before .before .before .before .before .before .loop .inv .reads _ _ _ _ (read-to (c .before .before .before .before .before .before .before .before .before .before .before .before .before .chain .ensures) (c .before .before .before .before .before .before .before .before .before .n .given .1)) (c .before .before .before .before .before .before .put-if .ensures) (c .before .before .before .before .before .before .before .before .before .before .before .before .before .chain .kept .1 .1 .0) (c .before .before .before .before .before .before .put-if .kept .0)) (blends-stop _ _ (c .before .before .token .ensures .kind-is) (above-ampersand _ (c .if2 .taken)) (above-not _ _ (c .if2 .taken)))
 
 blend-loop-less : (t : ℕ) → blend-lts.Need-loop-less (blend-claims t) (blend-at t) blend.Post blend-Inv-loop blend-μ-loop
 blend-loop-less t c =
-    let x = c .before .before .before .token .ensures .token (λ e. omega arith) in
+    let x = c .before .before .before .token .ensures .token (blend-kind _ (c .before .if2 .left)) in
     let w = read-to (c .before .before .before .before .before .before .before .before .before .before .before .before .before .before .chain .ensures) (c .before .before .before .before .before .before .before .before .before .before .n .given .1) in
-    omega (arith, c .before .before .before .before .before .before .before .put-if .ensures .at-is, w .falls, x .falls)
+    loop-falls x _ _ (c .before .before .before .before .before .before .before .put-if .ensures .at-is) (w .falls)
 
 blend-loop-again : (t : ℕ) → blend-lts.Need-loop-again (blend-claims t) (blend-at t) blend.Post blend-Inv-loop blend-μ-loop
 blend-loop-again t c =
-    let x = c .before .before .before .token .ensures .token (λ e. omega arith) in
+    let x = c .before .before .before .token .ensures .token (blend-kind _ (c .before .if2 .left)) in
     let y = blends-turn x (c .before .before .if1 .left) (c .before .if2 .left) in
-    ahead-more blend-row (y .op) (c .before .before .before .before .before .before .before .before .before .before .before .before .before .before .before .before .loop .inv .reads _ _ _ _ (read-to (c .before .before .before .before .before .before .before .before .before .before .before .before .before .before .chain .ensures) (c .before .before .before .before .before .before .before .before .before .before .n .given .1)) (c .before .before .before .before .before .before .before .put-if .ensures) (c .before .before .before .before .before .before .before .before .before .before .before .before .before .before .chain .kept .1 .1 .0) (c .before .before .before .before .before .before .before .put-if .kept .0)) (y .turn) refl (omega (arith, at-fewer x)) (omega (arith, at-fewer x)) (omega (arith, x .falls)) (y .code)
+    ahead-more blend-row (y .op) (c .before .before .before .before .before .before .before .before .before .before .before .before .before .before .before .before .loop .inv .reads _ _ _ _ (read-to (c .before .before .before .before .before .before .before .before .before .before .before .before .before .before .chain .ensures) (c .before .before .before .before .before .before .before .before .before .before .n .given .1)) (c .before .before .before .before .before .before .before .put-if .ensures) (c .before .before .before .before .before .before .before .before .before .before .before .before .before .before .chain .kept .1 .1 .0) (c .before .before .before .before .before .before .before .put-if .kept .0)) (y .turn) refl (turn-less x _ _ (blend-row .part-less)) (turn-fewer x) (turn-falls x) (y .code)
 
 abbrev chain-Inv-loop : chain-lts.InvT-loop
 chain-Inv-loop kinds s out₀ here₀ more₀ out here more = Ahead a-chain an-item more-chains more joinCode s out₀ here₀ out here
@@ -185,7 +183,7 @@ chain-loop-holds t c = ahead-start chain-row
 chain-item-requires : (t : ℕ) → chain-lts.Need-item-requires (chain-claims t) (chain-at t) chain.Post chain-Inv-loop chain-μ-loop
 chain-item-requires t c κs =
     let v = c .before .loop .inv in
-    (omega (arith, v .falls), (search needs, omega (arith, v .room, v .same-length)))
+    (row-falls _ _ _ _ _ (v .falls) (c .before .before .before .before .pre .0) (chain-row .part-less), (c .before .before .before .before .pre .1 .0, row-room _ _ _ _ (v .room) (v .same-length) (c .before .before .before .before .pre .1 .1)))
 
 chain-returns : (t : ℕ) → chain-lts.Need-returns (chain-claims t) (chain-at t) chain.Post chain-Inv-loop chain-μ-loop
 chain-returns t c = c .before .before .before .before .before .before .loop .inv .refused _ (read-not (c .before .before .before .before .item .ensures) (c .enum-told .given .1))
@@ -194,7 +192,7 @@ chain-put-if-requires : (t : ℕ) → chain-lts.Need-put-if-requires (chain-clai
 chain-put-if-requires t c κs =
     let v = c .before .before .before .before .before .before .before .before .loop .inv in
     let w = read-to (c .before .before .before .before .before .before .item .ensures) (c .before .before .n .given .1) in
-    omega (arith, v .room, v .same-length, w .room, c .before .before .before .before .before .before .item .kept .1 .1 .0)
+    part-room _ _ _ _ _ _ _ (w .room) (v .room) (c .before .before .before .before .before .before .before .before .before .before .before .pre .1 .1) (v .same-length) (c .before .before .before .before .before .before .item .kept .1 .1 .0)
 
 chain-returns-2 : (t : ℕ) → chain-lts.Need-returns-2 (chain-claims t) (chain-at t) chain.Post chain-Inv-loop chain-μ-loop
 chain-returns-2 t c = row-done chain-row (c .before .before .before .before .before .before .before .before .before .before .before .before .before .before .loop .inv .reads _ _ _ _ (read-to (c .before .before .before .before .before .before .before .before .before .before .before .before .item .ensures) (c .before .before .before .before .before .before .before .before .n .given .1)) (c .before .before .before .before .before .put-if .ensures) (c .before .before .before .before .before .before .before .before .before .before .before .before .item .kept .1 .1 .0) (c .before .before .before .before .before .put-if .kept .0)) (chains-stop _ _ (c .before .token .ensures .kind-is) (below-items _ (c .if1 .taken)))
@@ -204,14 +202,13 @@ chain-returns-3 t c = row-done chain-row (c .before .before .before .before .bef
 
 chain-loop-less : (t : ℕ) → chain-lts.Need-loop-less (chain-claims t) (chain-at t) chain.Post chain-Inv-loop chain-μ-loop
 chain-loop-less t c =
-    let x = c .before .before .token .ensures .token (λ e. omega arith) in
     let w = read-to (c .before .before .before .before .before .before .before .before .before .before .before .before .before .item .ensures) (c .before .before .before .before .before .before .before .before .before .n .given .1) in
-    omega (arith, c .before .before .before .before .before .before .put-if .ensures .at-is, w .falls, x .falls)
+    same-falls _ _ _ _ (c .before .before .before .before .before .before .put-if .ensures .at-is) (w .falls)
 
 chain-loop-again : (t : ℕ) → chain-lts.Need-loop-again (chain-claims t) (chain-at t) chain.Post chain-Inv-loop chain-μ-loop
 chain-loop-again t c =
-    let x = c .before .before .token .ensures .token (λ e. omega arith) in
-    ahead-more chain-row join (c .before .before .before .before .before .before .before .before .before .before .before .before .before .before .before .loop .inv .reads _ _ _ _ (read-to (c .before .before .before .before .before .before .before .before .before .before .before .before .before .item .ensures) (c .before .before .before .before .before .before .before .before .before .n .given .1)) (c .before .before .before .before .before .before .put-if .ensures) (c .before .before .before .before .before .before .before .before .before .before .before .before .before .item .kept .1 .1 .0) (c .before .before .before .before .before .before .put-if .kept .0)) (chains-turn x (c .before .if1 .left) (c .if2 .left)) refl (omega arith) (omega arith) (omega arith) (λ e g. refl)
+    let x = c .before .before .token .ensures .token (item-kind _ (c .if2 .left)) in
+    ahead-more chain-row join (c .before .before .before .before .before .before .before .before .before .before .before .before .before .before .before .loop .inv .reads _ _ _ _ (read-to (c .before .before .before .before .before .before .before .before .before .before .before .before .before .item .ensures) (c .before .before .before .before .before .before .before .before .before .n .given .1)) (c .before .before .before .before .before .before .put-if .ensures) (c .before .before .before .before .before .before .before .before .before .before .before .before .before .item .kept .1 .1 .0) (c .before .before .before .before .before .before .put-if .kept .0)) (chains-turn x (c .before .if1 .left) (c .if2 .left)) refl (same-less _ _ _ (chain-row .part-less)) (le-refl _) (le-refl _) (λ e g. refl)
 
 abbrev choice-Inv-loop : choice-lts.InvT-loop
 choice-Inv-loop kinds s out₀ here₀ more₀ out here more = Ahead a-choice a-blend more-choices more eitherCode s out₀ here₀ out here
@@ -225,7 +222,7 @@ choice-loop-holds t c = ahead-start choice-row
 choice-blend-requires : (t : ℕ) → choice-lts.Need-blend-requires (choice-claims t) (choice-at t) choice.Post choice-Inv-loop choice-μ-loop
 choice-blend-requires t c κs =
     let v = c .before .loop .inv in
-    (omega (arith, v .falls), (search needs, omega (arith, v .room, v .same-length)))
+    (row-falls _ _ _ _ _ (v .falls) (c .before .before .before .before .pre .0) (choice-row .part-less), (c .before .before .before .before .pre .1 .0, row-room _ _ _ _ (v .room) (v .same-length) (c .before .before .before .before .pre .1 .1)))
 
 choice-returns : (t : ℕ) → choice-lts.Need-returns (choice-claims t) (choice-at t) choice.Post choice-Inv-loop choice-μ-loop
 choice-returns t c = c .before .before .before .before .before .before .loop .inv .refused _ (read-not (c .before .before .before .before .blend .ensures) (c .enum-told .given .1))
@@ -234,26 +231,26 @@ choice-put-if-requires : (t : ℕ) → choice-lts.Need-put-if-requires (choice-c
 choice-put-if-requires t c κs =
     let v = c .before .before .before .before .before .before .before .before .loop .inv in
     let w = read-to (c .before .before .before .before .before .before .blend .ensures) (c .before .before .n .given .1) in
-    omega (arith, v .room, v .same-length, w .room, c .before .before .before .before .before .before .blend .kept .1 .1 .0)
+    part-room _ _ _ _ _ _ _ (w .room) (v .room) (c .before .before .before .before .before .before .before .before .before .before .before .pre .1 .1) (v .same-length) (c .before .before .before .before .before .before .blend .kept .1 .1 .0)
 
 choice-returns-2 : (t : ℕ) → choice-lts.Need-returns-2 (choice-claims t) (choice-at t) choice.Post choice-Inv-loop choice-μ-loop
 choice-returns-2 t c = row-done choice-row (c .before .before .before .before .before .before .before .before .before .before .before .before .before .before .loop .inv .reads _ _ _ _ (read-to (c .before .before .before .before .before .before .before .before .before .before .before .before .blend .ensures) (c .before .before .before .before .before .before .before .before .n .given .1)) (c .before .before .before .before .before .put-if .ensures) (c .before .before .before .before .before .before .before .before .before .before .before .before .blend .kept .1 .1 .0) (c .before .before .before .before .before .put-if .kept .0)) (choices-stop _ _ (c .before .token .ensures .kind-is) (c .if1 .taken))
 
 choice-loop-less : (t : ℕ) → choice-lts.Need-loop-less (choice-claims t) (choice-at t) choice.Post choice-Inv-loop choice-μ-loop
 choice-loop-less t c =
-    let x = c .before .before .token .ensures .token (λ e. omega arith) in
+    let x = c .before .before .token .ensures .token (bar-kind _ (c .before .if1 .left)) in
     let w = read-to (c .before .before .before .before .before .before .before .before .before .before .before .before .before .blend .ensures) (c .before .before .before .before .before .before .before .before .before .n .given .1) in
-    omega (arith, c .before .before .before .before .before .before .put-if .ensures .at-is, w .falls, x .falls)
+    loop-falls x _ _ (c .before .before .before .before .before .before .put-if .ensures .at-is) (w .falls)
 
 choice-loop-again : (t : ℕ) → choice-lts.Need-loop-again (choice-claims t) (choice-at t) choice.Post choice-Inv-loop choice-μ-loop
 choice-loop-again t c =
-    let x = c .before .before .token .ensures .token (λ e. omega arith) in
-    ahead-more choice-row (pair either) (c .before .before .before .before .before .before .before .before .before .before .before .before .before .before .before .loop .inv .reads _ _ _ _ (read-to (c .before .before .before .before .before .before .before .before .before .before .before .before .before .blend .ensures) (c .before .before .before .before .before .before .before .before .before .n .given .1)) (c .before .before .before .before .before .before .put-if .ensures) (c .before .before .before .before .before .before .before .before .before .before .before .before .before .blend .kept .1 .1 .0) (c .before .before .before .before .before .before .put-if .kept .0)) (choices-turn x (c .before .if1 .left)) refl (omega (arith, at-fewer x)) (omega (arith, at-fewer x)) (omega (arith, x .falls)) (λ e g. refl)
+    let x = c .before .before .token .ensures .token (bar-kind _ (c .before .if1 .left)) in
+    ahead-more choice-row (pair either) (c .before .before .before .before .before .before .before .before .before .before .before .before .before .before .before .loop .inv .reads _ _ _ _ (read-to (c .before .before .before .before .before .before .before .before .before .before .before .before .before .blend .ensures) (c .before .before .before .before .before .before .before .before .before .n .given .1)) (c .before .before .before .before .before .before .put-if .ensures) (c .before .before .before .before .before .before .before .before .before .before .before .before .before .blend .kept .1 .1 .0) (c .before .before .before .before .before .before .put-if .kept .0)) (choices-turn x (c .before .if1 .left)) refl (turn-less x _ _ (choice-row .part-less)) (turn-fewer x) (turn-falls x) (λ e g. refl)
 
 item-atom-requires : (t : ℕ) → item-lts.Need-atom-requires (item-claims t) (item-at t) item.Post
 item-atom-requires t c κs =
     let x = c .before .before .nots .ensures .passed in
-    (omega (arith, x .falls), (search needs, omega (arith, x .falls)))
+    (item-falls _ _ _ _ (x .falls) (c .before .before .before .before .before .before .pre .0), (c .before .before .before .before .before .before .pre .1 .0, item-room _ _ _ _ _ (x .falls) (c .before .before .before .before .before .before .pre .1 .1)))
 
 item-returns : (t : ℕ) → item-lts.Need-returns (item-claims t) (item-at t) item.Post
 item-returns t c = item-refused (c .before .before .before .before .before .before .before .nots .ensures) (c .before .before .before .before .atom .ensures) (c .enum-told .given .1)
@@ -262,13 +259,13 @@ item-suffixed-requires : (t : ℕ) → item-lts.Need-suffixed-requires (item-cla
 item-suffixed-requires t c κs =
     let x = c .before .before .before .before .before .before .before .before .before .nots .ensures .passed in
     let z = read-to (c .before .before .before .before .before .before .atom .ensures) (c .before .before .n .given .1) in
-    (search needs, omega (arith, x .falls, z .falls, z .room, c .before .before .before .before .before .before .atom .kept .1 .1 .0))
+    (c .before .before .before .before .before .before .before .before .before .before .before .before .before .pre .1 .0, suffix-room _ _ _ _ _ _ _ (z .room) (x .falls) (c .before .before .before .before .before .before .before .before .before .before .before .before .before .pre .1 .1) (c .before .before .before .before .before .before .atom .kept .1 .1 .0))
 
 item-negate-requires : (t : ℕ) → item-lts.Need-negate-requires (item-claims t) (item-at t) item.Post
 item-negate-requires t c κs =
     let x = c .before .before .before .before .before .before .before .before .before .before .before .before .before .nots .ensures .passed in
     let z = read-to (c .before .before .before .before .before .before .before .before .before .before .atom .ensures) (c .before .before .before .before .before .before .n .given .1) in
-    omega (arith, x .falls, z .falls, z .room, c .before .before .before .suffixed .ensures .room, c .before .before .before .suffixed .ensures .falls, c .before .before .before .before .before .before .before .before .before .before .atom .kept .1 .1 .0, c .before .before .before .suffixed .kept .1 .1 .0)
+    negate-room _ _ _ _ _ _ _ _ _ _ (c .before .before .before .suffixed .ensures .room) (z .room) (x .falls) (c .before .before .before .before .before .before .before .before .before .before .before .before .before .before .before .before .before .pre .1 .1) (c .before .before .before .before .before .before .before .before .before .before .atom .kept .1 .1 .0) (c .before .before .before .suffixed .kept .1 .1 .0)
 
 item-returns-2 : (t : ℕ) → item-lts.Need-returns-2 (item-claims t) (item-at t) item.Post
 item-returns-2 t c = item-done (c .before .before .before .before .before .before .before .before .before .before .before .before .before .before .before .before .nots .ensures) (c .before .before .before .before .before .before .before .before .before .before .before .before .before .atom .ensures) (c .before .before .before .before .before .before .before .before .before .n .given .1) (c .before .before .before .before .before .before .suffixed .ensures) (c .before .before .negate .ensures)
@@ -278,21 +275,21 @@ pub +atom+blend+chain+choice+item-spec : {M : Type 1} → statement M
     close μ-atom μ-blend μ-chain μ-choice μ-item (λ t. atom-lts.spec (atom-claims t)
     (atom-at t)
     atom.Post
-    (λ c κs. search needs)
+    (λ c κs. c .before .before .before .pre .1 .0)
     (atom-returns t)
     (atom-put-requires t)
-    (λ c. search needs)
+    (λ c. c .before .before .put .kept .0)
     (atom-returns-2 t)
     (atom-returns-3 t)
     (atom-choice-requires t)
     (λ c. search needs)
     (λ c. search needs)
-    (λ c. search needs)
+    (λ c. c .before .before .before .before .choice .kept .1 .1 .0)
     (atom-returns-4 t)
-    (λ c κs. search needs)
-    (λ c. search needs)
+    (λ c κs. c .before .before .before .before .before .before .before .before .before .before .before .before .before .before .before .before .pre .1 .0)
+    (λ c. c .before .before .before .before .before .before .before .before .choice .kept .1 .1 .0)
     (atom-returns-5 t)
-    (λ c. search needs)
+    (λ c. c .before .before .before .before .before .before .before .before .before .choice .kept .1 .1 .0)
     (atom-returns-6 t))
     (λ t. blend-lts.spec (blend-claims t)
     (blend-at t)
@@ -303,13 +300,13 @@ pub +atom+blend+chain+choice+item-spec : {M : Type 1} → statement M
     (blend-chain-requires t)
     (λ c. search needs)
     (λ c. search needs)
-    (λ c. search needs)
+    (λ c. c .before .before .before .before .chain .kept .1 .1 .0 ∙ c .before .before .before .before .before .before .loop .inv .same-length)
     (blend-returns t)
     (blend-put-if-requires t)
-    (λ c κs. search needs)
-    (λ c. search needs)
+    (λ c κs. c .before .before .before .before .before .before .before .before .before .before .before .before .before .before .before .pre .1 .0)
+    (λ c. c .before .before .before .before .before .put-if .kept .0 ∙ c .before .before .before .before .before .before .before .before .before .before .before .before .chain .kept .1 .1 .0 ∙ c .before .before .before .before .before .before .before .before .before .before .before .before .before .before .loop .inv .same-length)
     (blend-returns-2 t)
-    (λ c. search needs)
+    (λ c. c .before .before .before .before .before .before .put-if .kept .0 ∙ c .before .before .before .before .before .before .before .before .before .before .before .before .before .chain .kept .1 .1 .0 ∙ c .before .before .before .before .before .before .before .before .before .before .before .before .before .before .before .loop .inv .same-length)
     (blend-returns-3 t)
     (blend-loop-less t)
     (blend-loop-again t))
@@ -322,13 +319,13 @@ pub +atom+blend+chain+choice+item-spec : {M : Type 1} → statement M
     (chain-item-requires t)
     (λ c. search needs)
     (λ c. search needs)
-    (λ c. search needs)
+    (λ c. c .before .before .before .before .item .kept .1 .1 .0 ∙ c .before .before .before .before .before .before .loop .inv .same-length)
     (chain-returns t)
     (chain-put-if-requires t)
-    (λ c κs. search needs)
-    (λ c. search needs)
+    (λ c κs. c .before .before .before .before .before .before .before .before .before .before .before .before .before .before .before .pre .1 .0)
+    (λ c. c .before .before .before .before .before .put-if .kept .0 ∙ c .before .before .before .before .before .before .before .before .before .before .before .before .item .kept .1 .1 .0 ∙ c .before .before .before .before .before .before .before .before .before .before .before .before .before .before .loop .inv .same-length)
     (chain-returns-2 t)
-    (λ c. search needs)
+    (λ c. c .before .before .before .before .before .before .put-if .kept .0 ∙ c .before .before .before .before .before .before .before .before .before .before .before .before .before .item .kept .1 .1 .0 ∙ c .before .before .before .before .before .before .before .before .before .before .before .before .before .before .before .loop .inv .same-length)
     (chain-returns-3 t)
     (chain-loop-less t)
     (chain-loop-again t))
@@ -341,24 +338,24 @@ pub +atom+blend+chain+choice+item-spec : {M : Type 1} → statement M
     (choice-blend-requires t)
     (λ c. search needs)
     (λ c. search needs)
-    (λ c. search needs)
+    (λ c. c .before .before .before .before .blend .kept .1 .1 .0 ∙ c .before .before .before .before .before .before .loop .inv .same-length)
     (choice-returns t)
     (choice-put-if-requires t)
-    (λ c κs. search needs)
-    (λ c. search needs)
+    (λ c κs. c .before .before .before .before .before .before .before .before .before .before .before .before .before .before .before .pre .1 .0)
+    (λ c. c .before .before .before .before .before .put-if .kept .0 ∙ c .before .before .before .before .before .before .before .before .before .before .before .before .blend .kept .1 .1 .0 ∙ c .before .before .before .before .before .before .before .before .before .before .before .before .before .before .loop .inv .same-length)
     (choice-returns-2 t)
     (choice-loop-less t)
     (choice-loop-again t))
     λ t. item-lts.spec (item-claims t)
     (item-at t)
     item.Post
-    (λ c κs. search needs)
+    (λ c κs. c .before .before .before .pre .1 .0)
     (item-atom-requires t)
     (λ c. search needs)
     (λ c. search needs)
-    (λ c. search needs)
+    (λ c. c .before .before .before .before .atom .kept .1 .1 .0)
     (item-returns t)
     (item-suffixed-requires t)
     (item-negate-requires t)
-    (λ c. search needs)
+    (λ c. c .before .before .negate .kept .0 ∙ c .before .before .before .before .before .before .suffixed .kept .1 .1 .0 ∙ c .before .before .before .before .before .before .before .before .before .before .before .before .before .atom .kept .1 .1 .0)
     (item-returns-2 t)

@@ -1,6 +1,6 @@
 -- `forms::choice_then` meets its contract: a choice that is read has the row behind its code.
+use mathlib.Core.Path.{_∙_}
 use native.Mathlib.Omega.{arith}
-use borrow.Author.Needs.{needs}
 use Rattle.choice.specs.ReadingLaws.{read-to, choice-bad}
 use Rattle.forms.proofs.FormLaws.{then-bad, then-done}
 use Rattle.forms.proofs.choice_then.Statement.{statement}
@@ -25,10 +25,10 @@ choice-then-spec =
     tie.close
     (tie.spec
     choice-requires
-    (λ c. search needs)
-    (λ c. search needs)
-    (λ c. search needs)
+    (λ c. c .match .keys1)
+    (λ c. c .match .keys2)
+    (λ c. c .before .before .before .before .choice .kept .1 .1 .0)
     returns
     put-row-requires
-    (λ c. search needs)
+    (λ c. c .before .before .before .put-row .kept .0 ∙ c .before .before .before .before .before .before .before .before .before .before .choice .kept .1 .1 .0)
     returns-2)

@@ -1,6 +1,6 @@
 -- `forms::context` meets its contract: each answer is one case of `contextOf`.
+use mathlib.Core.Path.{_∙_}
 use native.Mathlib.Omega.{arith}
-use borrow.Author.Needs.{needs}
 use Rattle.choice.specs.ReadingLaws.{read-to, choice-bad}
 use Rattle.forms.proofs.FormLaws.{context-none, context-read}
 use Rattle.forms.proofs.context.Statement.{statement}
@@ -25,10 +25,10 @@ context-spec =
     tie.close
     (tie.spec
     choice-requires
-    (λ c. search needs)
-    (λ c. search needs)
-    (λ c. search needs)
+    (λ c. c .match .keys1)
+    (λ c. c .match .keys2)
+    (λ c. c .before .before .before .before .choice .kept .1 .1 .0)
     returns
     right-requires
-    (λ c. search needs)
+    (λ c. c .before .before .right .kept .1 .1 .0 ∙ c .before .before .before .before .before .before .before .before .before .choice .kept .1 .1 .0)
     returns-2)

@@ -2,13 +2,12 @@
 use mathlib.Core.Path.{_≡_, refl, _∙_}
 use Prim.Native.Nat.{_-_}
 use native.Mathlib.Omega.{arith}
-use borrow.Author.Needs.{needs}
 use lib.ListN.{length}
 use Rattle.lexer.proofs.TokenLaws.{past-token, past-end}
 use Rattle.signs.specs.Buffer.{Grown}
 use Rattle.signs.specs.BufferLaws.{grown-none, grown-more}
 use Rattle.forms.specs.Forms.{Ruled}
-use Rattle.forms.proofs.FormLaws.{rule-other, rule-half, rule-next, context-to, context-not, contexts-end}
+use Rattle.forms.proofs.FormLaws.{rule-other, rule-half, rule-next, context-to, context-not, contexts-end, slash-token}
 use Rattle.forms.proofs.contexts.Statement.{statement}
 use Rattle.forms.proofs.contexts.Tie as tie
 
@@ -33,22 +32,22 @@ returns-2 c = rule-other (c .before .before .before .before .before .before .loo
 context-requires : tie.Need-context-requires Inv-loop μ-loop
 context-requires c κs =
     let d = c .before .before .before .before .before .before .before .before .loop .inv .0 in
-    let x = c .before .before .before .before .before .before .token .ensures .token (λ e. omega arith) in
+    let x = c .before .before .before .before .before .before .token .ensures .token (slash-token _ (c .before .before .if2 .left)) in
     (c .before .before .before .before .before .before .before .before .before .before .before .pre .0, omega (arith, d .room, d .few, x .falls))
 
 returns-3 : tie.Need-returns-3 Inv-loop μ-loop
 returns-3 c =
-    let x = c .before .before .before .before .before .before .before .before .before .before .before .token .ensures .token (λ e. omega arith) in
+    let x = c .before .before .before .before .before .before .before .before .before .before .before .token .ensures .token (slash-token _ (c .before .before .before .before .before .before .before .if2 .left)) in
     rule-half (c .before .before .before .before .before .before .before .before .before .before .before .before .before .loop .inv .0) x (c .before .before .before .before .before .before .before .if2 .left) (context-not (c .before .before .before .before .context .ensures) (c .enum-told .given .1))
 
 loop-less : tie.Need-loop-less Inv-loop μ-loop
 loop-less c =
-    let x = c .before .before .before .before .before .before .before .before .before .before .before .before .token .ensures .token (λ e. omega arith) in
+    let x = c .before .before .before .before .before .before .before .before .before .before .before .before .token .ensures .token (slash-token _ (c .before .before .before .before .before .before .before .before .if2 .left)) in
     omega (arith, x .falls, context-to (c .before .before .before .before .before .context .ensures) (c .before .n .given .1) .falls)
 
 loop-again : tie.Need-loop-again Inv-loop μ-loop
 loop-again c =
-    let x = c .before .before .before .before .before .before .before .before .before .before .before .before .token .ensures .token (λ e. omega arith) in
+    let x = c .before .before .before .before .before .before .before .before .before .before .before .before .token .ensures .token (slash-token _ (c .before .before .before .before .before .before .before .before .if2 .left)) in
     let t = context-to (c .before .before .before .before .before .context .ensures) (c .before .n .given .1) in
     (rule-next (c .before .before .before .before .before .before .before .before .before .before .before .before .before .before .loop .inv .0) x _ _ (c .before .before .before .before .before .before .before .before .if2 .left) t (c .before .before .before .before .before .context .kept .1 .1 .0), c .before .before .before .before .before .context .kept .1 .1 .0 ∙ c .before .before .before .before .before .before .before .before .before .before .before .before .before .before .loop .inv .1, grown-more (c .before .before .before .before .before .before .before .before .before .before .before .before .before .before .loop .inv .2) (t .grown))
 
@@ -60,14 +59,14 @@ contexts-spec =
     μ-loop
     loop-holds
     token-requires
-    (λ c. search needs)
+    (λ c. c .before .before .before .before .before .loop .inv .1)
     returns
-    (λ c. search needs)
+    (λ c. c .before .before .before .before .before .before .loop .inv .1)
     returns-2
     context-requires
-    (λ c. search needs)
-    (λ c. search needs)
-    (λ c. search needs)
+    (λ c. c .match .keys1)
+    (λ c. c .match .keys2)
+    (λ c. c .before .before .before .before .context .kept .1 .1 .0 ∙ c .before .before .before .before .before .before .before .before .before .before .before .before .before .loop .inv .1)
     returns-3
     loop-less
     loop-again)

@@ -1,6 +1,5 @@
 -- `forms::definition` meets its contract: each answer is one case of `defineOf`.
 use native.Mathlib.Omega.{arith}
-use borrow.Author.Needs.{needs}
 use Rattle.lexer.proofs.TokenLaws.{past-token, past-end}
 use Rattle.choice.specs.ReadingLaws.{read-to, choice-bad}
 use Rattle.forms.proofs.FormLaws.{define-other, define-bad, define-more, define-whole}
@@ -45,12 +44,12 @@ definition-spec =
     token-requires
     returns
     choice-requires
-    (λ c. search needs)
-    (λ c. search needs)
-    (λ c. search needs)
+    (λ c. c .match .keys1)
+    (λ c. c .match .keys2)
+    (λ c. c .before .before .before .before .choice .kept .1 .1 .0)
     returns-2
     skip-requires
-    (λ c. search needs)
+    (λ c. c .before .before .before .before .before .before .before .before .before .choice .kept .1 .1 .0)
     returns-3
-    (λ c. search needs)
+    (λ c. c .before .before .before .before .before .before .before .before .before .choice .kept .1 .1 .0)
     returns-4)

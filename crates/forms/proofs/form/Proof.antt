@@ -29,11 +29,11 @@ form-spec =
     (tie.spec
     returns
     (λ c. search needs)
-    (λ c κs. search needs)
+    (λ c κs. c .before .before .before .before .pre .0)
     definition-requires
-    (λ c. search needs)
+    (λ c. c .before .before .definition .kept .1 .1 .0)
     returns-2
     rule-requires
-    (λ c. search needs)
+    (λ c. c .before .before .rule .kept .1 .1 .0)
     returns-3
     returns-4)

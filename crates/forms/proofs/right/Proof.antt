@@ -1,6 +1,6 @@
 -- `forms::right` meets its contract: each answer is one case of `rightOf`.
+use mathlib.Core.Path.{refl}
 use native.Mathlib.Omega.{arith}
-use borrow.Author.Needs.{needs}
 use Rattle.forms.proofs.FormLaws.{right-other, right-read}
 use Rattle.forms.proofs.right.Statement.{statement}
 use Rattle.forms.proofs.right.Tie as tie
@@ -27,7 +27,7 @@ right-spec =
     (tie.spec
     token-requires
     returns
-    (λ c. search needs)
+    (λ c. refl)
     choice-then-requires
-    (λ c. search needs)
+    (λ c. c .before .before .choice-then .kept .1 .1 .0)
     returns-2)

@@ -1,6 +1,6 @@
 -- `forms::rule` meets its contract: a pattern that is read begins the rule, the line that ends ends it.
+use mathlib.Core.Path.{refl, _∙_}
 use native.Mathlib.Omega.{arith}
-use borrow.Author.Needs.{needs}
 use Rattle.forms.proofs.FormLaws.{rule-none, rule-start, rule-not, rule-end, then-to, then-not, contexts-to, contexts-not}
 use Rattle.forms.proofs.rule.Statement.{statement}
 use Rattle.forms.proofs.rule.Tie as tie
@@ -35,18 +35,18 @@ pub rule-spec : {M : Type 1} → statement M
 rule-spec =
     tie.close
     (tie.spec
-    (λ c. search needs)
+    (λ c. refl)
     choice-then-requires
-    (λ c. search needs)
-    (λ c. search needs)
-    (λ c. search needs)
+    (λ c. c .match .keys1)
+    (λ c. c .match .keys2)
+    (λ c. c .before .before .before .before .choice-then .kept .1 .1 .0)
     returns
     contexts-requires
-    (λ c. search needs)
-    (λ c. search needs)
-    (λ c. search needs)
+    (λ c. c .match2 .keys1)
+    (λ c. c .match2 .keys2)
+    (λ c. c .before .before .before .before .contexts .kept .1 .1 .0 ∙ c .before .before .before .before .before .before .before .before .before .before .before .choice-then .kept .1 .1 .0)
     returns-2
-    (λ c. search needs)
+    (λ c. refl)
     put-row-requires
-    (λ c. search needs)
+    (λ c. c .before .before .put-row .kept .0 ∙ c .before .before .before .before .before .before .before .before .before .before .contexts .kept .1 .1 .0 ∙ c .before .before .before .before .before .before .before .before .before .before .before .before .before .before .before .before .before .choice-then .kept .1 .1 .0)
     returns-3)

@@ -2,8 +2,7 @@
 use Prim.Native.Nat.{_-_}
 use native.Mathlib.Omega.{arith}
 use lib.ListN.{length}
-use borrow.Author.Needs.{needs}
-use Rattle.plans.proofs.ManyLaws.{Upto, upto-none, upto-length, upto-line, upto-end, judges-all, judges-full}
+use Rattle.plans.proofs.ManyLaws.{line-less, end-less, Upto, upto-none, upto-length, upto-within, upto-full, upto-fits, upto-more, upto-count, upto-line, upto-end, judges-all, judges-full}
 use Rattle.plans.proofs.judge_each.Statement.{statement}
 use Rattle.plans.proofs.judge_each.Tie as tie
 
@@ -17,13 +16,13 @@ loop-holds : tie.Need-loop-holds Inv-loop μ-loop
 loop-holds c = upto-none _ _ _
 
 sub-room : tie.Need-sub-room Inv-loop μ-loop
-sub-room c = omega (arith, c .before .loop .inv .room, upto-length _ _ _ _ _ _ _ (c .before .loop .inv))
+sub-room c = upto-within _ _ _ _ _ _ _ (c .before .loop .inv)
 
 same-length : tie.Need-same-length Inv-loop μ-loop
 same-length c = upto-length _ _ _ _ _ _ _ (c .before .before .loop .inv)
 
 returns : tie.Need-returns Inv-loop μ-loop
-returns c = judges-full _ _ _ _ _ _ _ (c .before .before .loop .inv) (c .before .before .before .before .before .before .pre .0 .loads) (omega (arith, c .if1 .taken, upto-length _ _ _ _ _ _ _ (c .before .before .loop .inv)))
+returns c = judges-full _ _ _ _ _ _ _ (c .before .before .loop .inv) (c .before .before .before .before .before .before .pre .0 .loads) (upto-full _ _ _ _ _ _ _ (c .before .before .loop .inv) (c .if1 .taken))
 
 line-end-requires : tie.Need-line-end-requires Inv-loop μ-loop
 line-end-requires c κs = c .before .before .loop .inv .inside
@@ -32,28 +31,28 @@ judge-line-requires : tie.Need-judge-line-requires Inv-loop μ-loop
 judge-line-requires c κs = (c .before .before .before .before .before .before .before .before .pre .0, c .before .before .before .before .before .before .before .before .pre .1, c .before .line-end .ensures .low, c .before .line-end .ensures .most)
 
 put-answer-requires : tie.Need-put-answer-requires Inv-loop μ-loop
-put-answer-requires c κs = omega (arith, c .before .before .before .if1 .left, c .before .before .before .before .before .loop .inv .room, upto-length _ _ _ _ _ _ _ (c .before .before .before .before .before .loop .inv))
-
-add-count : tie.Need-add-count Inv-loop μ-loop
-add-count c = omega (arith, c .before .before .before .before .before .before .before .before .loop .inv .place, c .before .before .before .before .before .before .if1 .left, c .before .before .before .before .before .before .before .before .loop .inv .room, upto-length _ _ _ _ _ _ _ (c .before .before .before .before .before .before .before .before .loop .inv))
+put-answer-requires c κs = upto-fits _ _ _ _ _ _ _ (c .before .before .before .before .before .loop .inv) (c .before .before .before .if1 .left)
 
 add-at : tie.Need-add-at Inv-loop μ-loop
 add-at c = omega (arith, c .before .before .before .before .before .before .if1 .left, c .before .before .before .before .before .before .before .before .loop .inv .room, upto-length _ _ _ _ _ _ _ (c .before .before .before .before .before .before .before .before .loop .inv))
+
+add-count : tie.Need-add-count Inv-loop μ-loop
+add-count c = upto-count _ _ _ _ _ _ _ (c .before .before .before .before .before .before .before .before .loop .inv) (add-at c)
 
 add-from : tie.Need-add-from Inv-loop μ-loop
 add-from c = omega (arith, c .if2 .taken)
 
 loop-less : tie.Need-loop-less Inv-loop μ-loop
-loop-less c = omega (arith, c .if2 .taken, c .before .before .before .before .before .before .line-end .ensures .low)
+loop-less c = line-less _ _ _ (c .before .before .before .before .before .before .line-end .ensures .low) (c .if2 .taken)
 
 loop-again : tie.Need-loop-again Inv-loop μ-loop
-loop-again c = upto-line _ _ _ _ _ _ _ (c .before .before .before .before .before .before .before .before .before .loop .inv) (c .before .before .before .before .before .before .before .before .loop-test .taken) _ (c .before .before .before .before .before .before .line-end .ensures) (c .before .before .before .before .judge-line .result) (c .before .before .before .before .judge-line .ensures) (omega (arith, c .before .before .before .before .before .before .before .if1 .left, upto-length _ _ _ _ _ _ _ (c .before .before .before .before .before .before .before .before .before .loop .inv))) _ (c .before .before .before .put-answer .ensures) (c .if2 .taken)
+loop-again c = upto-line _ _ _ _ _ _ _ (c .before .before .before .before .before .before .before .before .before .loop .inv) (c .before .before .before .before .before .before .before .before .loop-test .taken) _ (c .before .before .before .before .before .before .line-end .ensures) (c .before .before .before .before .judge-line .result) (c .before .before .before .before .judge-line .ensures) (upto-more _ _ _ _ _ _ _ (c .before .before .before .before .before .before .before .before .before .loop .inv) (c .before .before .before .before .before .before .before .if1 .left)) _ (c .before .before .before .put-answer .ensures) (c .if2 .taken)
 
 loop-less-2 : tie.Need-loop-less-2 Inv-loop μ-loop
-loop-less-2 c = omega (arith, c .if2 .left, c .before .before .before .before .before .before .before .before .loop-test .taken)
+loop-less-2 c = end-less _ _ _ (c .before .before .before .before .before .before .before .before .loop-test .taken) (c .if2 .left)
 
 loop-again-2 : tie.Need-loop-again-2 Inv-loop μ-loop
-loop-again-2 c = upto-end _ _ _ _ _ _ _ (c .before .before .before .before .before .before .before .before .before .loop .inv) (c .before .before .before .before .before .before .before .before .loop-test .taken) _ (c .before .before .before .before .before .before .line-end .ensures) (c .before .before .before .before .judge-line .result) (c .before .before .before .before .judge-line .ensures) (omega (arith, c .before .before .before .before .before .before .before .if1 .left, upto-length _ _ _ _ _ _ _ (c .before .before .before .before .before .before .before .before .before .loop .inv))) _ (c .before .before .before .put-answer .ensures) (c .if2 .left)
+loop-again-2 c = upto-end _ _ _ _ _ _ _ (c .before .before .before .before .before .before .before .before .before .loop .inv) (c .before .before .before .before .before .before .before .before .loop-test .taken) _ (c .before .before .before .before .before .before .line-end .ensures) (c .before .before .before .before .judge-line .result) (c .before .before .before .before .judge-line .ensures) (upto-more _ _ _ _ _ _ _ (c .before .before .before .before .before .before .before .before .before .loop .inv) (c .before .before .before .before .before .before .before .if1 .left)) _ (c .before .before .before .put-answer .ensures) (c .if2 .left)
 
 same-length-2 : tie.Need-same-length-2 Inv-loop μ-loop
 same-length-2 c = upto-length _ _ _ _ _ _ _ (c .before .loop .inv)

@@ -1,10 +1,9 @@
 -- `number` meets its contract. The loop: i rows are written, and the order is the listing after i turns.
-use borrow.Author.Needs.{needs}
 use mathlib.Core.Path.{_≡_, refl, _∙_}
 use Prim.Native.Nat.{_-_}
 use native.Mathlib.Omega.{arith}
 use lib.ListN.{length}
-use Rattle.minimise.proofs.NumberLaws.{Arranged, order-starts, order-rolling, order-full, order-turns, order-markable, order-ends, too-many}
+use Rattle.minimise.proofs.NumberLaws.{zero-small, Arranged, order-double, order-first, order-own, order-next, order-less, order-starts, order-rolling, order-full, order-turns, order-markable, order-ends, too-many}
 use Rattle.minimise.proofs.number.number.Statement.{statement}
 use Rattle.minimise.proofs.number.number.Tie as tie
 
@@ -15,13 +14,13 @@ abbrev μ-loop : tie.MeasureT-loop
 μ-loop table base n k most work₀ slot₀ m₀ i₀ work slot m i = most - i
 
 add-put : tie.Need-add-put Inv-loop μ-loop
-add-put c = omega (arith, c .before .before .before .before .pre .fits .order, c .before .before .before .before .pre .fits .some)
+add-put c = order-double (c .before .before .before .before .pre)
 
 put-requires : tie.Need-put-requires Inv-loop μ-loop
-put-requires c κs = (omega (arith, c .before .before .before .before .pre .fits .order, c .before .before .before .before .pre .fits .some), omega arith)
+put-requires c κs = (order-first (c .before .before .before .before .pre), zero-small)
 
 put-requires-2 : tie.Need-put-requires-2 Inv-loop μ-loop
-put-requires-2 c κs = (omega (arith, c .before .before .before .put .kept .0, c .before .before .before .before .before .before .before .before .pre .fits .order, c .before .before .before .before .before .before .before .before .pre .fits .some), omega arith)
+put-requires-2 c κs = (order-own (c .before .before .before .before .before .before .before .before .pre) _ (c .before .before .before .put .kept .0), zero-small)
 
 loop-holds : tie.Need-loop-holds Inv-loop μ-loop
 loop-holds c = (order-starts (c .before .before .before .before .before .before .before .before .before .before .before .pre) _ _ (c .before .before .before .before .before .before .put .ensures) (c .before .before .put2 .ensures), refl, refl)
@@ -33,10 +32,10 @@ returns : tie.Need-returns Inv-loop μ-loop
 returns c = too-many _ _ _ _ (order-full (c .before .before .before .before .before .before .before .before .before .before .before .before .before .before .before .before .before .before .before .before .before .before .pre) _ _ _ _ (c .before .before .before .before .before .before .before .before .before .before .loop .inv .0) (c .before .before .before .before .before .before .before .before .before .before .loop .inv .2) _ _ _ (c .before .before .before .before .before .before .before .before .before .loop-test .taken) (c .before .before .before .before .before .before .row .ensures) (c .enum-told .given .1))
 
 add-i : tie.Need-add-i Inv-loop μ-loop
-add-i c = omega (arith, c .before .before .before .before .before .before .before .before .before .before .before .loop .inv .0 .roll .within, c .before .before .before .before .before .before .before .before .before .before .before .before .before .before .before .before .before .before .before .before .before .before .before .pre .fits .bytes)
+add-i c = order-next (c .before .before .before .before .before .before .before .before .before .before .before .before .before .before .before .before .before .before .before .before .before .before .before .pre) (c .before .before .before .before .before .before .before .before .before .before .before .loop .inv .0) (c .before .before .before .before .before .before .before .before .before .before .loop-test .taken)
 
 loop-less : tie.Need-loop-less Inv-loop μ-loop
-loop-less c = omega (arith, c .before .before .before .before .before .before .before .before .before .before .before .loop .inv .0 .roll .within)
+loop-less c = order-less (c .before .before .before .before .before .before .before .before .before .before .before .before .before .before .before .before .before .before .before .before .before .before .before .pre) (c .before .before .before .before .before .before .before .before .before .before .before .loop .inv .0) (c .before .before .before .before .before .before .before .before .before .before .loop-test .taken)
 
 loop-again : tie.Need-loop-again Inv-loop μ-loop
 loop-again c = (
@@ -62,15 +61,15 @@ number-spec =
     put-requires-2
     loop-holds
     row-requires
-    (λ c. search needs)
-    (λ c. search needs)
-    (λ c. search needs)
-    (λ c. search needs)
+    (λ c. c .match .keys1)
+    (λ c. c .match .keys2)
+    (λ c. c .before .before .before .before .before .before .row .kept .1 .1 .1 .1 .1 .1 .1 .0 ∙ c .before .before .before .before .before .before .before .before .before .before .loop .inv .1 ∙ c .before .before .before .before .before .before .before .before .before .before .before .before .before .put2 .kept .0 ∙ c .before .before .before .before .before .before .before .before .before .before .before .before .before .before .before .before .before .put .kept .0)
+    (λ c. c .before .before .before .before .before .before .row .kept .1 .1 .1 .1 .1 .1 .1 .1 .0 ∙ c .before .before .before .before .before .before .before .before .before .before .loop .inv .2)
     returns
     add-i
     loop-less
     loop-again
     mark-requires
-    (λ c. search needs)
-    (λ c. search needs)
+    (λ c. c .before .before .before .before .before .before .loop .inv .1 ∙ c .before .before .before .before .before .before .before .before .before .put2 .kept .0 ∙ c .before .before .before .before .before .before .before .before .before .before .before .before .before .put .kept .0)
+    (λ c. c .before .before .mark .kept .1 .1 .1 .1 .0 ∙ c .before .before .before .before .before .before .loop .inv .2)
     returns-2)

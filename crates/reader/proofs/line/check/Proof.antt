@@ -1,8 +1,6 @@
 -- `reader::line::check` meets its contract: 3 to 7 in their order.
-use native.Mathlib.Omega.{arith}
 use borrow.Author.Tests.{not-true, not-false}
-use borrow.Author.Needs.{needs}
-use Rattle.reader.proofs.CheckLaws.{passed-few, stopped-tests, stopped-form, stopped-symbol, stopped-name, read-name, stopped-rule, read-rule, form-name, form-rules, form-not}
+use Rattle.reader.proofs.CheckLaws.{passed-few, stopped-tests, stopped-form, stopped-symbol, stopped-name, read-name, stopped-rule, read-rule, form-name, form-rules, form-not, from-first}
 use Rattle.reader.proofs.line.check.Statement.{statement}
 use Rattle.reader.proofs.line.check.Tie as tie
 
@@ -13,7 +11,7 @@ form-requires : tie.Need-form-requires
 form-requires c κs = (c .before .before .before .before .before .before .pre .0, (c .before .before .before .before .before .before .pre .1, passed-few _ _ _ (c .before .before .line-test .ensures) (c .before .if1 .left)))
 
 part-all-known-end : tie.Need-part-all-known-end
-part-all-known-end c = omega (arith, (form-name (c .before .before .before .before .before .before .form .ensures) (c .before .before .name .given .1)) .fits)
+part-all-known-end c = (form-name (c .before .before .before .before .before .before .form .ensures) (c .before .before .name .given .1)) .fits
 
 returns-2 : tie.Need-returns-2
 returns-2 c = stopped-symbol _ _ _ (c .before .before .before .before .before .before .before .before .before .before .before .before .line-test .ensures) _ _ _ _ (c .before .before .before .before .before .before .before .before .before .before .before .if1 .left) (form-name (c .before .before .before .before .before .before .before .before .before .form .ensures) (c .before .before .before .before .before .name .given .1)) (c .before .all-known .ensures) (not-true _ (c .if2 .taken))
@@ -25,7 +23,7 @@ returns-3 : tie.Need-returns-3
 returns-3 c = stopped-name _ _ _ (c .before .before .before .before .before .before .before .before .before .before .before .before .before .before .line-test .ensures) _ _ _ _ (c .before .before .before .before .before .before .before .before .before .before .before .before .before .if1 .left) (form-name (c .before .before .before .before .before .before .before .before .before .before .before .form .ensures) (c .before .before .before .before .before .before .before .name .given .1)) (c .before .before .before .all-known .ensures) (not-false _ (c .before .before .if2 .left)) _ (c .before .has .ensures) (c .if3 .taken)
 
 part-all-known-end-2 : tie.Need-part-all-known-end-2
-part-all-known-end-2 c = omega (arith, (form-rules (c .before .before .before .before .before .before .form .ensures) (c .before .before .len .given .1)) .fits)
+part-all-known-end-2 c = (form-rules (c .before .before .before .before .before .before .form .ensures) (c .before .before .len .given .1)) .fits
 
 returns-4 : tie.Need-returns-4
 returns-4 c = stopped-rule _ _ _ (c .before .before .before .before .before .before .before .before .before .before .before .before .line-test .ensures) _ _ _ _ (c .before .before .before .before .before .before .before .before .before .before .before .if1 .left) (form-rules (c .before .before .before .before .before .before .before .before .before .form .ensures) (c .before .before .before .before .before .len .given .1)) (c .before .all-known2 .ensures) (not-true _ (c .if4 .taken))
@@ -43,30 +41,30 @@ pub check-spec : {M : Type 1} → statement M
 check-spec =
     tie.close
     (tie.spec
-    (λ c κs. search needs)
+    (λ c κs. c .before .before .before .pre .0)
     returns
     form-requires
-    (λ c. search needs)
-    (λ c. search needs)
-    (λ c. search needs)
+    (λ c. c .match .keys1)
+    (λ c. from-first _)
+    (λ c. from-first _)
     part-all-known-end
-    (λ c κs. search needs)
-    (λ c. search needs)
+    (λ c κs. c .before .before .before .before .before .before .before .before .before .before .before .before .before .before .pre .0)
+    (λ c. c .before .before .before .before .before .before .before .before .before .form .kept .1 .1 .0)
     returns-2
     has-requires
-    (λ c. search needs)
+    (λ c. c .before .before .before .before .before .before .before .before .before .before .before .form .kept .1 .1 .0)
     returns-3
-    (λ c. search needs)
-    (λ c. search needs)
-    (λ c. search needs)
+    (λ c. c .match .keys2)
+    (λ c. from-first _)
+    (λ c. from-first _)
     part-all-known-end-2
-    (λ c κs. search needs)
-    (λ c. search needs)
+    (λ c κs. c .before .before .before .before .before .before .before .before .before .before .before .before .before .before .pre .0)
+    (λ c. c .before .before .before .before .before .before .before .before .before .form .kept .1 .1 .0)
     returns-4
-    (λ c. search needs)
-    (λ c. search needs)
+    (λ c. c .match .keys3)
+    (λ c. c .before .before .before .before .before .before .before .before .before .before .before .form .kept .1 .1 .0)
     returns-5
-    (λ c. search needs)
+    (λ c. c .before .before .before .before .before .before .before .before .before .form .kept .1 .1 .0)
     returns-6
-    (λ c. search needs)
+    (λ c. c .before .before .before .before .form .kept .1 .1 .0)
     returns-7)
