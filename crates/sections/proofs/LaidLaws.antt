@@ -62,18 +62,15 @@ laid-two a x y old h =
     let z : a + 2 ≡ suc (suc a) = omega arith in
     rw (z, add-one a) (laid-byte a (suc a) (x ∷ []) old (set old a x) y (laid-byte a a [] old old x (laid-none a old) (omega arith)) (omega (arith, length-set old a x)))
 
--- two numbers
-pub laid-entry : (a x y : ℕ) (c₀ c₁ c₂ : List ℕ) → Laid a (a + 2) (littleEndian 2 x) c₀ c₁ → Laid (a + 2) (a + 2 + 2) (littleEndian 2 y) c₁ c₂
-    → Laid a (a + 4) (littleEndian 2 x ++ littleEndian 2 y) c₀ c₂
-laid-entry a x y c₀ c₁ c₂ l r =
-    let z : a + 2 + 2 ≡ a + 4 = omega arith in
-    laid-join a (a + 2) (a + 4) _ _ c₀ c₁ c₂ (omega arith) l (rw z at r)
-
--- the three entries
-pub laid-contents : (m n : ℕ) (c₀ c₁ c₂ c₃ : List ℕ)
-    → Laid 0 4 (littleEndian 2 12 ++ littleEndian 2 m) c₀ c₁ → Laid 4 8 (littleEndian 2 (12 + m) ++ littleEndian 2 n) c₁ c₂
-    → Laid 8 12 (littleEndian 2 (12 + m + n) ++ littleEndian 2 (n * m)) c₂ c₃
-    → Laid 0 12 (contents narrow m n) c₀ c₃
-laid-contents m n c₀ c₁ c₂ c₃ a b c =
+-- the six numbers
+pub laid-contents : (m n : ℕ) (c₀ c₁ c₂ c₃ c₄ c₅ c₆ : List ℕ)
+    → Laid 0 2 (littleEndian 2 12) c₀ c₁ → Laid 2 4 (littleEndian 2 m) c₁ c₂ → Laid 4 6 (littleEndian 2 (12 + m)) c₂ c₃
+    → Laid 6 8 (littleEndian 2 n) c₃ c₄ → Laid 8 10 (littleEndian 2 (12 + m + n)) c₄ c₅ → Laid 10 12 (littleEndian 2 (n * m)) c₅ c₆
+    → Laid 0 12 (contents narrow m n) c₀ c₆
+laid-contents m n c₀ c₁ c₂ c₃ c₄ c₅ c₆ a b c d e f =
     let z : n * m * 1 ≡ n * m = omega arith in
-    rw z (laid-join 0 8 12 _ _ c₀ c₂ c₃ (omega arith) (laid-join 0 4 8 _ _ c₀ c₁ c₂ (omega arith) a b) c)
+    rw z
+    (laid-join 0 10 12 _ _ c₀ c₅ c₆ (omega arith)
+    (laid-join 0 8 10 _ _ c₀ c₄ c₅ (omega arith)
+    (laid-join 0 6 8 _ _ c₀ c₃ c₄ (omega arith)
+    (laid-join 0 4 6 _ _ c₀ c₂ c₃ (omega arith) (laid-join 0 2 4 _ _ c₀ c₁ c₂ (omega arith) a b) c) d) e) f)

@@ -3,4 +3,3 @@ pub mod LaidLaws
 pub mod RestrictLaws
 pub mod MarkLaws
 pub mod MoveLaws
-mod LoopLaws

@@ -1,6 +1,5 @@
 // The card's contents, six numbers of two bytes, and its letters.
 ghost use Prim.Native.Nat.{_+_, _≤_};
-ghost use mathlib.Core.List.{_++_};
 ghost use lib.ListN.{length};
 ghost use Rattle.automata.specs.Format.{narrow};
 ghost use Rattle.card.specs.Number.{littleEndian};
@@ -16,23 +15,17 @@ fn put_number(card: &mut [u8], at: usize, x: usize)
     card[at + 1] = (x / 256 % 256) as u8;
 }
 
-// An entry of the contents: where a part begins, and its length.
-fn put_entry(card: &mut [u8], at: usize, offset: usize, size: usize)
-    requires { ⌜ at + 4 ≤ length (now card) ⌝ }
-    ensures { λ _. ⌜ Laid at (at + 4) (littleEndian 2 offset ++ littleEndian 2 size) (now (card .entry)) (now (card .exit)) ⌝ }
-{
-    put_number(card, at, offset);
-    put_number(card, at + 2, size);
-}
-
 // For letters, marks and moves in turn an offset and a length.
 pub fn put_contents(m: usize, n: usize, card: &mut [u8])
     requires { ⌜ cardLength narrow m n ≤ length (now card) ⌝ }
     ensures { λ _. ⌜ Laid 0 12 (contents narrow m n) (now (card .entry)) (now (card .exit)) ⌝ }
 {
-    put_entry(card, 0, 12, m);
-    put_entry(card, 4, 12 + m, n);
-    put_entry(card, 8, 12 + m + n, n * m);
+    put_number(card, 0, 12);
+    put_number(card, 2, m);
+    put_number(card, 4, 12 + m);
+    put_number(card, 6, n);
+    put_number(card, 8, 12 + m + n);
+    put_number(card, 10, n * m);
 }
 
 // The letters.

@@ -7,7 +7,6 @@ use borrow.Author.Needs.{needs}
 use Rattle.automata.specs.Basics.{tab}
 use Rattle.sections.specs.Laid.{Laid}
 use Rattle.sections.proofs.LaidLaws.{laid-none, laid-next, tab-getD}
-use Rattle.sections.proofs.LoopLaws.{none-yet, turn-most, turn-less, all-turned}
 use Rattle.sections.proofs.contents.put_letters.Statement.{statement}
 use Rattle.sections.proofs.contents.put_letters.Tie as tie
 
@@ -18,17 +17,17 @@ abbrev μ-loop : tie.MeasureT-loop
 μ-loop letters card₀ i₀ card i = length letters - i
 
 loop-holds : tie.Need-loop-holds Inv-loop μ-loop
-loop-holds c = (none-yet _, laid-none 12 _)
+loop-holds c = (omega arith, laid-none 12 _)
 
 slice-write-card : tie.Need-slice-write-card Inv-loop μ-loop
 slice-write-card c = omega (arith, c .before .before .loop .inv .1 .long)
 
 loop-again : tie.Need-loop-again Inv-loop μ-loop
-loop-again c = (turn-most _ _ (c .before .loop-test .taken), laid-next 12 _ _ _ _ _ (c .before .before .loop .inv .1) (omega (arith, c .before .before .loop .inv .1 .long)) refl)
+loop-again c = (omega arith, laid-next 12 _ _ _ _ _ (c .before .before .loop .inv .1) (omega (arith, c .before .before .loop .inv .1 .long)) refl)
 
 returns : tie.Need-returns Inv-loop μ-loop
 returns c =
-    let z : c .before .loop .i ≡ length (c .before .before .args .letters .now) = all-turned _ _ (c .before .loop .inv .0) (c .loop-test .left) in
+    let z : c .before .loop .i ≡ length (c .before .before .args .letters .now) = omega arith in
     rw (z, tab-getD (c .before .before .args .letters .now)) at (c .before .loop .inv .1)
 
 pub put-letters-spec : {M : Type 1} → statement M
@@ -38,11 +37,11 @@ put-letters-spec =
     Inv-loop
     μ-loop
     loop-holds
-    (λ c. c .before .loop-test .taken)
+    (λ c. search needs)
     (λ c. search needs)
     slice-write-card
     (λ c. search needs)
-    (λ c. turn-less _ _ (c .before .loop-test .taken))
+    (λ c. search needs)
     loop-again
-    (λ c. c .before .loop .inv .1 .long)
+    (λ c. search needs)
     returns)

@@ -2,10 +2,10 @@
 use mathlib.Core.Path.{sym, _∙_}
 use Prim.Native.Nat.{_≤_, _-_}
 use native.Mathlib.Omega.{arith}
+use borrow.Author.Needs.{needs}
 use Rattle.sections.specs.StateMark.{accepts}
 use Rattle.numbering.proofs.NumberLaws.{row-of}
 use Rattle.sections.proofs.MarkLaws.{flag-set, StaysUpto, stays-start, stays-next, mark-stays, mark-leaves}
-use Rattle.sections.proofs.LoopLaws.{none-yet, turn-most, turn-wide, turn-less}
 use Rattle.sections.proofs.marks.mark.Statement.{statement}
 use Rattle.sections.proofs.marks.mark.Tie as tie
 
@@ -31,7 +31,7 @@ add-at : tie.Need-add-at Inv-loop μ-loop
 add-at c = omega (arith, row-of _ _ _ (c .before .before .before .pre .0) _ (c .before .before .before .pre .1) .room)
 
 loop-holds : tie.Need-loop-holds Inv-loop μ-loop
-loop-holds c = (none-yet _, stays-start _ _ _)
+loop-holds c = (omega arith, stays-start _ _ _)
 
 add-wide : tie.Need-add-wide Inv-loop μ-loop
 add-wide c = omega (arith, row-of _ _ _ (c .before .before .before .before .before .pre .0) _ (c .before .before .before .before .before .pre .1) .room)
@@ -43,7 +43,7 @@ returns-2 : tie.Need-returns-2 Inv-loop μ-loop
 returns-2 c = mark-leaves _ _ _ _ (c .before .before .before .before .before .if1 .left) (c .before .before .before .loop-test .taken) (λ e. c .if2 .taken (c .before .wide .ensures ∙ e))
 
 loop-again : tie.Need-loop-again Inv-loop μ-loop
-loop-again c = (turn-most _ _ (c .before .before .before .loop-test .taken), stays-next _ _ _ _ (c .before .before .before .before .loop .inv .1) (sym (c .before .wide .ensures) ∙ c .if2 .left))
+loop-again c = (omega arith, stays-next _ _ _ _ (c .before .before .before .before .loop .inv .1) (sym (c .before .wide .ensures) ∙ c .if2 .left))
 
 returns-3 : tie.Need-returns-3 Inv-loop μ-loop
 returns-3 c = mark-stays _ _ _ _ (c .before .before .if1 .left) (c .loop-test .left) (c .before .loop .inv .1)
@@ -62,9 +62,9 @@ mark-spec =
     loop-holds
     add-wide
     shared-slice-read-wide
-    (λ c κs. tt)
+    (λ c κs. search needs)
     returns-2
-    (λ c. turn-wide _ _ (c .before .before .before .loop-test .taken) (c .before .before .before .before .before .before .before .before .fits .m))
-    (λ c. turn-less _ _ (c .before .before .before .loop-test .taken))
+    (λ c. search needs)
+    (λ c. search needs)
     loop-again
     returns-3)

@@ -10,7 +10,6 @@ use Rattle.sections.specs.Parts.{markBytes}
 use Rattle.sections.proofs.LaidLaws.{laid-none, laid-next, tab-getD}
 use Rattle.sections.proofs.RestrictLaws.{order-state, count-few}
 use Rattle.sections.proofs.MarkLaws.{mark-right, marks-count}
-use Rattle.sections.proofs.LoopLaws.{none-yet, turn-most, turn-wide, turn-less, all-turned}
 use Rattle.sections.proofs.marks.put_marks.Statement.{statement}
 use Rattle.sections.proofs.marks.put_marks.Tie as tie
 
@@ -21,7 +20,7 @@ abbrev μ-loop : tie.MeasureT-loop
 μ-loop slot n m count order card₀ at i₀ card i = count - i
 
 loop-holds : tie.Need-loop-holds Inv-loop μ-loop
-loop-holds c = (none-yet _, (let z : 12 + c .before .before .args .m + 0 ≡ 12 + c .before .before .args .m = omega arith in rw z (laid-none (12 + c .before .before .args .m) _)))
+loop-holds c = (omega arith, (let z : 12 + c .before .before .args .m + 0 ≡ 12 + c .before .before .args .m = omega arith in rw z (laid-none (12 + c .before .before .args .m) _)))
 
 element-copy-out-wide : tie.Need-element-copy-out-wide Inv-loop μ-loop
 element-copy-out-wide c = omega (arith, count-few _ _ _ (c .before .before .before .before .pre .0 .closed) _ _ (c .before .before .before .before .pre .1 .0), c .before .before .before .before .pre .0 .closed .flags)
@@ -37,13 +36,13 @@ slice-write-card c = omega (arith, c .before .before .before .before .before .be
 
 loop-again : tie.Need-loop-again Inv-loop μ-loop
 loop-again c = (
-  turn-most _ _ (c .before .before .before .loop-test .taken),
+  omega arith,
   laid-next _ _ _ _ _ _ (c .before .before .before .before .loop .inv .1) (omega (arith, c .before .before .before .before .before .before .before .pre .1 .1, c .before .before .before .before .loop .inv .1 .long)) (mark-right _ _ _ (c .before .before .before .before .before .before .before .pre .0) _ _ (c .before .before .before .before .before .before .before .pre .1 .0) _ _ (c .before .before .before .loop-test .taken) (c .before .wide .ensures) _ (c .mark .ensures)),
 )
 
 returns : tie.Need-returns Inv-loop μ-loop
 returns c =
-    let y : c .before .loop .i ≡ c .before .before .before .before .args .count = all-turned _ _ (c .before .loop .inv .0) (c .loop-test .left) in
+    let y : c .before .loop .i ≡ c .before .before .before .before .args .count = omega arith in
     let z : length (markBytes (c .before .before .before .before .args .n) (c .before .before .before .before .args .m) (c .before .before .before .before .args .slot .now)) ≡ c .before .before .before .before .args .count = marks-count _ _ _ (c .before .before .before .before .pre .0) _ _ (c .before .before .before .before .pre .1 .0) in
     rw (← tab-getD (markBytes (c .before .before .before .before .args .n) (c .before .before .before .before .args .m) (c .before .before .before .before .args .slot .now)), z) (rw y at (c .before .loop .inv .1))
 
@@ -56,12 +55,12 @@ put-marks-spec =
     (λ c. search needs)
     loop-holds
     element-copy-out-wide
-    (λ c κs. tt)
+    (λ c κs. search needs)
     mark-requires
     add-card
     slice-write-card
-    (λ c. turn-wide _ _ (c .before .before .before .loop-test .taken) (c .before .before .before .before .before .before .before .fits .count))
-    (λ c. turn-less _ _ (c .before .before .before .loop-test .taken))
+    (λ c. search needs)
+    (λ c. search needs)
     loop-again
-    (λ c. c .before .loop .inv .1 .long)
+    (λ c. search needs)
     returns)

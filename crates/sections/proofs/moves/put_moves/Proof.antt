@@ -8,7 +8,6 @@ use Rattle.sections.specs.Laid.{Laid}
 use Rattle.numbering.proofs.NumberLaws.{row-of}
 use Rattle.sections.proofs.RestrictLaws.{order-state}
 use Rattle.sections.proofs.MoveLaws.{rowsUpto, rows-start, rows-next, rows-end, rows-place, rows-room}
-use Rattle.sections.proofs.LoopLaws.{none-yet, turn-most, turn-wide, turn-less, all-turned}
 use Rattle.sections.proofs.moves.put_moves.Statement.{statement}
 use Rattle.sections.proofs.moves.put_moves.Tie as tie
 
@@ -20,7 +19,7 @@ abbrev μ-loop : tie.MeasureT-loop
 μ-loop slot n m count order number card₀ to₀ i₀ card to i = count - i
 
 loop-holds : tie.Need-loop-holds Inv-loop μ-loop
-loop-holds c = (none-yet _, omega (arith, zero-mul (c .before .before .args .m)), rows-start _ _ _ _ _ _)
+loop-holds c = (omega arith, omega (arith, zero-mul (c .before .before .args .m)), rows-start _ _ _ _ _ _)
 
 element-copy-out-wide : tie.Need-element-copy-out-wide Inv-loop μ-loop
 element-copy-out-wide c = omega (arith, c .before .before .before .before .pre .0 .roll .within)
@@ -45,14 +44,14 @@ add-to-3 c = omega (arith, c .before .before .before .before .before .before .be
 
 loop-again : tie.Need-loop-again Inv-loop μ-loop
 loop-again c = (
-  turn-most _ _ (c .before .before .before .before .before .before .loop-test .taken),
+  omega arith,
   omega (arith, c .before .before .before .before .before .before .before .loop .inv .1, rows-place (c .before .before .before .before .before .before .before .before .before .before .args .m) (c .before .before .before .before .before .before .before .loop .i)),
   rows-next _ _ _ _ _ _ _ _ _ _ _ (c .before .before .before .before .wide .ensures) (c .before .before .before .before .before .before .before .loop .inv .2) (c .before .before .put-row .ensures),
 )
 
 returns : tie.Need-returns Inv-loop μ-loop
 returns c =
-    let y : c .before .loop .i ≡ c .before .before .before .before .args .count = all-turned _ _ (c .before .loop .inv .0) (c .loop-test .left) in
+    let y : c .before .loop .i ≡ c .before .before .before .before .args .count = omega arith in
     let z : c .before .loop .to ≡ 12 + c .before .before .before .before .args .m + c .before .before .before .before .args .count + c .before .before .before .before .args .count * c .before .before .before .before .args .m = rw y at (c .before .loop .inv .1) in
     rw (y, z, rows-end _ _ _ _ _ _ (c .before .before .before .before .pre .0)) at (c .before .loop .inv .2)
 
@@ -66,14 +65,14 @@ put-moves-spec =
     (λ c. search needs)
     loop-holds
     element-copy-out-wide
-    (λ c κs. tt)
+    (λ c κs. search needs)
     add-put-row
     mul-put-row
     add-put-row-2
     put-row-requires
     add-to-3
-    (λ c. turn-wide _ _ (c .before .before .before .before .before .before .loop-test .taken) (c .before .before .before .before .before .before .before .before .before .before .fits .count))
-    (λ c. turn-less _ _ (c .before .before .before .before .before .before .loop-test .taken))
+    (λ c. search needs)
+    (λ c. search needs)
     loop-again
-    (λ c. c .before .loop .inv .2 .long)
+    (λ c. search needs)
     returns)

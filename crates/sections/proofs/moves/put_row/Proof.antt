@@ -7,7 +7,6 @@ use borrow.Author.Needs.{needs}
 use Rattle.sections.specs.Laid.{Laid}
 use Rattle.sections.specs.Parts.{rowBytes}
 use Rattle.sections.proofs.LaidLaws.{laid-none, laid-next}
-use Rattle.sections.proofs.LoopLaws.{none-yet, turn-most, turn-wide, turn-less, all-turned}
 use Rattle.sections.proofs.moves.put_row.Statement.{statement}
 use Rattle.sections.proofs.moves.put_row.Tie as tie
 
@@ -18,7 +17,7 @@ abbrev μ-loop : tie.MeasureT-loop
 μ-loop slot at m number to card₀ c₀ card c = m - c
 
 loop-holds : tie.Need-loop-holds Inv-loop μ-loop
-loop-holds c = (none-yet _, (let z : c .before .before .args .to + 0 ≡ c .before .before .args .to = omega arith in rw z (laid-none (c .before .before .args .to) _)))
+loop-holds c = (omega arith, (let z : c .before .before .args .to + 0 ≡ c .before .before .args .to = omega arith in rw z (laid-none (c .before .before .args .to) _)))
 
 add-wide : tie.Need-add-wide Inv-loop μ-loop
 add-wide c = omega (arith, c .before .before .before .before .pre .0 .room)
@@ -34,12 +33,12 @@ slice-write-card c = omega (arith, c .before .before .before .before .loop .inv 
 
 loop-again : tie.Need-loop-again Inv-loop μ-loop
 loop-again c = (
-  turn-most _ _ (c .before .before .before .loop-test .taken),
+  omega arith,
   laid-next _ _ _ _ _ _ (c .before .before .before .before .loop .inv .1) (omega (arith, c .before .before .before .before .loop .inv .1 .long)) (ap (λ x. getD (c .before .before .before .before .before .before .before .args .number .now) x 0) (c .before .wide .ensures)),
 )
 
 returns : tie.Need-returns Inv-loop μ-loop
-returns c = let z : c .before .loop .c ≡ c .before .before .before .before .args .m = all-turned _ _ (c .before .loop .inv .0) (c .loop-test .left) in rw z at (c .before .loop .inv .1)
+returns c = let z : c .before .loop .c ≡ c .before .before .before .before .args .m = omega arith in rw z at (c .before .loop .inv .1)
 
 pub put-row-spec : {M : Type 1} → statement M
 put-row-spec =
@@ -50,12 +49,12 @@ put-row-spec =
     loop-holds
     add-wide
     shared-slice-read-wide
-    (λ c κs. tt)
+    (λ c κs. search needs)
     element-copy-out-card
     (λ c. search needs)
     slice-write-card
-    (λ c. turn-wide _ _ (c .before .before .before .loop-test .taken) (c .before .before .before .before .before .before .before .fits .m))
-    (λ c. turn-less _ _ (c .before .before .before .loop-test .taken))
+    (λ c. search needs)
+    (λ c. search needs)
     loop-again
-    (λ c. c .before .loop .inv .1 .long)
+    (λ c. search needs)
     returns)
