@@ -21,7 +21,7 @@ use Rattle.run.specs.Walk.{Ready, ColumnTable, KnownTo}
 use Rattle.board.proofs.EntryLaws.{rejected-some}
 use Rattle.forbidden.specs.declared.Answer.{Answer}
 use Rattle.forbidden.specs.Reading.{answerOf}
-use Rattle.forbidden.specs.Pass.{Searchable, Searched}
+use Rattle.forbidden.specs.Pass.{mostPlaces, Searchable, Searched}
 
 -- a card that does not load
 pub refused-card : (c plan : List ℕ) (k : ℕ) → rejected k ≡ load narrow c → refused k 0 ≡ shortest narrow c plan
@@ -45,7 +45,7 @@ module _ (c : List ℕ) (m n : ℕ) (R : Ready c m n) (plan : List ℕ) where
   searchable table k t K h = record { ready = R; columns = t; known = at-known (lettersOf narrow c) plan (λ j b. K .known j (omega arith) (omega arith)) }
 
   -- with room for the places,
-  pub room : n + n + 2 ≤ 242
+  pub room : n + n + 2 ≤ mostPlaces
   room = omega (arith, load-loaded narrow c (R .loads) .contents .states-most, R .states)
 
   -- and its answer is the reply.

@@ -14,6 +14,10 @@ use Rattle.forbidden.specs.declared.Answer.{Answer}
 use Rattle.forbidden.specs.declared.Best.{Best}
 use Rattle.forbidden.specs.Reading.{answerOf}
 
+-- two rows of places: 120 states, and an entry more where no state is dead
+abbrev pub mostPlaces : ℕ
+mostPlaces = 242
+
 -- A card that loads, with its table of columns, and a plan of its letters.
 pub record Searchable (c : List ℕ) (m n : ℕ) (table plan : List ℕ) : Type 0 where
   pub ready : Ready c m n

@@ -12,7 +12,8 @@ use Rattle.choice.specs.ReadingLaws.{read-to, read-not}
 use Rattle.choice.proofs.ReadLaws.{Ahead, choice-row, blend-row, chain-row, ahead-start, ahead-more, row-done}
 use Rattle.choice.proofs.KindLaws.{choices-stop, blends-stop, chains-stop, below-items, above-items, choices-turn, blends-turn, chains-turn}
 use Rattle.choice.proofs.ItemLaws.{item-refused, item-done, atom-put, atom-refused, bracket-refused, bracket-open, bracket-done}
-use Rattle.choice.proofs.TurnLaws.{leaf-kind, open-kind, close-kind, item-kind, blend-kind, bar-kind, below-not, above-not, below-minus, above-ampersand, below-atoms, above-atoms, inside-falls, inside-room, put-room, turn-less, turn-fewer, turn-falls, loop-falls, row-falls, row-room, part-room, same-less, same-falls, item-falls, item-room, suffix-room, negate-room}
+use Rattle.choice.proofs.TurnLaws.{leaf-kind, open-kind, close-kind, item-kind, blend-kind, bar-kind, below-not, above-not, below-minus, above-ampersand, below-atoms, above-atoms, inside-falls, inside-room}
+use Rattle.choice.proofs.TurnLaws.{put-room, turn-less, turn-fewer, turn-falls, loop-falls, row-falls, row-room, part-room, same-less, same-falls, item-falls, item-room, suffix-room, negate-room}
 use borrow.Fn.Kinds.{In}
 use borrow.Fn.PlainCycle.{Measures, is, falls, and}
 use Rattle.choice.proofs.atom.Reads as atom
@@ -111,7 +112,12 @@ atom-put-requires : (t : ℕ) → atom-lts.Need-put-requires (atom-claims t) (at
 atom-put-requires t c κs = put-room (c .before .before .before .before .token .ensures .token (leaf-kind _ (c .before .if2 .taken))) _ _ (c .before .before .before .before .before .before .before .before .pre .1 .1)
 
 atom-returns-2 : (t : ℕ) → atom-lts.Need-returns-2 (atom-claims t) (atom-at t) atom.Post
-atom-returns-2 t c = atom-put (c .before .before .before .before .before .before .before .token .ensures .token (leaf-kind _ (c .before .before .before .before .if2 .taken))) (c .before .before .before .before .before .if1 .left) (c .before .before .before .before .if2 .taken) (c .before .before .put .ensures)
+atom-returns-2 t c =
+    let c2 = c .before .before in
+    let c4 = c2 .before .before in
+    let c5 = c4 .before in
+    let c7 = c5 .before .before in
+    atom-put (c7 .token .ensures .token (leaf-kind _ (c4 .if2 .taken))) (c5 .if1 .left) (c4 .if2 .taken) (c2 .put .ensures)
 
 atom-returns-3 : (t : ℕ) → atom-lts.Need-returns-3 (atom-claims t) (atom-at t) atom.Post
 atom-returns-3 t c = atom-refused _ (c .before .before .before .before .token .ensures .kind-is) (above-atoms _ (c .before .if2 .left) (c .if3 .taken))
@@ -122,13 +128,30 @@ atom-choice-requires t c κs =
     (inside-falls x (c .before .before .before .before .before .before .before .before .before .pre .0), (c .before .before .before .before .before .before .before .before .before .pre .1 .0, inside-room x _ _ (c .before .before .before .before .before .before .before .before .before .pre .1 .1)))
 
 atom-returns-4 : (t : ℕ) → atom-lts.Need-returns-4 (atom-claims t) (atom-at t) atom.Post
-atom-returns-4 t c = bracket-refused (c .before .before .before .before .before .before .before .before .before .before .token .ensures .token (open-kind _ (c .before .before .before .before .before .before .if3 .left))) (c .before .before .before .before .before .before .if3 .left) (c .before .before .before .before .choice .ensures) (c .enum-told .given .1)
+atom-returns-4 t c =
+    let c4 = c .before .before .before .before in
+    let c6 = c4 .before .before in
+    let c10 = c6 .before .before .before .before in
+    bracket-refused (c10 .token .ensures .token (open-kind _ (c6 .if3 .left))) (c6 .if3 .left) (c4 .choice .ensures) (c .enum-told .given .1)
 
 atom-returns-5 : (t : ℕ) → atom-lts.Need-returns-5 (atom-claims t) (atom-at t) atom.Post
-atom-returns-5 t c = bracket-open (c .before .before .before .before .before .before .before .before .before .before .before .before .before .before .token .ensures .token (open-kind _ (c .before .before .before .before .before .before .before .before .before .before .if3 .left))) (c .before .before .before .before .before .before .before .before .before .before .if3 .left) (c .before .before .before .before .before .before .before .before .choice .ensures) _ (c .before .before .before .before .n .given .1) (c .before .token2 .ensures .kind-is) (c .if4 .taken)
+atom-returns-5 t c =
+    let c1 = c .before in
+    let c4 = c1 .before .before .before in
+    let c8 = c4 .before .before .before .before in
+    let c10 = c8 .before .before in
+    let c14 = c10 .before .before .before .before in
+    bracket-open (c14 .token .ensures .token (open-kind _ (c10 .if3 .left))) (c10 .if3 .left) (c8 .choice .ensures) _ (c4 .n .given .1) (c1 .token2 .ensures .kind-is) (c .if4 .taken)
 
 atom-returns-6 : (t : ℕ) → atom-lts.Need-returns-6 (atom-claims t) (atom-at t) atom.Post
-atom-returns-6 t c = bracket-done (c .before .before .before .before .before .before .before .before .before .before .before .before .before .before .before .token .ensures .token (open-kind _ (c .before .before .before .before .before .before .before .before .before .before .before .if3 .left))) (c .before .before .before .before .before .before .before .before .before .before .before .if3 .left) (c .before .before .before .before .before .before .before .before .before .choice .ensures) (c .before .before .before .before .before .n .given .1) (c .before .before .token2 .ensures .token (close-kind _ (c .before .if4 .left))) (c .before .if4 .left)
+atom-returns-6 t c =
+    let c1 = c .before in
+    let c2 = c1 .before in
+    let c5 = c2 .before .before .before in
+    let c9 = c5 .before .before .before .before in
+    let c11 = c9 .before .before in
+    let c15 = c11 .before .before .before .before in
+    bracket-done (c15 .token .ensures .token (open-kind _ (c11 .if3 .left))) (c11 .if3 .left) (c9 .choice .ensures) (c5 .n .given .1) (c2 .token2 .ensures .token (close-kind _ (c1 .if4 .left))) (c1 .if4 .left)
 
 abbrev blend-Inv-loop : blend-lts.InvT-loop
 blend-Inv-loop kinds s out₀ here₀ more₀ operator₀ out here more operator = Ahead a-blend a-chain more-blends more operator s out₀ here₀ out here
@@ -154,10 +177,22 @@ blend-put-if-requires t c κs =
     part-room _ _ _ _ _ _ _ (w .room) (v .room) (c .before .before .before .before .before .before .before .before .before .before .before .pre .1 .1) (v .same-length) (c .before .before .before .before .before .before .chain .kept .1 .1 .0)
 
 blend-returns-2 : (t : ℕ) → blend-lts.Need-returns-2 (blend-claims t) (blend-at t) blend.Post blend-Inv-loop blend-μ-loop
-blend-returns-2 t c = row-done blend-row (c .before .before .before .before .before .before .before .before .before .before .before .before .before .before .loop .inv .reads _ _ _ _ (read-to (c .before .before .before .before .before .before .before .before .before .before .before .before .chain .ensures) (c .before .before .before .before .before .before .before .before .n .given .1)) (c .before .before .before .before .before .put-if .ensures) (c .before .before .before .before .before .before .before .before .before .before .before .before .chain .kept .1 .1 .0) (c .before .before .before .before .before .put-if .kept .0)) (blends-stop _ _ (c .before .token .ensures .kind-is) (below-not _ _ (c .if1 .taken)) (below-minus _ (c .if1 .taken)))
+blend-returns-2 t c =
+    let c1 = c .before in
+    let c5 = c1 .before .before .before .before in
+    let c8 = c5 .before .before .before in
+    let c12 = c8 .before .before .before .before in
+    let c14 = c12 .before .before in
+    row-done blend-row (c14 .loop .inv .reads _ _ _ _ (read-to (c12 .chain .ensures) (c8 .n .given .1)) (c5 .put-if .ensures) (c12 .chain .kept .1 .1 .0) (c5 .put-if .kept .0)) (blends-stop _ _ (c1 .token .ensures .kind-is) (below-not _ _ (c .if1 .taken)) (below-minus _ (c .if1 .taken)))
 
 blend-returns-3 : (t : ℕ) → blend-lts.Need-returns-3 (blend-claims t) (blend-at t) blend.Post blend-Inv-loop blend-μ-loop
-blend-returns-3 t c = row-done blend-row (c .before .before .before .before .before .before .before .before .before .before .before .before .before .before .before .loop .inv .reads _ _ _ _ (read-to (c .before .before .before .before .before .before .before .before .before .before .before .before .before .chain .ensures) (c .before .before .before .before .before .before .before .before .before .n .given .1)) (c .before .before .before .before .before .before .put-if .ensures) (c .before .before .before .before .before .before .before .before .before .before .before .before .before .chain .kept .1 .1 .0) (c .before .before .before .before .before .before .put-if .kept .0)) (blends-stop _ _ (c .before .before .token .ensures .kind-is) (above-ampersand _ (c .if2 .taken)) (above-not _ _ (c .if2 .taken)))
+blend-returns-3 t c =
+    let c2 = c .before .before in
+    let c6 = c2 .before .before .before .before in
+    let c9 = c6 .before .before .before in
+    let c13 = c9 .before .before .before .before in
+    let c15 = c13 .before .before in
+    row-done blend-row (c15 .loop .inv .reads _ _ _ _ (read-to (c13 .chain .ensures) (c9 .n .given .1)) (c6 .put-if .ensures) (c13 .chain .kept .1 .1 .0) (c6 .put-if .kept .0)) (blends-stop _ _ (c2 .token .ensures .kind-is) (above-ampersand _ (c .if2 .taken)) (above-not _ _ (c .if2 .taken)))
 
 blend-loop-less : (t : ℕ) → blend-lts.Need-loop-less (blend-claims t) (blend-at t) blend.Post blend-Inv-loop blend-μ-loop
 blend-loop-less t c =
@@ -169,7 +204,11 @@ blend-loop-again : (t : ℕ) → blend-lts.Need-loop-again (blend-claims t) (ble
 blend-loop-again t c =
     let x = c .before .before .before .token .ensures .token (blend-kind _ (c .before .if2 .left)) in
     let y = blends-turn x (c .before .before .if1 .left) (c .before .if2 .left) in
-    ahead-more blend-row (y .op) (c .before .before .before .before .before .before .before .before .before .before .before .before .before .before .before .before .loop .inv .reads _ _ _ _ (read-to (c .before .before .before .before .before .before .before .before .before .before .before .before .before .before .chain .ensures) (c .before .before .before .before .before .before .before .before .before .before .n .given .1)) (c .before .before .before .before .before .before .before .put-if .ensures) (c .before .before .before .before .before .before .before .before .before .before .before .before .before .before .chain .kept .1 .1 .0) (c .before .before .before .before .before .before .before .put-if .kept .0)) (y .turn) refl (turn-less x _ _ (blend-row .part-less)) (turn-fewer x) (turn-falls x) (y .code)
+    ahead-more blend-row (y .op) (c .before .before .before .before .before .before .before .before .before .before .before .before .before .before .before .before .loop .inv .reads _ _ _ _
+    (read-to (c .before .before .before .before .before .before .before .before .before .before .before .before .before .before .chain .ensures)
+    (c .before .before .before .before .before .before .before .before .before .before .n .given .1)) (c .before .before .before .before .before .before .before .put-if .ensures)
+    (c .before .before .before .before .before .before .before .before .before .before .before .before .before .before .chain .kept .1 .1 .0)
+    (c .before .before .before .before .before .before .before .put-if .kept .0)) (y .turn) refl (turn-less x _ _ (blend-row .part-less)) (turn-fewer x) (turn-falls x) (y .code)
 
 abbrev chain-Inv-loop : chain-lts.InvT-loop
 chain-Inv-loop kinds s out₀ here₀ more₀ out here more = Ahead a-chain an-item more-chains more joinCode s out₀ here₀ out here
@@ -208,7 +247,12 @@ chain-loop-less t c =
 chain-loop-again : (t : ℕ) → chain-lts.Need-loop-again (chain-claims t) (chain-at t) chain.Post chain-Inv-loop chain-μ-loop
 chain-loop-again t c =
     let x = c .before .before .token .ensures .token (item-kind _ (c .if2 .left)) in
-    ahead-more chain-row join (c .before .before .before .before .before .before .before .before .before .before .before .before .before .before .before .loop .inv .reads _ _ _ _ (read-to (c .before .before .before .before .before .before .before .before .before .before .before .before .before .item .ensures) (c .before .before .before .before .before .before .before .before .before .n .given .1)) (c .before .before .before .before .before .before .put-if .ensures) (c .before .before .before .before .before .before .before .before .before .before .before .before .before .item .kept .1 .1 .0) (c .before .before .before .before .before .before .put-if .kept .0)) (chains-turn x (c .before .if1 .left) (c .if2 .left)) refl (same-less _ _ _ (chain-row .part-less)) (le-refl _) (le-refl _) (λ e g. refl)
+    ahead-more chain-row join (c .before .before .before .before .before .before .before .before .before .before .before .before .before .before .before .loop .inv .reads _ _ _ _
+    (read-to (c .before .before .before .before .before .before .before .before .before .before .before .before .before .item .ensures)
+    (c .before .before .before .before .before .before .before .before .before .n .given .1)) (c .before .before .before .before .before .before .put-if .ensures)
+    (c .before .before .before .before .before .before .before .before .before .before .before .before .before .item .kept .1 .1 .0)
+    (c .before .before .before .before .before .before .put-if .kept .0)) (chains-turn x (c .before .if1 .left) (c .if2 .left)) refl (same-less _ _ _ (chain-row .part-less)) (le-refl _)
+    (le-refl _) (λ e g. refl)
 
 abbrev choice-Inv-loop : choice-lts.InvT-loop
 choice-Inv-loop kinds s out₀ here₀ more₀ out here more = Ahead a-choice a-blend more-choices more eitherCode s out₀ here₀ out here
@@ -245,7 +289,12 @@ choice-loop-less t c =
 choice-loop-again : (t : ℕ) → choice-lts.Need-loop-again (choice-claims t) (choice-at t) choice.Post choice-Inv-loop choice-μ-loop
 choice-loop-again t c =
     let x = c .before .before .token .ensures .token (bar-kind _ (c .before .if1 .left)) in
-    ahead-more choice-row (pair either) (c .before .before .before .before .before .before .before .before .before .before .before .before .before .before .before .loop .inv .reads _ _ _ _ (read-to (c .before .before .before .before .before .before .before .before .before .before .before .before .before .blend .ensures) (c .before .before .before .before .before .before .before .before .before .n .given .1)) (c .before .before .before .before .before .before .put-if .ensures) (c .before .before .before .before .before .before .before .before .before .before .before .before .before .blend .kept .1 .1 .0) (c .before .before .before .before .before .before .put-if .kept .0)) (choices-turn x (c .before .if1 .left)) refl (turn-less x _ _ (choice-row .part-less)) (turn-fewer x) (turn-falls x) (λ e g. refl)
+    ahead-more choice-row (pair either) (c .before .before .before .before .before .before .before .before .before .before .before .before .before .before .before .loop .inv .reads _ _ _ _
+    (read-to (c .before .before .before .before .before .before .before .before .before .before .before .before .before .blend .ensures)
+    (c .before .before .before .before .before .before .before .before .before .n .given .1)) (c .before .before .before .before .before .before .put-if .ensures)
+    (c .before .before .before .before .before .before .before .before .before .before .before .before .before .blend .kept .1 .1 .0)
+    (c .before .before .before .before .before .before .put-if .kept .0)) (choices-turn x (c .before .if1 .left)) refl (turn-less x _ _ (choice-row .part-less)) (turn-fewer x) (turn-falls x)
+    (λ e g. refl)
 
 item-atom-requires : (t : ℕ) → item-lts.Need-atom-requires (item-claims t) (item-at t) item.Post
 item-atom-requires t c κs =
@@ -258,14 +307,19 @@ item-returns t c = item-refused (c .before .before .before .before .before .befo
 item-suffixed-requires : (t : ℕ) → item-lts.Need-suffixed-requires (item-claims t) (item-at t) item.Post
 item-suffixed-requires t c κs =
     let x = c .before .before .before .before .before .before .before .before .before .nots .ensures .passed in
-    let z = read-to (c .before .before .before .before .before .before .atom .ensures) (c .before .before .n .given .1) in
-    (c .before .before .before .before .before .before .before .before .before .before .before .before .before .pre .1 .0, suffix-room _ _ _ _ _ _ _ (z .room) (x .falls) (c .before .before .before .before .before .before .before .before .before .before .before .before .before .pre .1 .1) (c .before .before .before .before .before .before .atom .kept .1 .1 .0))
+    let z = read-to (c .before .before .before .before .before .before .atom .ensures) (c .before .before .n .given .1) in (
+      c .before .before .before .before .before .before .before .before .before .before .before .before .before .pre .1 .0,
+      suffix-room _ _ _ _ _ _ _ (z .room) (x .falls)
+          (c .before .before .before .before .before .before .before .before .before .before .before .before .before .pre .1 .1) (c .before .before .before .before .before .before .atom .kept .1 .1 .0),
+    )
 
 item-negate-requires : (t : ℕ) → item-lts.Need-negate-requires (item-claims t) (item-at t) item.Post
 item-negate-requires t c κs =
     let x = c .before .before .before .before .before .before .before .before .before .before .before .before .before .nots .ensures .passed in
     let z = read-to (c .before .before .before .before .before .before .before .before .before .before .atom .ensures) (c .before .before .before .before .before .before .n .given .1) in
-    negate-room _ _ _ _ _ _ _ _ _ _ (c .before .before .before .suffixed .ensures .room) (z .room) (x .falls) (c .before .before .before .before .before .before .before .before .before .before .before .before .before .before .before .before .before .pre .1 .1) (c .before .before .before .before .before .before .before .before .before .before .atom .kept .1 .1 .0) (c .before .before .before .suffixed .kept .1 .1 .0)
+    negate-room _ _ _ _ _ _ _ _ _ _ (c .before .before .before .suffixed .ensures .room) (z .room) (x .falls)
+    (c .before .before .before .before .before .before .before .before .before .before .before .before .before .before .before .before .before .pre .1 .1)
+    (c .before .before .before .before .before .before .before .before .before .before .atom .kept .1 .1 .0) (c .before .before .before .suffixed .kept .1 .1 .0)
 
 item-returns-2 : (t : ℕ) → item-lts.Need-returns-2 (item-claims t) (item-at t) item.Post
 item-returns-2 t c = item-done (c .before .before .before .before .before .before .before .before .before .before .before .before .before .before .before .before .nots .ensures) (c .before .before .before .before .before .before .before .before .before .before .before .before .before .atom .ensures) (c .before .before .before .before .before .before .before .before .before .n .given .1) (c .before .before .before .before .before .before .suffixed .ensures) (c .before .before .negate .ensures)
@@ -304,9 +358,12 @@ pub +atom+blend+chain+choice+item-spec : {M : Type 1} → statement M
     (blend-returns t)
     (blend-put-if-requires t)
     (λ c κs. c .before .before .before .before .before .before .before .before .before .before .before .before .before .before .before .pre .1 .0)
-    (λ c. c .before .before .before .before .before .put-if .kept .0 ∙ c .before .before .before .before .before .before .before .before .before .before .before .before .chain .kept .1 .1 .0 ∙ c .before .before .before .before .before .before .before .before .before .before .before .before .before .before .loop .inv .same-length)
+    (λ c. c .before .before .before .before .before .put-if .kept .0 ∙ c .before .before .before .before .before .before .before .before .before .before .before .before .chain .kept .1 .1 .0
+    ∙ c .before .before .before .before .before .before .before .before .before .before .before .before .before .before .loop .inv .same-length)
     (blend-returns-2 t)
-    (λ c. c .before .before .before .before .before .before .put-if .kept .0 ∙ c .before .before .before .before .before .before .before .before .before .before .before .before .before .chain .kept .1 .1 .0 ∙ c .before .before .before .before .before .before .before .before .before .before .before .before .before .before .before .loop .inv .same-length)
+    (λ c. c .before .before .before .before .before .before .put-if .kept .0
+    ∙ c .before .before .before .before .before .before .before .before .before .before .before .before .before .chain .kept .1 .1 .0
+    ∙ c .before .before .before .before .before .before .before .before .before .before .before .before .before .before .before .loop .inv .same-length)
     (blend-returns-3 t)
     (blend-loop-less t)
     (blend-loop-again t))
@@ -323,9 +380,12 @@ pub +atom+blend+chain+choice+item-spec : {M : Type 1} → statement M
     (chain-returns t)
     (chain-put-if-requires t)
     (λ c κs. c .before .before .before .before .before .before .before .before .before .before .before .before .before .before .before .pre .1 .0)
-    (λ c. c .before .before .before .before .before .put-if .kept .0 ∙ c .before .before .before .before .before .before .before .before .before .before .before .before .item .kept .1 .1 .0 ∙ c .before .before .before .before .before .before .before .before .before .before .before .before .before .before .loop .inv .same-length)
+    (λ c. c .before .before .before .before .before .put-if .kept .0 ∙ c .before .before .before .before .before .before .before .before .before .before .before .before .item .kept .1 .1 .0
+    ∙ c .before .before .before .before .before .before .before .before .before .before .before .before .before .before .loop .inv .same-length)
     (chain-returns-2 t)
-    (λ c. c .before .before .before .before .before .before .put-if .kept .0 ∙ c .before .before .before .before .before .before .before .before .before .before .before .before .before .item .kept .1 .1 .0 ∙ c .before .before .before .before .before .before .before .before .before .before .before .before .before .before .before .loop .inv .same-length)
+    (λ c. c .before .before .before .before .before .before .put-if .kept .0
+    ∙ c .before .before .before .before .before .before .before .before .before .before .before .before .before .item .kept .1 .1 .0
+    ∙ c .before .before .before .before .before .before .before .before .before .before .before .before .before .before .before .loop .inv .same-length)
     (chain-returns-3 t)
     (chain-loop-less t)
     (chain-loop-again t))
@@ -342,7 +402,8 @@ pub +atom+blend+chain+choice+item-spec : {M : Type 1} → statement M
     (choice-returns t)
     (choice-put-if-requires t)
     (λ c κs. c .before .before .before .before .before .before .before .before .before .before .before .before .before .before .before .pre .1 .0)
-    (λ c. c .before .before .before .before .before .put-if .kept .0 ∙ c .before .before .before .before .before .before .before .before .before .before .before .before .blend .kept .1 .1 .0 ∙ c .before .before .before .before .before .before .before .before .before .before .before .before .before .before .loop .inv .same-length)
+    (λ c. c .before .before .before .before .before .put-if .kept .0 ∙ c .before .before .before .before .before .before .before .before .before .before .before .before .blend .kept .1 .1 .0
+    ∙ c .before .before .before .before .before .before .before .before .before .before .before .before .before .before .loop .inv .same-length)
     (choice-returns-2 t)
     (choice-loop-less t)
     (choice-loop-again t))

@@ -37,7 +37,16 @@ add-at : tie.Need-add-at Inv-loop μ-loop
 add-at c = omega (arith, next-low _ _ _ _ _ _ _ _ (c .before .before .before .before .before .pre) _ _ (c .before .before .before .before .loop .inv .1) (c .before .before .before .loop-test .taken), c .before .before .before .before .before .good .0 .1)
 
 loop-again : tie.Need-loop-again Inv-loop μ-loop
-loop-again c = (omega arith, next-place _ _ _ _ _ _ _ _ (c .before .before .before .before .before .pre) _ _ (c .before .before .before .before .loop .inv .1) (c .before .before .before .loop-test .taken), stepped-next _ _ _ _ _ _ _ _ (c .before .before .before .before .before .pre) _ _ _ (c .before .before .before .before .loop .inv .2) _ _ (c .before .before .before .loop-test .taken) (place-read _ _ _ _ _ _ _ _ (c .before .before .before .before .before .pre) _ _ _ (c .before .before .before .before .loop .inv .2) _ (c .before .before .before .before .loop .inv .1) (c .before .before .before .loop-test .taken)) (⊎-elim (λ w. inl (w .0 .taken, w .1)) (λ w. inr (w .0 .left, w .1)) (c .if1 .came)))
+loop-again c =
+    let c3 = c .before .before .before in
+    let c4 = c3 .before in
+    let c5 = c4 .before in (
+      omega arith,
+      next-place _ _ _ _ _ _ _ _ (c5 .pre) _ _ (c4 .loop .inv .1) (c3 .loop-test .taken),
+      stepped-next _ _ _ _ _ _ _ _ (c5 .pre) _ _ _ (c4 .loop .inv .2) _ _ (c3 .loop-test .taken)
+          (place-read _ _ _ _ _ _ _ _ (c5 .pre) _ _ _ (c4 .loop .inv .2) _ (c4 .loop .inv .1) (c3 .loop-test .taken))
+          (⊎-elim (λ w. inl (w .0 .taken, w .1)) (λ w. inr (w .0 .left, w .1)) (c .if1 .came)),
+    )
 
 returns : tie.Need-returns Inv-loop μ-loop
 returns c = stepped-done _ _ _ _ _ _ _ _ (c .before .before .pre) _ _ _ (c .before .loop .inv .2) _ (c .before .loop .inv .0) (c .loop-test .left)

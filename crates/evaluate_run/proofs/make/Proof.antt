@@ -9,8 +9,12 @@ run-requires : tie.Need-run-requires
 run-requires c κs =
     let b = c .before .before .before .before .before .before .before in
     let n = b .before .before .before .before .before in
-    let pre = n .before .before .before .pre in
-    (running (pre .0) _ _ _ _ _ _ _ (pre .1) (n .names .ensures) (b .before .before .before .before .registers .ensures) (sym (n .names .ok .1 .0 .1)) (sym (b .before .before .before .before .registers .ok .1 .0 .1)) (sym (b .before .before .before .stack .ok .1 .0 .1)) (sym (b .before .before .rows .ok .1 .0 .1)) (sym (b .before .table .ok .1 .0 .1)) (sym (b .work .ok .1 .0 .1)), one-machine (pre .0))
+    let pre = n .before .before .before .pre in (
+      running (pre .0) _ _ _ _ _ _ _ (pre .1) (n .names .ensures) (b .before .before .before .before .registers .ensures) (sym (n .names .ok .1 .0 .1))
+          (sym (b .before .before .before .before .registers .ok .1 .0 .1)) (sym (b .before .before .before .stack .ok .1 .0 .1)) (sym (b .before .before .rows .ok .1 .0 .1))
+          (sym (b .before .table .ok .1 .0 .1)) (sym (b .work .ok .1 .0 .1)),
+      one-machine (pre .0),
+    )
 
 pub make-spec : {M : Type 1} → statement M
 make-spec =

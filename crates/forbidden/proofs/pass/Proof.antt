@@ -26,7 +26,14 @@ fill-requires : tie.Need-fill-requires Inv-loop μ-loop
 fill-requires c κs = (row-fits _ _ (c .before .before .before .before .before .before .before .before .pre .1), dead-most _ _ _ _ _ (c .before .before .before .before .before .before .before .before .pre .0) _ _ (c .before .before .before .marks .ensures) (c .before .before .dead-state .ensures))
 
 loop-holds : tie.Need-loop-holds Inv-loop μ-loop
-loop-holds c = under-start _ _ _ _ _ (c .before .before .before .before .before .before .before .before .before .before .before .pre .0) _ _ (c .before .before .before .before .before .before .marks .ensures) (c .before .before .before .before .before .dead-state .ensures) _ _ _ (c .before .before .before .before .if1 .left) (c .before .before .before .before .before .before .before .moves .ensures) (c .before .before .before .before .before .before .before .before .before .before .before .pre .1) (c .before .before .fill .ensures)
+loop-holds c =
+    let c2 = c .before .before in
+    let c4 = c2 .before .before in
+    let c5 = c4 .before in
+    let c6 = c5 .before in
+    let c7 = c6 .before in
+    let c11 = c7 .before .before .before .before in
+    under-start _ _ _ _ _ (c11 .pre .0) _ _ (c6 .marks .ensures) (c5 .dead-state .ensures) _ _ _ (c4 .if1 .left) (c7 .moves .ensures) (c11 .pre .1) (c2 .fill .ensures)
 
 cast-b : tie.Need-cast-b Inv-loop μ-loop
 cast-b c = byte-wide _ (c .shared-slice-known3 .given (c .before .before .loop .i - 1))
@@ -44,10 +51,20 @@ step-requires : tie.Need-step-requires Inv-loop μ-loop
 step-requires c κs = under-stepping _ _ _ _ _ _ _ _ _ _ _ _ _ (c .before .before .before .before .loop .inv) (c .before .before .before .loop-test .taken) (c .before .before .shared-slice-known3 .given (c .before .before .before .before .loop .i - 1) .fits)
 
 better-requires : tie.Need-better-requires Inv-loop μ-loop
-better-requires c κs = under-last _ _ _ _ _ _ _ _ _ _ _ _ _ (c .before .before .before .before .before .before .before .loop .inv) (c .before .before .before .before .before .before .loop-test .taken) (c .before .before .before .before .before .shared-slice-known3 .given (c .before .before .before .before .before .before .before .loop .i - 1) .fits) _ _ (c .before .before .step .ensures)
+better-requires c κs =
+    let c2 = c .before .before in
+    let c5 = c2 .before .before .before in
+    let c6 = c5 .before in
+    let c7 = c6 .before in
+    under-last _ _ _ _ _ _ _ _ _ _ _ _ _ (c7 .loop .inv) (c6 .loop-test .taken) (c5 .shared-slice-known3 .given (c7 .loop .i - 1) .fits) _ _ (c2 .step .ensures)
 
 loop-again : tie.Need-loop-again Inv-loop μ-loop
-loop-again c = under-next _ _ _ _ _ _ _ _ _ _ _ _ _ (c .before .before .before .before .before .before .before .before .loop .inv) (c .before .before .before .before .before .before .before .loop-test .taken) (c .before .before .before .before .before .before .shared-slice-known3 .given (c .before .before .before .before .before .before .before .before .loop .i - 1) .fits) _ _ (c .before .before .before .step .ensures) _ (c .better .ensures)
+loop-again c =
+    let c3 = c .before .before .before in
+    let c6 = c3 .before .before .before in
+    let c7 = c6 .before in
+    let c8 = c7 .before in
+    under-next _ _ _ _ _ _ _ _ _ _ _ _ _ (c8 .loop .inv) (c7 .loop-test .taken) (c6 .shared-slice-known3 .given (c8 .loop .i - 1) .fits) _ _ (c3 .step .ensures) _ (c .better .ensures)
 
 returns-2 : tie.Need-returns-2 Inv-loop μ-loop
 returns-2 c = under-none _ _ _ _ _ _ _ _ _ _ _ _ _ (c .before .before .loop .inv) (c .before .loop-test .left) (c .if2 .taken)

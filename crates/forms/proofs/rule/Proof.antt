@@ -48,5 +48,6 @@ rule-spec =
     returns-2
     (λ c. refl)
     put-row-requires
-    (λ c. c .before .before .put-row .kept .0 ∙ c .before .before .before .before .before .before .before .before .before .before .contexts .kept .1 .1 .0 ∙ c .before .before .before .before .before .before .before .before .before .before .before .before .before .before .before .before .before .choice-then .kept .1 .1 .0)
+    (λ c. c .before .before .put-row .kept .0 ∙ c .before .before .before .before .before .before .before .before .before .before .contexts .kept .1 .1 .0
+    ∙ c .before .before .before .before .before .before .before .before .before .before .before .before .before .before .before .before .before .choice-then .kept .1 .1 .0)
     returns-3)

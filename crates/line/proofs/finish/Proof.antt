@@ -4,7 +4,9 @@ use Rattle.line.proofs.finish.Statement.{statement}
 use Rattle.line.proofs.finish.Tie as tie
 
 keep-requires : tie.Need-keep-requires
-keep-requires c κs = (c .before .before .before .before .before .before .before .before .before .before .pre .0 .0, (c .before .before .before .before .before .before .before .before .before .before .pre .1 .0, c .before .before .before .before .before .before .before .before .before .before .pre .1 .1))
+keep-requires c κs =
+    let c10 = c .before .before .before .before .before .before .before .before .before .before in
+    (c10 .pre .0 .0, (c10 .pre .1 .0, c10 .pre .1 .1))
 
 goes-requires : tie.Need-goes-requires
 goes-requires c κs = c .before .before .before .before .before .before .before .before .before .before .before .before .before .before .before .before .before .pre .0
@@ -19,10 +21,17 @@ same-length-3 : tie.Need-same-length-3
 same-length-3 c = c .before .before .before .before .before .before .before .keep .kept .1 .1 .1 .1 .0
 
 returns : tie.Need-returns
-returns c = finishes-as (c .before .before .before .before .before .before .before .before .before .before .before .before .before .before .before .before .before .before .args .read) (c .before .before .before .before .before .before .before .before .before .before .before .before .before .before .before .before .before .before .args .book) (c .before .before .before .before .before .before .before .before .before .before .before .before .before .before .before .before .before .before .args .stack .now) (c .before .before .before .before .before .before .before .before .before .before .before .before .before .before .before .before .before .before .args .low .now) (c .before .before .before .before .before .before .before .before .before .before .before .before .before .before .before .before .before .before .args .high .now) (c .before .before .before .before .before .before .before .before .before .before .before .before .before .before .before .before .before .before .args .registers .now) _ _ _ _ _ _ (c .before .before .before .before .before .before .before .before .before .before .before .before .made .given .1) (c .before .before .before .before .before .before .before .keep .ensures, c .goes .ensures)
+returns c =
+    let c7 = c .before .before .before .before .before .before .before in
+    let c12 = c7 .before .before .before .before .before in
+    let c18 = c12 .before .before .before .before .before .before in
+    finishes-as (c18 .args .read) (c18 .args .book) (c18 .args .stack .now) (c18 .args .low .now) (c18 .args .high .now) (c18 .args .registers .now) _ _ _ _ _ _ (c12 .made .given .1) (c7 .keep .ensures, c .goes .ensures)
 
 returns-2 : tie.Need-returns-2
-returns-2 c = finishes-as (c .before .before .before .before .before .before .before .before .args .read) (c .before .before .before .before .before .before .before .before .args .book) (c .before .before .before .before .before .before .before .before .args .stack .now) (c .before .before .before .before .before .before .before .before .args .low .now) (c .before .before .before .before .before .before .before .before .args .high .now) (c .before .before .before .before .before .before .before .before .args .registers .now) _ _ _ _ _ _ (c .before .before .made2 .given .1) (c .stops .ensures)
+returns-2 c =
+    let c2 = c .before .before in
+    let c8 = c2 .before .before .before .before .before .before in
+    finishes-as (c8 .args .read) (c8 .args .book) (c8 .args .stack .now) (c8 .args .low .now) (c8 .args .high .now) (c8 .args .registers .now) _ _ _ _ _ _ (c2 .made2 .given .1) (c .stops .ensures)
 
 pub finish-spec : {M : Type 1} → statement M
 finish-spec =

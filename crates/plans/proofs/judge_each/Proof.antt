@@ -46,13 +46,27 @@ loop-less : tie.Need-loop-less Inv-loop μ-loop
 loop-less c = line-less _ _ _ (c .before .before .before .before .before .before .line-end .ensures .low) (c .if2 .taken)
 
 loop-again : tie.Need-loop-again Inv-loop μ-loop
-loop-again c = upto-line _ _ _ _ _ _ _ (c .before .before .before .before .before .before .before .before .before .loop .inv) (c .before .before .before .before .before .before .before .before .loop-test .taken) _ (c .before .before .before .before .before .before .line-end .ensures) (c .before .before .before .before .judge-line .result) (c .before .before .before .before .judge-line .ensures) (upto-more _ _ _ _ _ _ _ (c .before .before .before .before .before .before .before .before .before .loop .inv) (c .before .before .before .before .before .before .before .if1 .left)) _ (c .before .before .before .put-answer .ensures) (c .if2 .taken)
+loop-again c =
+    let c3 = c .before .before .before in
+    let c4 = c3 .before in
+    let c6 = c4 .before .before in
+    let c7 = c6 .before in
+    let c8 = c7 .before in
+    let c9 = c8 .before in
+    upto-line _ _ _ _ _ _ _ (c9 .loop .inv) (c8 .loop-test .taken) _ (c6 .line-end .ensures) (c4 .judge-line .result) (c4 .judge-line .ensures) (upto-more _ _ _ _ _ _ _ (c9 .loop .inv) (c7 .if1 .left)) _ (c3 .put-answer .ensures) (c .if2 .taken)
 
 loop-less-2 : tie.Need-loop-less-2 Inv-loop μ-loop
 loop-less-2 c = end-less _ _ _ (c .before .before .before .before .before .before .before .before .loop-test .taken) (c .if2 .left)
 
 loop-again-2 : tie.Need-loop-again-2 Inv-loop μ-loop
-loop-again-2 c = upto-end _ _ _ _ _ _ _ (c .before .before .before .before .before .before .before .before .before .loop .inv) (c .before .before .before .before .before .before .before .before .loop-test .taken) _ (c .before .before .before .before .before .before .line-end .ensures) (c .before .before .before .before .judge-line .result) (c .before .before .before .before .judge-line .ensures) (upto-more _ _ _ _ _ _ _ (c .before .before .before .before .before .before .before .before .before .loop .inv) (c .before .before .before .before .before .before .before .if1 .left)) _ (c .before .before .before .put-answer .ensures) (c .if2 .left)
+loop-again-2 c =
+    let c3 = c .before .before .before in
+    let c4 = c3 .before in
+    let c6 = c4 .before .before in
+    let c7 = c6 .before in
+    let c8 = c7 .before in
+    let c9 = c8 .before in
+    upto-end _ _ _ _ _ _ _ (c9 .loop .inv) (c8 .loop-test .taken) _ (c6 .line-end .ensures) (c4 .judge-line .result) (c4 .judge-line .ensures) (upto-more _ _ _ _ _ _ _ (c9 .loop .inv) (c7 .if1 .left)) _ (c3 .put-answer .ensures) (c .if2 .left)
 
 same-length-2 : tie.Need-same-length-2 Inv-loop μ-loop
 same-length-2 c = upto-length _ _ _ _ _ _ _ (c .before .loop .inv)

@@ -28,10 +28,20 @@ cast-i : tie.Need-cast-i Inv-loop μ-loop
 cast-i c = column-wide _ _ _ (c .before .before .before .before .pre .0) _ (c .before .before .before .before .pre .1) _ (c .before .shared-slice-known .given (c .before .before .before .loop .k))
 
 returns : tie.Need-returns Inv-loop μ-loop
-returns c = known-stop _ _ _ _ (c .before .before .before .before .loop .inv .1) (c .before .before .before .loop-test .taken) (column-unknown _ _ _ (c .before .before .before .before .before .pre .0) _ (c .before .before .before .before .before .pre .1) _ (c .before .before .shared-slice-known .given (c .before .before .before .before .loop .k)) (c .if1 .taken))
+returns c =
+    let c2 = c .before .before in
+    let c3 = c2 .before in
+    let c4 = c3 .before in
+    let c5 = c4 .before in
+    known-stop _ _ _ _ (c4 .loop .inv .1) (c3 .loop-test .taken) (column-unknown _ _ _ (c5 .pre .0) _ (c5 .pre .1) _ (c2 .shared-slice-known .given (c4 .loop .k)) (c .if1 .taken))
 
 loop-again : tie.Need-loop-again Inv-loop μ-loop
-loop-again c = (turn-most _ _ (c .before .before .before .loop-test .taken), known-next _ _ _ _ (c .before .before .before .before .loop .inv .1) (column-known _ _ _ (c .before .before .before .before .before .pre .0) _ (c .before .before .before .before .before .pre .1) _ (c .before .before .shared-slice-known .given (c .before .before .before .before .loop .k)) (c .if1 .left)))
+loop-again c =
+    let c2 = c .before .before in
+    let c3 = c2 .before in
+    let c4 = c3 .before in
+    let c5 = c4 .before in
+    (turn-most _ _ (c3 .loop-test .taken), known-next _ _ _ _ (c4 .loop .inv .1) (column-known _ _ _ (c5 .pre .0) _ (c5 .pre .1) _ (c2 .shared-slice-known .given (c4 .loop .k)) (c .if1 .left)))
 
 returns-2 : tie.Need-returns-2 Inv-loop μ-loop
 returns-2 c = known-end _ _ _ _ (c .before .loop .inv .1) (omega arith)

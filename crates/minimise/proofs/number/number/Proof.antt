@@ -32,10 +32,18 @@ returns : tie.Need-returns Inv-loop μ-loop
 returns c = too-many _ _ _ _ (order-full (c .before .before .before .before .before .before .before .before .before .before .before .before .before .before .before .before .before .before .before .before .before .before .pre) _ _ _ _ (c .before .before .before .before .before .before .before .before .before .before .loop .inv .0) (c .before .before .before .before .before .before .before .before .before .before .loop .inv .2) _ _ _ (c .before .before .before .before .before .before .before .before .before .loop-test .taken) (c .before .before .before .before .before .before .row .ensures) (c .enum-told .given .1))
 
 add-i : tie.Need-add-i Inv-loop μ-loop
-add-i c = order-next (c .before .before .before .before .before .before .before .before .before .before .before .before .before .before .before .before .before .before .before .before .before .before .before .pre) (c .before .before .before .before .before .before .before .before .before .before .before .loop .inv .0) (c .before .before .before .before .before .before .before .before .before .before .loop-test .taken)
+add-i c =
+    let c10 = c .before .before .before .before .before .before .before .before .before .before in
+    let c11 = c10 .before in
+    let c23 = c11 .before .before .before .before .before .before .before .before .before .before .before .before in
+    order-next (c23 .pre) (c11 .loop .inv .0) (c10 .loop-test .taken)
 
 loop-less : tie.Need-loop-less Inv-loop μ-loop
-loop-less c = order-less (c .before .before .before .before .before .before .before .before .before .before .before .before .before .before .before .before .before .before .before .before .before .before .before .pre) (c .before .before .before .before .before .before .before .before .before .before .before .loop .inv .0) (c .before .before .before .before .before .before .before .before .before .before .loop-test .taken)
+loop-less c =
+    let c10 = c .before .before .before .before .before .before .before .before .before .before in
+    let c11 = c10 .before in
+    let c23 = c11 .before .before .before .before .before .before .before .before .before .before .before .before in
+    order-less (c23 .pre) (c11 .loop .inv .0) (c10 .loop-test .taken)
 
 loop-again : tie.Need-loop-again Inv-loop μ-loop
 loop-again c = (
@@ -63,7 +71,9 @@ number-spec =
     row-requires
     (λ c. c .match .keys1)
     (λ c. c .match .keys2)
-    (λ c. c .before .before .before .before .before .before .row .kept .1 .1 .1 .1 .1 .1 .1 .0 ∙ c .before .before .before .before .before .before .before .before .before .before .loop .inv .1 ∙ c .before .before .before .before .before .before .before .before .before .before .before .before .before .put2 .kept .0 ∙ c .before .before .before .before .before .before .before .before .before .before .before .before .before .before .before .before .before .put .kept .0)
+    (λ c. c .before .before .before .before .before .before .row .kept .1 .1 .1 .1 .1 .1 .1 .0 ∙ c .before .before .before .before .before .before .before .before .before .before .loop .inv .1
+    ∙ c .before .before .before .before .before .before .before .before .before .before .before .before .before .put2 .kept .0
+    ∙ c .before .before .before .before .before .before .before .before .before .before .before .before .before .before .before .before .before .put .kept .0)
     (λ c. c .before .before .before .before .before .before .row .kept .1 .1 .1 .1 .1 .1 .1 .1 .0 ∙ c .before .before .before .before .before .before .before .before .before .before .loop .inv .2)
     returns
     add-i

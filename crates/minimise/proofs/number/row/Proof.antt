@@ -5,7 +5,8 @@ use Prim.Native.Nat.{_-_, _≤_}
 use native.Mathlib.Omega.{arith}
 use lib.ListN.{length, take, length-set}
 use Rattle.minimise.specs.Number.{classesOf, Upto}
-use Rattle.minimise.proofs.RowLaws.{Last, numbered-new, numbered-again, last-none, left-wide, right-wide, none-yet, turn-most, turn-wide, turn-less, all-columns, grown-new, grown-old, row-starts, row-state, row-double, row-wide, row-place, row-target, row-cell, row-cell-now, row-next, row-below, row-full, column-byte, column-turns, column-last}
+use Rattle.minimise.proofs.RowLaws.{Last, numbered-new, numbered-again, last-none, left-wide, right-wide, none-yet, turn-most, turn-wide, turn-less, all-columns, grown-new, grown-old}
+use Rattle.minimise.proofs.RowLaws.{row-starts, row-state, row-double, row-wide, row-place, row-target, row-cell, row-cell-now, row-next, row-below, row-full, column-byte, column-turns, column-last}
 use Rattle.minimise.proofs.number.row.Statement.{statement}
 use Rattle.minimise.proofs.number.row.Tie as tie
 
@@ -46,7 +47,8 @@ add-m c = row-next (c .before .before .before .before .before .before .before .b
 
 cast-slot : tie.Need-cast-slot Inv-loop μ-loop
 cast-slot c =
-    column-byte (c .before .before .before .before .before .before .before .before .before .before .pre) _ _ _ _ _ _ (c .before .before .before .before .loop .inv .1) (c .before .before .before .loop-test .taken) (c .before .before .before .before .before .at .ensures) (c .before .before .target .ensures) _ _ _ _ (⊎-elim
+    column-byte (c .before .before .before .before .before .before .before .before .before .before .pre) _ _ _ _ _ _ (c .before .before .before .before .loop .inv .1)
+    (c .before .before .before .loop-test .taken) (c .before .before .before .before .before .at .ensures) (c .before .before .target .ensures) _ _ _ _ (⊎-elim
     (λ v. numbered-new (v .2 .ensures) (v .4 .ensures) (v .7 .left) (v .4 .kept .1 .1 .1 .1 .0) (grown-new _ _ _ (v .8 .taken) (v .10)) (v .9) (v .11) (v .12))
     (⊎-elim
     (λ v. numbered-new (v .2 .ensures) (v .4 .ensures) (v .7 .left) (v .4 .kept .1 .1 .1 .1 .0) (grown-old _ _ _ (v .8 .left) (v .10) (v .4 .ensures .low)) (v .9) (v .11) (v .12))
@@ -72,8 +74,18 @@ loop-again c =
     (⊎-elim
     (λ v. numbered-new (v .2 .ensures) (v .4 .ensures) (v .7 .left) (v .4 .kept .1 .1 .1 .1 .0) (grown-old _ _ _ (v .8 .left) (v .10) (v .4 .ensures .low)) (v .9) (v .11) (v .12))
     (λ v. numbered-again (c .before .before .before .before .loop .inv .1 .roll) (c .before .before .target .ensures .inside) (rw (v .0 .left) (c .before .before .before .before .loop .inv .4)) (v .2) (v .1) (v .3 ∙ sym (v .0 .left)) (v .4)))
-    (c .before .if1 .came) in
-    (turn-most _ _ (c .before .before .before .loop-test .taken), column-turns (c .before .before .before .before .before .before .before .before .before .before .pre) _ _ _ _ _ _ (c .before .before .before .before .loop .inv .1) (c .before .before .before .loop-test .taken) (c .before .before .before .before .before .at .ensures) (c .before .before .target .ensures) _ _ _ _ N _ (c .before .before .before .before .loop .inv .3) refl, N .long ∙ c .before .before .before .before .loop .inv .2, length-set (c .before .before .before .before .loop .slot) _ _ ∙ c .before .before .before .before .loop .inv .3, column-last (c .before .before .before .before .before .before .before .before .before .before .pre) _ _ _ _ _ _ (c .before .before .before .before .loop .inv .1) (c .before .before .before .loop-test .taken) (c .before .before .before .before .before .at .ensures) (c .before .before .target .ensures) _ _ _ _ N)
+    (c .before .if1 .came) in (
+      turn-most _ _ (c .before .before .before .loop-test .taken),
+      column-turns (c .before .before .before .before .before .before .before .before .before .before .pre) _ _ _ _ _ _
+          (c .before .before .before .before .loop .inv .1) (c .before .before .before .loop-test .taken) (c .before .before .before .before .before .at .ensures)
+          (c .before .before .target .ensures) _ _ _ _ N _ (c .before .before .before .before .loop .inv .3) refl,
+      N .long ∙ c .before .before .before .before .loop .inv .2,
+      length-set
+          (c .before .before .before .before .loop .slot) _ _ ∙ c .before .before .before .before .loop .inv .3,
+      column-last
+          (c .before .before .before .before .before .before .before .before .before .before .pre) _ _ _ _ _ _ (c .before .before .before .before .loop .inv .1)
+          (c .before .before .before .loop-test .taken) (c .before .before .before .before .before .at .ensures) (c .before .before .target .ensures) _ _ _ _ N,
+    )
 
 returns-2 : tie.Need-returns-2 Inv-loop μ-loop
 returns-2 c =

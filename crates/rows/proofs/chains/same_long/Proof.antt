@@ -48,7 +48,12 @@ returns : tie.Need-returns Inv-loop μ-loop
 returns c = (λ t. absurd (false≢true t), λ z. absurd (false≢true (sym (not-true _ (c .if1 .taken)) ∙ c .before .same-block .ensures .1 z)))
 
 returns-2 : tie.Need-returns-2 Inv-loop μ-loop
-returns-2 c = (λ t. ext-getD 0 _ _ (c .before .before .before .before .before .before .pre .0) (λ j h. with-block (c .before .before .before .loop .at) 0 (omega arith) (c .before .before .same-block .ensures .0 (not-false _ (c .before .if1 .left))) (c .before .before .before .loop .inv .1) .same j (omega arith) h), λ z. refl)
+returns-2 c =
+    let c1 = c .before in
+    let c2 = c1 .before in
+    let c3 = c2 .before in
+    let c6 = c3 .before .before .before in
+    (λ t. ext-getD 0 _ _ (c6 .pre .0) (λ j h. with-block (c3 .loop .at) 0 (omega arith) (c2 .same-block .ensures .0 (not-false _ (c1 .if1 .left))) (c3 .loop .inv .1) .same j (omega arith) h), λ z. refl)
 
 loop-again : tie.Need-loop-again Inv-loop μ-loop
 loop-again c = (omega arith, with-block (c .before .before .before .before .loop .at) 16 (omega arith) (c .before .before .before .same-block .ensures .0 (not-false _ (c .before .before .if1 .left))) (c .before .before .before .before .loop .inv .1))
