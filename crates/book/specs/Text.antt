@@ -56,7 +56,7 @@ rising low (b ∷ bs) = choose (isLetter b && ltb low b) (λ _. rising b bs) (λ
 
 abbrev pub isHead : Format → List ℕ → Bool
 isHead fmt [] = false
-isHead fmt (b ∷ ls) = eqb (kindOf b) colonKind && (leb (fmt .leastLetters) (length ls) && (leb (length ls) (fmt .mostLetters) && rising 0 ls))
+isHead fmt (b ∷ ls) = eqb (kindOf b) colonKind && (leb 1 (length ls) && (leb (length ls) (fmt .mostLetters) && rising 0 ls))
 
 -- the letters of line 1
 abbrev pub lettersOf : Line → List ℕ

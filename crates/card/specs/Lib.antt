@@ -19,3 +19,5 @@ pub mod Same
 pub mod Write
 pub mod Demand
 pub mod Examples
+pub mod Mounted
+pub mod NoLetters

@@ -23,7 +23,7 @@ use Rattle.card.specs.Mark.{marks}
 use Rattle.card.specs.Layout.{encode, contentsTest, lettersOf, marksOf, movesOf, machineOf}
 use Rattle.card.specs.Load.{loadTest, insideTest, rowInside, marksTest}
 use Rattle.card.specs.Verdict.{allowed, unfinished, hopeless}
-use Rattle.card.specs.Judge.{Reply, judge, planVerdict, verdict}
+use Rattle.card.specs.Judge.{Reply, judge, planVerdict, verdict, refused as notJudged}
 use Rattle.automata.specs.Decide.{unless}
 use Rattle.automata.specs.Numbering.{seen, across}
 use Rattle.automata.specs.NumberingTest.{numberedTest, rowNumbered}
@@ -31,6 +31,7 @@ use Rattle.card.specs.Alphabet.{alphabetTest}
 use Rattle.card.specs.Allowed.{known-count}
 use Rattle.automata.specs.ReducedTest.{reducedTest}
 use Rattle.card.specs.Same.{cardOf}
+use Rattle.card.specs.NoLetters.{noLetters}
 use Rattle.book.specs.Text.{lineTest, formOf}
 use Rattle.language.specs.Makes.{joins-exactly}
 use Rattle.book.specs.Line.{readHead, readLine, checkForm}
@@ -113,8 +114,16 @@ cases =
     ∷ compiles twoBook (card twoContexts 16)
     -- a definition's stages count
     ∷ compiles ":ab\n=Aaaaaaa\n>a\n" (card noA 9)
+    -- no rule: everything, with the peak of the definitions; no bytes, and what can be judged there
+    ∷ compiles ":ab\n" (card everything 0)
+    ∷ compiles ":ab\n=A(a)\n" (card everything 0)
+    ∷ compiles ":ab\n=A!@\n" (card everything 3)
+    ∷ compiles ":ab\n=A.*\n" (card everything 4)
+    ∷ compiles ":ab\n=Aa+\n" (card everything 5)
+    ∷ compiles "" (card (noLetters 1) 0)
+    ∷ judges "" (("", verdict allowed) ∷ ("a", notJudged 27 0) ∷ [])
     -- 1: over 16,384 bytes, also with a short buffer, and not over; 2: one buffer short, also with no text, or one missing or too many; 11, and a card
-    -- buffer just long enough; 10 before 11
+    -- buffer just long enough, also with no rule and with no text
     ∷ answered (bytes 16385 97) documented ample (stop 1 0)
     ∷ answered (bytes 16385 97) firstShort ample (stop 1 0)
     ∷ answered (bytes 16384 97) documented ample (stop 5 1)
@@ -125,7 +134,9 @@ cases =
     ∷ answered (bytesOf ":ab\n>a\n") (documented ++ (0 ∷ [])) ample (stop 2 0)
     ∷ answered (bytesOf firstBook) documented 22 (stop 11 0)
     ∷ answered (bytesOf firstBook) documented 23 (card firstCard 9)
-    ∷ answered (bytesOf ":ab\n") documented 0 (stop 10 0)
+    ∷ answered (bytesOf ":ab\n") documented 16 (stop 11 0)
+    ∷ answered [] documented 12 (stop 11 0)
+    ∷ answered [] documented 13 (card (noLetters 1) 0)
     -- 3: four brackets and five, a count below zero, along the whole line, in line 1 and in a line without its end
     ∷ compiles ":ab\n>((((a))))\n" (card noA 7)
     ∷ compiles ":ab\n>(((((a)))))\n" (stop 3 2)
@@ -156,16 +167,17 @@ cases =
     ∷ compiles ":ab\n>a/(b_b)\n" (stop 5 2)
     ∷ compiles ":ba\n>a\n" (stop 5 1)
     ∷ compiles ":\n>a\n" (stop 5 1)
+    ∷ compiles ":\n" (stop 5 1)
+    ∷ compiles ":" (stop 5 1)
+    ∷ compiles "\n" (stop 5 1)
     ∷ compiles ":ab\n:ab\n" (stop 5 2)
-    ∷ compiles "" (stop 5 1)
-    -- 5 before 6, 6 before 7, a name's own line does not define it; 10
+    -- 5 before 6, 6 before 7, a name's own line does not define it
     ∷ compiles ":ab\n>c|\n" (stop 5 2)
     ∷ compiles ":ab\n>c\n" (stop 6 2)
     ∷ compiles ":ab\n=Aa\n=Ac\n" (stop 6 3)
     ∷ compiles ":ab\n=AA\n" (stop 6 2)
     ∷ compiles ":ab\n=Aa\n=AA\n" (stop 7 3)
     ∷ compiles ":ab\n=Aa\n=A(\n" (stop 5 3)
-    ∷ compiles ":ab\n" (stop 10 0)
     ∷ []
 
 -- ---- cards of several cases, each computed once
@@ -233,7 +245,7 @@ pub cases-hold : AllHold cases
 unfolding explore exploreFrom listing turn addTo add classes settle rounds refine firsts smallest smallestBy tabulated smallestOf subset gains pair-test stage keep pairStage concatStage starStage eraseStage lineTest formOf readHead readLine checkForm evaluate markedStages minusContexts eraseAndExclude evaluateRule compileForm compileLine compileLines compileHead compileText compileBook outcome cardOf restrict encode marks live liveRound liveNext loadTest contentsTest insideTest rowInside marksTest numberedTest reducedTest judge lettersOf marksOf movesOf machineOf unless alphabetTest rowNumbered seen across
 cases-hold =
     first-card and first-judged and refl and refl and nothing-card and always-hopeless and refl and refl and
-    two-judged and five-sets and refl and refl and two-card and refl and refl and refl and refl and refl and refl and refl and refl and
+    two-judged and five-sets and refl and refl and two-card and refl and refl and refl and refl and refl and refl and refl and refl and refl and refl and refl and refl and refl and refl and refl and refl and
     refl and refl and refl and refl and refl and refl and refl and refl and refl and refl and refl and refl and refl and refl and refl and refl and
     refl and refl and refl and refl and refl and refl and refl and refl and refl and refl and refl and refl and refl and refl and refl and refl and
-    refl and refl and refl and refl and refl and refl and refl and refl and none
+    refl and refl and refl and refl and refl and refl and refl and refl and refl and refl and none

@@ -1,11 +1,9 @@
 -- A book, compiled: the kept machine with the counts of its stages, or the first refusal with its line. "1 and 2 come first; then line by line 3 to 9, stages in their
--- order, 8 before 9 in one stage; then 10, 11." (1, 2 and 11 stand in Outcome.)
+-- order, 8 before 9 in one stage; then .. 11." (1, 2 and 11 stand in Outcome; "10 occurs no longer".)
 use Prim.Native.Nat.{ℕ, suc}
-use mathlib.Core.Bool.{Bool, true, false}
 use mathlib.Core.List.{List, [], _∷_, _++_}
 use lib.ListN.{length}
 use Rattle.automata.specs.Format.{Format}
-use Rattle.automata.specs.Booleans.{choose}
 use Rattle.automata.specs.Machine.{Machine}
 use Rattle.automata.specs.Stage.{Made, made, refused, thenMade}
 use Rattle.automata.specs.Given.{allMachine}
@@ -16,11 +14,10 @@ use Rattle.language.specs.Evaluate.{evaluate, evaluateRule}
 use Rattle.book.specs.Line.{HeadRead, letters, readHead, LineRead, reads, stops, readLine}
 use Rattle.book.specs.Text.{Line, linesOf, Form, define, rule, malformed}
 
--- A book in the making: the machines of its names, the counts of its stages so far, whether there was a rule, and the machine that is kept.
+-- A book in the making: the machines of its names, the counts of its stages so far, and the machine that is kept.
 pub record Draft : Type 0 where
   pub env : List (ℕ × Machine)
   pub counts : List ℕ
-  pub ruled : Bool
   pub kept : Machine
 
 pub data LineResult : Type 0 where
@@ -36,10 +33,10 @@ unfoldable pub compileForm : Format → List ℕ → Draft → Form → LineResu
 compileForm fmt ls d malformed = off 5
 compileForm fmt ls d (define x e) =
     onMade (evaluate fmt ls (d .env) e) λ counts M.
-    on (record { env = (x, M) ∷ d .env; counts = d .counts ++ counts; ruled = d .ruled; kept = d .kept })
+    on (record { env = (x, M) ∷ d .env; counts = d .counts ++ counts; kept = d .kept })
 compileForm fmt ls d (rule restricts p cs) =
     onMade (thenMade (evaluateRule fmt ls (d .env) p cs) λ R. pairStage fmt (suc (length ls)) both (d .kept) R) λ counts M.
-    on (record { env = d .env; counts = d .counts ++ counts; ruled = true; kept = M })
+    on (record { env = d .env; counts = d .counts ++ counts; kept = M })
 
 abbrev pub afterRead : LineRead → (Form → LineResult) → LineResult
 afterRead (reads F) f = f F
@@ -58,13 +55,13 @@ abbrev pub afterLine : LineResult → (Draft → BookResult) → (ℕ → BookRe
 afterLine (on d) f g = f d
 afterLine (off r) f g = g r
 
--- the lines from line `at` on; 10: "no rule line"
+-- the lines from line `at` on; "a book of line 1 and definitions only now gives the card that allows everything"
 unfoldable pub compileLines : Format → List ℕ → List Line → ℕ → Draft → BookResult
-compileLines fmt ls [] at d = choose (d .ruled) (λ _. done ls d) (λ _. stopped 10 0)
+compileLines fmt ls [] at d = done ls d
 compileLines fmt ls (l ∷ rest) at d = afterLine (compileLine fmt ls d l) (λ d₁. compileLines fmt ls rest (suc at) d₁) (λ r. stopped r at)
 
 abbrev pub startDraft : ℕ → Draft
-startDraft m = record { env = []; counts = []; ruled = false; kept = allMachine m }
+startDraft m = record { env = []; counts = []; kept = allMachine m }
 
 abbrev pub afterHead : HeadRead → (List ℕ → BookResult) → BookResult
 afterHead (letters ls) f = f ls
@@ -73,9 +70,9 @@ afterHead (Rattle.book.specs.Line.HeadRead.stops r) f = stopped r 1
 unfoldable pub compileHead : Format → Line → List Line → BookResult
 compileHead fmt l rest = afterHead (readHead fmt l) (λ ls. compileLines fmt ls rest 2 (startDraft (length ls)))
 
--- 5: "or the text has no bytes (then line 1)"
+-- "A text of no bytes gives the card with m = 0, one state, marks 01, no moves, with peak 0": there are no letters, and `.*` is kept.
 unfoldable pub compileText : Format → List Line → BookResult
-compileText fmt [] = stopped 5 1
+compileText fmt [] = done [] (startDraft 0)
 compileText fmt (l ∷ rest) = compileHead fmt l rest
 
 -- A text of any length (1 is tested before, by `outcome`).

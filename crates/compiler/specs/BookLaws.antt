@@ -30,7 +30,7 @@ use Rattle.book.specs.HeadLaws.{Letters, head-letters}
 use Rattle.book.specs.Text.{Line, linesOf, lettersOf, Form, define, rule, malformed}
 use Rattle.compiler.specs.Allows.{onForm, rulesOf, bookLetters, bookRules, allowsLines, allows}
 use Rattle.compiler.specs.Book.{Draft, BookResult, done, stopped, startDraft, compileBook}
-use Rattle.compiler.specs.Table.{MakesLine, advance, LinesSay, line-stops, stage-stops, goes-on, no-rule, all-lines, BookSays, no-bytes, head-stops, head-goes, line-form, head-form, accepted-says}
+use Rattle.compiler.specs.Table.{MakesLine, advance, LinesSay, line-stops, stage-stops, goes-on, all-lines, BookSays, no-bytes, head-stops, head-goes, line-form, head-form, accepted-says}
 
 -- what holds of an accepted book's letters and draft
 abbrev pub Accepts : (List ℕ → Draft → Type 0) → BookResult → Type 0
@@ -112,8 +112,7 @@ module _ (fmt : Format) (ls : List ℕ) where
 
   pub lines-right : (lines : List Line) (at : ℕ) (d : Draft) (b : BookResult) → LinesSay fmt ls lines at d b → (ys : List (ℕ × Language)) (K : Language) → DraftRight m d ys K
       → Accepts (Final K (rulesOf lines ls ys)) b
-  lines-right lines at d b (no-rule e) ys K h = tt
-  lines-right lines at d b (all-lines e) ys K h = right-same m (d .kept) K (λ w. K w && true) (λ w. and-true (K w)) (h .kept)
+  lines-right lines at d b all-lines ys K h = right-same m (d .kept) K (λ w. K w && true) (λ w. and-true (K w)) (h .kept)
   lines-right (l ∷ rest) at d b (line-stops s) ys K h = tt
   lines-right (l ∷ rest) at d b (stage-stops F s x) ys K h = tt
   lines-right (l ∷ rest) at d b (goes-on F counts M s x t) ys K h =
@@ -123,14 +122,18 @@ module _ (fmt : Format) (ls : List ℕ) where
 
   -- the letters of an accepted book
   lines-letters : (lines : List Line) (at : ℕ) (d : Draft) (b : BookResult) → LinesSay fmt ls lines at d b → Accepts (λ ls′ d′. ls′ ≡ ls) b
-  lines-letters lines at d b (no-rule e) = tt
-  lines-letters lines at d b (all-lines e) = refl
+  lines-letters lines at d b all-lines = refl
   lines-letters (l ∷ rest) at d b (line-stops s) = tt
   lines-letters (l ∷ rest) at d b (stage-stops F s x) = tt
   lines-letters (l ∷ rest) at d b (goes-on F counts M s x t) = lines-letters rest (suc at) (advance fmt d F counts M) b t
 
-book-letters : (fmt : Format) (lines : List Line) (b : BookResult) → BookSays fmt lines b → Accepts (λ ls d. (ls ≡ bookLetters lines) × Letters fmt ls) b
-book-letters fmt lines b no-bytes = tt
+-- "1 to 26 letters, strictly rising", or none where the text has no bytes
+abbrev pub LettersOf : Format → List Line → List ℕ → Type 0
+LettersOf fmt [] ls = ls ≡ []
+LettersOf fmt (l ∷ rest) ls = Letters fmt ls
+
+book-letters : (fmt : Format) (lines : List Line) (b : BookResult) → BookSays fmt lines b → Accepts (λ ls d. (ls ≡ bookLetters lines) × LettersOf fmt lines ls) b
+book-letters fmt lines b no-bytes = (refl, refl)
 book-letters fmt (l ∷ rest) b (head-stops s) = tt
 book-letters fmt (l ∷ rest) b (head-goes ls s t) =
     let f = head-form fmt l (letters ls) s in
@@ -139,7 +142,7 @@ book-letters fmt (l ∷ rest) b (head-goes ls s t) =
 
 -- BOOKS. The kept machine of an accepted book is right for the plans that the book allows.
 book-right : (fmt : Format) (lines : List Line) (b : BookResult) → BookSays fmt lines b → Accepts (λ ls d. Right (length ls) (d .kept) (allowsLines lines)) b
-book-right fmt lines b no-bytes = tt
+book-right fmt lines b no-bytes = right-same 0 _ (allWords 0) (λ w. allWords 0 w && true) (λ w. and-true fmt [] (allWords 0 w)) (record { recognizes = all-recognizes 0; letters = allWords-sound 0 })
 book-right fmt (l ∷ rest) b (head-stops s) = tt
 book-right fmt (l ∷ rest) b (head-goes ls s t) =
     subst (λ x. LinesSay fmt x rest 2 (startDraft (length x)) b → Accepts (λ ls d. Right (length ls) (d .kept) (allowsLines (l ∷ rest))) b) (head-letters fmt l ls (head-form fmt l (letters ls) s)) made t
@@ -170,8 +173,8 @@ module _ (fmt : Format) (text : List ℕ) (ls : List ℕ) (d : Draft) (e : compi
   pub accepted-letters : ls ≡ bookLetters (linesOf text)
   accepted-letters = book-letters fmt (linesOf text) (done ls d) (accepted-says fmt text ls d e) .0
 
-  -- "1 to 26 letters, strictly rising"
-  pub accepted-alphabet : Letters fmt ls
+  -- "1 to 26 letters, strictly rising", or none where the text has no bytes
+  pub accepted-alphabet : LettersOf fmt (linesOf text) ls
   accepted-alphabet = book-letters fmt (linesOf text) (done ls d) (accepted-says fmt text ls d e) .1
 
   -- THE DEMAND. A plan of the book's letters is accepted exactly when, for every rule and every cut of the plan into left, middle and right with the

@@ -1,6 +1,8 @@
 -- The stages of a book: its operations, each with the machines that it is made of, in the order of the lines and of 01's "Stages". No limit stands
 -- here: which sets a stage reaches and which machine it keeps is a matter of its operands alone.
 use Prim.Native.Nat.{ℕ, suc, _≤_}
+use mathlib.Core.Path.{_≡_}
+use mathlib.Core.Logic.{_⊎_}
 use mathlib.Core.List.{List, [], _∷_}
 use lib.ListN.{length}
 use Rattle.automata.specs.Machine.{Machine}
@@ -115,9 +117,9 @@ StageOf text s = StageIn (length (bookLetters (linesOf text))) (bookStages (line
 abbrev pub ReachableSets : List ℕ → Stage → ℕ → Type 0
 ReachableSets text s n = Reaches (length (bookLetters (linesOf text))) s n
 
--- "The peak .. is the most sets that one stage of this book made": n of the book's stages.
+-- "The peak .. is the most sets that one stage of this book made", "0 if they made no set": n of the book's stages.
 pub record Peak (text : List ℕ) (n : ℕ) : Type 0 where
-  -- some stage of the book reaches exactly n sets,
-  pub reached : (s : Stage) × StageOf text s × ReachableSets text s n
+  -- some stage of the book reaches exactly n sets, or the book has no stage and n is 0,
+  pub reached : ((s : Stage) × StageOf text s × ReachableSets text s n) ⊎ (((s : Stage) → ¬ StageOf text s) × (n ≡ 0))
   -- and every stage of the book reaches at most n
   pub most : (s : Stage) → StageOf text s → (k : ℕ) × ReachableSets text s k × (k ≤ n)

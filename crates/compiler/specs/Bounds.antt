@@ -17,7 +17,7 @@ use Rattle.language.specs.Makes.{Makes, MakesMarked, MakesContexts, MakesRule}
 use Rattle.book.specs.Text.{Line, linesOf, Form, define, rule, malformed}
 use Rattle.compiler.specs.Book.{Draft, BookResult, done, startDraft, compileBook}
 use Rattle.compiler.specs.BookLaws.{Accepts}
-use Rattle.compiler.specs.Table.{MakesLine, advance, LinesSay, line-stops, stage-stops, goes-on, no-rule, all-lines, BookSays, no-bytes, head-stops, head-goes, accepted-says}
+use Rattle.compiler.specs.Table.{MakesLine, advance, LinesSay, line-stops, stage-stops, goes-on, all-lines, BookSays, no-bytes, head-stops, head-goes, accepted-says}
 
 -- each number of the list is at most n
 abbrev pub EachMost : ℕ → List ℕ → Type 0
@@ -122,14 +122,13 @@ module _ (fmt : Format) where
   form-within ls d h malformed counts M m = absurd m
 
   lines-within : (ls : List ℕ) (lines : List Line) (at : ℕ) (d : Draft) (b : BookResult) → LinesSay fmt ls lines at d b → DraftWithin d → Accepts (λ ls d. DraftWithin d) b
-  lines-within ls lines at d b (no-rule e) h = tt
-  lines-within ls lines at d b (all-lines e) h = h
+  lines-within ls lines at d b all-lines h = h
   lines-within ls (l ∷ rest) at d b (line-stops s) h = tt
   lines-within ls (l ∷ rest) at d b (stage-stops F s m) h = tt
   lines-within ls (l ∷ rest) at d b (goes-on F counts M s m t) h = lines-within ls rest (suc at) (advance fmt d F counts M) b t (form-within ls d h F counts M m)
 
   book-within : 2 ≤ fmt .mostStates → (lines : List Line) (b : BookResult) → BookSays fmt lines b → Accepts (λ ls d. DraftWithin d) b
-  book-within two lines b no-bytes = tt
+  book-within two lines b no-bytes = record { counts = tt; states = omega (arith, all-size 0) }
   book-within two (l ∷ rest) b (head-stops s) = tt
   book-within two (l ∷ rest) b (head-goes ls s t) = lines-within ls rest 2 (startDraft (length ls)) b t (record { counts = tt; states = omega (arith, all-size (length ls)) })
 

@@ -36,7 +36,7 @@ written fmt room (done ls d) =
     choose (ltb room (length (cardOf fmt ls (d .kept)))) (λ _. stop 11 0) λ _.
     card (cardOf fmt ls (d .kept)) (most (d .counts))
 
--- "1 and 2 come first; then line by line 3 to 9 ..; then 10, 11." 1: "text over 16,384 bytes"; 2: "a lent work buffer is below its documented length".
+-- "1 and 2 come first; then line by line 3 to 9 ..; then .. 11." 1: "text over 16,384 bytes"; 2: "a lent work buffer is below its documented length".
 -- The documented lengths, the text, the lengths of the lent buffers, and the length of the card buffer.
 unfoldable pub outcome : Format → List ℕ → List ℕ → List ℕ → ℕ → Outcome
 outcome fmt needs text lent room =
@@ -44,7 +44,7 @@ outcome fmt needs text lent room =
     unless (enough needs lent) (λ _. stop 2 0) λ _.
     written fmt room (compileBook fmt text)
 
--- "A book's refusal returns the number, its line (1 first; 0 for 1, 2, 10, 11), length 0, peak 0"; "Success returns the card's length and the peak", and
+-- "A book's refusal returns the number, its line (1 first; 0 for 1, 2, .. 11), length 0, peak 0"; "Success returns the card's length and the peak", and
 -- no number.
 pub record Answer : Type 0 where
   pub number : ℕ

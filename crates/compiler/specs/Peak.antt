@@ -1,17 +1,16 @@
--- "The peak, carried in the result, is the most sets that one stage of this book made": some stage of an accepted book reaches that many sets, and every
--- stage of it reaches no more. The counts of a book are those of its stages (BookStages.antt), one by one.
+-- "The peak, carried in the result, is the most sets that one stage of this book made": some stage of an accepted book reaches that many sets, or it has
+-- no stage and the peak is 0; every stage of it reaches no more. The counts of a book are those of its stages (BookStages.antt), one by one.
 use mathlib.Core.Path.{_≡_, refl, sym, subst, _∙_}
-use mathlib.Core.Bool.{true, false≢true}
-use mathlib.Core.Logic.{inl, inr}
+use mathlib.Core.Logic.{_⊎_, inl, inr}
 use mathlib.Core.List.{List, [], _∷_, _++_, append-assoc, append-nil}
 use Prim.Native.Nat.{ℕ, zero, suc, _≤_, _<_, max, suc-le-suc}
 use native.Mathlib.Nat.{not-suc-le-zero, le-of-suc-le-suc, zero-lt-suc}
 use native.Mathlib.Omega.{arith}
-use lib.ListN.{length, getD, length-append}
+use lib.ListN.{length, getD}
 use Rattle.automata.specs.Format.{Format}
 use Rattle.automata.specs.Basics.{LtCases, lt-cases}
 use Rattle.automata.specs.Machine.{Machine}
-use Rattle.automata.specs.Stage.{Made, made, refused, after, kept-one, too-many-sets, too-many-states, smallest-one}
+use Rattle.automata.specs.Stage.{Made, made, refused, after, kept-one, too-many-sets, too-many-states, smallest-one, counts-unique}
 use Rattle.automata.specs.Exactly.{Then, goes, fails, Given, given}
 use Rattle.automata.specs.Given.{allMachine}
 use Rattle.automata.specs.Stages.{Pairing, both}
@@ -25,8 +24,8 @@ use Rattle.book.specs.HeadLaws.{head-letters}
 use Rattle.compiler.specs.Allows.{bookLetters}
 use Rattle.compiler.specs.Book.{Draft, BookResult, done, stopped, startDraft, compileBook}
 use Rattle.compiler.specs.Outcome.{most}
-use Rattle.compiler.specs.Table.{MakesLine, advance, LinesSay, line-stops, stage-stops, goes-on, no-rule, all-lines, BookSays, no-bytes, head-stops, head-goes, line-form, head-form, accepted-says}
-use Rattle.compiler.specs.BookStages.{Stage, pairs, joins, stars, erases, Reaches, Leaves, Row, gives, makes, andThen, StageIn, first, later, expressionStages, markedStages, contextStages, ruleStages, formStages, lineStages, bookStages, Peak}
+use Rattle.compiler.specs.Table.{MakesLine, advance, LinesSay, line-stops, stage-stops, goes-on, all-lines, BookSays, no-bytes, head-stops, head-goes, line-form, head-form, accepted-says}
+use Rattle.compiler.specs.BookStages.{Stage, pairs, joins, stars, erases, Reaches, Leaves, Row, gives, makes, andThen, StageIn, first, later, expressionStages, markedStages, contextStages, ruleStages, formStages, lineStages, bookStages, StageOf, ReachableSets, Peak}
 
 -- No count is greater.
 pub most-greatest : (cs : List ℕ) (i : ℕ) → i < length cs → getD cs i 0 ≤ most cs
@@ -77,11 +76,6 @@ module _ (m : ℕ) where
   counted-then : (p : Row) (f : Machine → Row) (cs : List ℕ) (A : Machine) (ds : List ℕ) (N : Machine) → Counted m p cs A → Counted m (f A) ds N → Counted m (andThen p f) (cs ++ ds) N
   counted-then p f cs A ds N (none M) d = d
   counted-then p f cs A ds N (one s g n M ns B r l c) d = one s (λ K. andThen (g K) f) n M (ns ++ ds) N r l (counted-then (g M) f ns B ds N c d)
-
-  -- a row that ends with a stage has one
-  has-stage : (p : Row) (s : Machine → Stage) (cs : List ℕ) (N : Machine) → Counted m (andThen p λ R. makes (s R) gives) cs N → 0 < length cs
-  has-stage (gives M) s cs N (one t f n K ns L r l c) = zero-lt-suc (length ns)
-  has-stage (makes u g) s cs N (one t f n K ns L r l c) = zero-lt-suc (length ns)
 
   -- The same of what was made, if it was.
   abbrev Made-of : Row → Made → Type 0
@@ -169,12 +163,11 @@ module _ (fmt : Format) (ls : List ℕ) (env : List (ℕ × Machine)) where
 -- ---- the stages of a book are counted
 
 module _ (fmt : Format) (ls : List ℕ) where
-  -- Behind the lines the counts are those of their stages; and where there was a rule there was a stage.
+  -- Behind the lines the counts are those of their stages.
   record Behind (p : Row) (d d′ : Draft) : Type 0 where
     numbers : List ℕ
     counts : d′ .counts ≡ d .counts ++ numbers
     counted : Counted (length ls) p numbers (d′ .kept)
-    ruled : (d .ruled ≡ true → 0 < length (d .counts)) → 0 < length (d′ .counts)
 
   abbrev BehindLines : Row → Draft → BookResult → Type 0
   BehindLines p d (done ls′ d′) = Behind p d d′
@@ -182,31 +175,27 @@ module _ (fmt : Format) (ls : List ℕ) where
 
   -- a line's own stages in front
   behind : (p : Row) (f : Machine → Row) (d d₁ : Draft) (counts : List ℕ) (M : Machine) → Counted (length ls) p counts M → d₁ .counts ≡ d .counts ++ counts
-      → ((d .ruled ≡ true → 0 < length (d .counts)) → d₁ .ruled ≡ true → 0 < length (d₁ .counts)) → (b : BookResult) → BehindLines (f M) d₁ b → BehindLines (andThen p f) d b
-  behind p f d d₁ counts M c e g (done ls′ d′) B = record {
+      → (b : BookResult) → BehindLines (f M) d₁ b → BehindLines (andThen p f) d b
+  behind p f d d₁ counts M c e (done ls′ d′) B = record {
     numbers = counts ++ B .numbers;
     counts = B .counts ∙ (λ i. e i ++ B .numbers) ∙ append-assoc (d .counts) counts (B .numbers);
     counted = counted-then (length ls) p f counts M (B .numbers) (d′ .kept) c (B .counted);
-    ruled = λ h. B .ruled (g h);
   }
-  behind p f d d₁ counts M c e g (stopped r at) B = tt
+  behind p f d d₁ counts M c e (stopped r at) B = tt
 
   form-counted : (d : Draft) (F : Form) (rest : List (ℕ × Machine) → Machine → Row) (counts : List ℕ) (M : Machine) → MakesLine fmt ls d F (made counts M)
       → (b : BookResult) → BehindLines (rest (advance fmt d F counts M .env) (advance fmt d F counts M .kept)) (advance fmt d F counts M) b → BehindLines (formStages ls (d .env) (d .kept) F rest) d b
   form-counted d (define x e) rest counts M h =
       behind (expressionStages ls (d .env) e) (λ M. rest ((x, M) ∷ d .env) (d .kept)) d _ counts M (expression-made fmt ls (d .env) e (made counts M) h) refl
-      (λ g t. omega (arith, g t, length-append (d .counts) counts))
   form-counted d (rule restricts p cs) rest counts M h =
       behind (andThen (ruleStages ls (d .env) p cs) λ R. makes (pairs both (d .kept) R) gives) (λ M. rest (d .env) M) d _ counts M rule-counted refl
-      (λ g t. omega (arith, has-stage (length ls) (ruleStages ls (d .env) p cs) (pairs both (d .kept)) counts M rule-counted, length-append (d .counts) counts))
     where
       rule-counted : Counted (length ls) (andThen (ruleStages ls (d .env) p cs) λ R. makes (pairs both (d .kept) R) gives) counts M
       rule-counted = then-made (length ls) (ruleStages ls (d .env) p cs) _ _ _ (rule-made fmt ls (d .env) p cs) (λ R. pairs-made fmt (length ls) both (d .kept) R) (made counts M) h
   form-counted d malformed rest counts M h = λ b B. absurd h
 
   lines-counted : (lines : List Line) (at : ℕ) (d : Draft) (b : BookResult) → LinesSay fmt ls lines at d b → BehindLines (lineStages lines ls (d .env) (d .kept)) d b
-  lines-counted lines at d b (no-rule e) = tt
-  lines-counted lines at d b (all-lines e) = record { numbers = []; counts = sym (append-nil (d .counts)); counted = none (d .kept); ruled = λ h. h e }
+  lines-counted lines at d b all-lines = record { numbers = []; counts = sym (append-nil (d .counts)); counted = none (d .kept) }
   lines-counted (l ∷ rest) at d b (line-stops s) = tt
   lines-counted (l ∷ rest) at d b (stage-stops F s m) = tt
   lines-counted (l ∷ rest) at d b (goes-on F counts M s m t) =
@@ -216,31 +205,28 @@ module _ (fmt : Format) (ls : List ℕ) where
 -- ---- the peak
 
 BookCounted : List Line → BookResult → Type 0
-BookCounted lines (done ls d) = Counted (length (bookLetters lines)) (bookStages lines) (d .counts) (d .kept) × (0 < length (d .counts))
+BookCounted lines (done ls d) = Counted (length (bookLetters lines)) (bookStages lines) (d .counts) (d .kept)
 BookCounted lines (stopped r at) = Unit {0}
 
 book-counted : (fmt : Format) (lines : List Line) (b : BookResult) → BookSays fmt lines b → BookCounted lines b
 unfolding BookCounted
-book-counted fmt lines b no-bytes = tt
+book-counted fmt lines b no-bytes = none (allMachine 0)
 book-counted fmt (l ∷ rest) b (head-stops s) = tt
 book-counted fmt (l ∷ rest) b (head-goes ls s t) = go b (head-letters fmt l ls (head-form fmt l (letters ls) s)) (lines-counted fmt ls rest 2 (startDraft (length ls)) b t)
   where
     go : (b : BookResult) → lettersOf l ≡ ls → BehindLines fmt ls (lineStages rest ls [] (allMachine (length ls))) (startDraft (length ls)) b → BookCounted (l ∷ rest) b
     go (done ls′ d) e B =
         let c : Counted (length ls) (lineStages rest ls [] (allMachine (length ls))) (d .counts) (d .kept) = rw (B .counts) (B .counted) in
-        (rw e c, B .ruled (λ t. absurd (false≢true t)))
+        rw e c
     go (stopped r at) e B = tt
 
 -- THE PEAK of an accepted book, of its stages.
 pub book-peak : (fmt : Format) (text ls : List ℕ) (d : Draft) → compileBook fmt text ≡ done ls d → Peak text (most (d .counts))
 unfolding BookCounted
 book-peak fmt text ls d e = record {
-  reached =
-      let (i, h, q) = most-attained (d .counts) (c .1) in
-      let (s, x, r) = number-stage m (bookStages (linesOf text)) (d .counts) (d .kept) (c .0) i h in
-      (s, x, rw q at r);
+  reached = go (d .counts) c;
   most = λ s x.
-      let (i, h, r) = stage-number m (bookStages (linesOf text)) s x (d .counts) (d .kept) (c .0) in
+      let (i, h, r) = stage-number m (bookStages (linesOf text)) s x (d .counts) (d .kept) c in
       (getD (d .counts) i 0, r, most-greatest (d .counts) i h);
 }
   where
@@ -249,3 +235,31 @@ book-peak fmt text ls d e = record {
 
     c : BookCounted (linesOf text) (done ls d)
     c = book-counted fmt (linesOf text) (done ls d) (accepted-says fmt text ls d e)
+
+    go : (ns : List ℕ) (k : Counted m (bookStages (linesOf text)) ns (d .kept))
+        → ((s : Stage) × StageOf text s × ReachableSets text s (most ns)) ⊎ (((s : Stage) → ¬ StageOf text s) × (most ns ≡ 0))
+    go [] k = inr (λ s x. not-suc-le-zero (stage-number m (bookStages (linesOf text)) s x [] (d .kept) k .1), refl)
+    go (n ∷ ns) k =
+        let (i, h, q) = most-attained (n ∷ ns) (zero-lt-suc (length ns)) in
+        let (s, x, r) = number-stage m (bookStages (linesOf text)) (n ∷ ns) (d .kept) k i h in
+        inl (s, x, rw q at r)
+
+-- One number only is the peak.
+pub peak-one : (text : List ℕ) (n k : ℕ) → Peak text n → Peak text k → n ≡ k
+peak-one text n k P Q = omega (arith, below n k P Q, below k n Q P)
+  where
+    m : ℕ
+    m = length (bookLetters (linesOf text))
+
+    one-number : (s : Stage) (a b : ℕ) → Reaches m s a → Reaches m s b → a ≡ b
+    one-number (pairs o A B) a b = counts-unique (suc m) _ a b
+    one-number (joins A B) a b = counts-unique (suc m) _ a b
+    one-number (stars A) a b = counts-unique (suc m) _ a b
+    one-number (erases U) a b = counts-unique (suc m) _ a b
+
+    below : (a b : ℕ) → Peak text a → Peak text b → a ≤ b
+    below a b P Q = go (P .reached)
+      where
+        go : ((s : Stage) × StageOf text s × ReachableSets text s a) ⊎ (((s : Stage) → ¬ StageOf text s) × (a ≡ 0)) → a ≤ b
+        go (inl (s, x, r)) = let (j, q, h) = Q .most s x in omega (arith, one-number s a j r q, h)
+        go (inr (f, z)) = omega (arith, z)

@@ -10,8 +10,9 @@ use Rattle.compiler.specs.Book.{BookResult, compileLines, startDraft}
 abbrev pub linesFrom : Format → List ℕ → List ℕ → ℕ → BookResult
 linesFrom fmt text ls next = compileLines fmt ls (linesOf (drop next text)) 2 (startDraft (length ls))
 
--- The place of line 2, in a text that is not too long, with the letters of line 1.
+-- The place of line 2, in a text that is not too long, with the letters of line 1; a text of no bytes has neither.
 pub record Placed (text ls : List ℕ) (next : ℕ) : Type 0 where
-  pub letters : (1 ≤ length ls) × (length ls ≤ 26)
+  pub some : 1 ≤ length text → 1 ≤ length ls
+  pub few : length ls ≤ 26
   pub short : length text ≤ 16384
   pub at : next ≤ suc (length text)

@@ -1,8 +1,8 @@
--- "What stops a book", line by line of the table, as a relation: each of 1 to 11 in exactly its case, in its order, with its line; and what an accepted
+-- "What stops a book", line by line of the table, as a relation: each of 1 to 9 and 11 in exactly its case, in its order, with its line; and what an accepted
 -- book gives. `outcome` answers what the table says, and one answer only is right. The relation knows a line by its form
 -- (inductive grammar), a stage by the sets that it reaches and the states of its smallest machine; it computes nothing.
 use mathlib.Core.Path.{_≡_, refl, sym, ap, _∙_, subst}
-use mathlib.Core.Bool.{Bool, true, false}
+use mathlib.Core.Bool.{true, false}
 use mathlib.Core.Logic.{inl, inr, _⊎_}
 use mathlib.Core.List.{List, [], _∷_, _++_}
 use Prim.Native.Nat.{ℕ, suc, _≤_, _<_}
@@ -37,26 +37,25 @@ module _ (fmt : Format) where
 
   -- The book behind a line whose stages made these sets and kept M.
   abbrev pub advance : Draft → Form → List ℕ → Machine → Draft
-  advance d (define x e) counts M = record { env = (x, M) ∷ d .env; counts = d .counts ++ counts; ruled = d .ruled; kept = d .kept }
-  advance d (rule kind p cs) counts M = record { env = d .env; counts = d .counts ++ counts; ruled = true; kept = M }
+  advance d (define x e) counts M = record { env = (x, M) ∷ d .env; counts = d .counts ++ counts; kept = d .kept }
+  advance d (rule kind p cs) counts M = record { env = d .env; counts = d .counts ++ counts; kept = M }
   advance d malformed counts M = d
 
-  -- "then line by line 3 to 9, stages in their order, 8 before 9 in one stage; then 10": the lines from line `at` on
+  -- "then line by line 3 to 9, stages in their order, 8 before 9 in one stage": the lines from line `at` on
   pub data LinesSay (ls : List ℕ) : List Line → ℕ → Draft → BookResult → Type 0 where
     line-stops : {l : Line} {rest : List Line} {at : ℕ} {d : Draft} {r : ℕ} → LineSays ls (namesOf (d .env)) l (stops r) → LinesSay ls (l ∷ rest) at d (stopped r at)
     stage-stops : {l : Line} {rest : List Line} {at : ℕ} {d : Draft} {r : ℕ} (F : Form) → LineSays ls (namesOf (d .env)) l (reads F) → MakesLine ls d F (refused r) → LinesSay ls (l ∷ rest) at d (stopped r at)
     goes-on : {l : Line} {rest : List Line} {at : ℕ} {d : Draft} {b : BookResult} (F : Form) (counts : List ℕ) (M : Machine) → LineSays ls (namesOf (d .env)) l (reads F)
         → MakesLine ls d F (made counts M) → LinesSay ls rest (suc at) (advance d F counts M) b → LinesSay ls (l ∷ rest) at d b
-    no-rule : {at : ℕ} {d : Draft} → d .ruled ≡ false → LinesSay ls [] at d (stopped 10 0)
-    all-lines : {at : ℕ} {d : Draft} → d .ruled ≡ true → LinesSay ls [] at d (done ls d)
+    all-lines : {at : ℕ} {d : Draft} → LinesSay ls [] at d (done ls d)
 
-  -- "or the text has no bytes (then line 1)"; line 1; the later lines
+  -- "an empty text is no spoiled line"; line 1; the later lines
   pub data BookSays : List Line → BookResult → Type 0 where
-    no-bytes : BookSays [] (stopped 5 1)
+    no-bytes : BookSays [] (done [] (startDraft 0))
     head-stops : {l : Line} {rest : List Line} {r : ℕ} → HeadSays fmt l (L.HeadRead.stops r) → BookSays (l ∷ rest) (stopped r 1)
     head-goes : {l : Line} {rest : List Line} {b : BookResult} (ls : List ℕ) → HeadSays fmt l (letters ls) → LinesSay ls rest 2 (startDraft (length ls)) b → BookSays (l ∷ rest) b
 
--- "1 and 2 come first; .. then 10, 11." 1: "text over 16,384 bytes". 2: "a lent work buffer is below its documented length". 11: "buffer shorter than
+-- "1 and 2 come first; .. then .. 11." 1: "text over 16,384 bytes". 2: "a lent work buffer is below its documented length". 11: "buffer shorter than
 -- the card".
 pub data Outcomes (fmt : Format) (needs text lent : List ℕ) (room : ℕ) : Outcome → Type 0 where
   text-too-long : 16384 < length text → Outcomes fmt needs text lent room (stop 1 0)
@@ -91,11 +90,7 @@ module _ (fmt : Format) (ls : List ℕ) where
   -- THE LINES answer what the table says,
   pub lines-say : (lines : List Line) (at : ℕ) (d : Draft) → LinesSay fmt ls lines at d (compileLines fmt ls lines at d)
   unfolding compileLines compileLine
-  lines-say [] at d = go (d .ruled) refl
-    where
-      go : (b : Bool) → d .ruled ≡ b → LinesSay fmt ls [] at d (choose b (λ _. done ls d) (λ _. stopped 10 0))
-      go true e = all-lines e
-      go false e = no-rule e
+  lines-say [] at d = all-lines
   lines-say (l ∷ rest) at d = read (readLine ls (namesOf (d .env)) l) (line-says ls (namesOf (d .env)) l) (λ d₁. lines-say rest (suc at) d₁)
     where
       next : (F : Form) → LineSays ls (namesOf (d .env)) l (reads F) → (r : Made) → MakesLine fmt ls d F r → ((d₁ : Draft) → LinesSay fmt ls rest (suc at) d₁ (compileLines fmt ls rest (suc at) d₁))
@@ -111,8 +106,7 @@ module _ (fmt : Format) (ls : List ℕ) where
   -- and nothing else.
   pub lines-say-only : (lines : List Line) (at : ℕ) (d : Draft) (b : BookResult) → LinesSay fmt ls lines at d b → compileLines fmt ls lines at d ≡ b
   unfolding compileLines compileLine
-  lines-say-only lines at d b (no-rule e) = rw e
-  lines-say-only lines at d b (all-lines e) = rw e
+  lines-say-only lines at d b all-lines = refl
   lines-say-only (l ∷ rest) at d b (line-stops {r = r} s) =
       ap (λ q. afterLine (afterRead q (compileForm fmt ls d)) (λ d₁. compileLines fmt ls rest (suc at) d₁) (λ r. stopped r at)) (line-says-only ls (namesOf (d .env)) l (stops r) s)
   lines-say-only (l ∷ rest) at d b (stage-stops {r = r} F s m) =

@@ -35,7 +35,7 @@ module _ (text lent old new : List ℕ) where
 
   -- a card is no refusal
   no-refusal : (n p r at : ℕ) → outcome narrow documented text lent (length old) ≡ stop r at → reading (C.the-variants.Card n p) ≡ answer (stop r at) → ⊥
-  no-refusal n p r at e a = let b = refusal-numbered narrow documented text lent (length old) r at e in let z : 0 ≡ r = ap (λ x. x .number) a in omega arith
+  no-refusal n p r at e a = let b = refusal-numbered narrow documented text lent (length old) r at e .0 in let z : 0 ≡ r = ap (λ x. x .number) a in omega arith
 
   -- The card is within its buffer.
   pub card-within : (s : C.Compiled) → Answers (outcome narrow documented text lent (length old)) old new s → Within s new

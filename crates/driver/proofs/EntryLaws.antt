@@ -39,7 +39,7 @@ module _ (text ls : List ℕ) (next : ℕ) (T : Headed text ls next) (registers 
       record {
         machine = d .kept;
         held = H;
-        few = T .placed .letters .1;
+        few = T .placed .few;
         canonical = R .recognizes .canonical;
         unmarked = λ w o t. R .letters w (sym (R .recognizes .exact w o) ∙ t);
       }
@@ -82,19 +82,19 @@ puts-at ls slot e q f old new x S = record { says = subst (λ e. PutsSay ls slot
 -- ---- 1 and 2
 
 module _ (text lent : List ℕ) (r : Opened) (O : Opens text lent r) where
-  pub opened-lines : (end : ℕ) → r ≡ opened.Lines end → (length text ≤ 16384) × (enough documented lent ≡ true) × FirstLine text end
-  opened-lines end q = subst (OpensSay text lent) q (O .says)
+  pub opened-lines : (from end : ℕ) → r ≡ opened.Lines from end → (length text ≤ 16384) × (enough documented lent ≡ true) × FirstLine text from end
+  opened-lines from end q = subst (OpensSay text lent) q (O .says)
 
   pub opened-stops : (n l : ℕ) (old : List ℕ) → r ≡ opened.Refused n l → Answers (outcome narrow documented text lent (length old)) old old (Refused n l)
   opened-stops n l old q =
       let f : (room : ℕ) → outcome narrow documented text lent room ≡ stop n l = subst (OpensSay text lent) q (O .says) in
       rw (f (length old)) (stops n l old)
 
-  pub opened-compiled : (end : ℕ) → r ≡ opened.Lines end → (old new : List ℕ) (x : Compiled) → Answers (written narrow (length old) (compileBook narrow text)) old new x
+  pub opened-compiled : (from end : ℕ) → r ≡ opened.Lines from end → (old new : List ℕ) (x : Compiled) → Answers (written narrow (length old) (compileBook narrow text)) old new x
       → Answers (outcome narrow documented text lent (length old)) old new x
   unfolding outcome
-  opened-compiled end q old new x A =
-      let (h, e, _) = opened-lines end q in
+  opened-compiled from end q old new x A =
+      let (h, e, _) = opened-lines from end q in
       rw (ltb-false 16384 (length text) h, e) A
 
 -- ---- the lengths of the lent buffers

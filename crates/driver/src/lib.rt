@@ -46,8 +46,8 @@ pub fn compile(
         work.len(),
         code.len(),
     ) {
-        Opened::Lines(end) => {
-            let letters = &text[1..end];
+        Opened::Lines(from, end) => {
+            let letters = &text[from..end];
             let ended = lines::lines(
                 &kinds,
                 text,

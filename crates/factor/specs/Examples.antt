@@ -1,4 +1,5 @@
--- The definitions, computed on the first card of "Ten days on paper", on which b stands only right behind a, and on a card that allows nothing.
+-- The definitions, computed on the first card of "Ten days on paper", on which b stands only right behind a, on a card that allows nothing, and on the
+-- cards without letters.
 use mathlib.Core.Path.{_≡_, refl}
 use mathlib.Core.List.{List, [], _∷_, map}
 use Prim.Native.Nat.{ℕ}
@@ -13,6 +14,7 @@ use Rattle.card.specs.Mark.{marks}
 use Rattle.card.specs.Layout.{lettersOf, marksOf, movesOf, machineOf, contentsTest}
 use Rattle.card.specs.Alphabet.{alphabetTest}
 use Rattle.card.specs.Load.{loadTest, rowInside, insideTest, marksTest}
+use Rattle.card.specs.NoLetters.{noLetters}
 use Rattle.factor.specs.Factor.{none, at}
 use Rattle.factor.specs.Shortest.{leftmost, least, shortestBy, liesInside, found, refused, shortest}
 
@@ -37,3 +39,12 @@ empty-factors = refl
 pub no-bytes : shortest narrow [] (97 ∷ []) ≡ refused 21 0
 unfolding shortest loadTest unless contentsTest
 no-bytes = refl
+
+-- no letters: the empty plan lies inside itself, or inside nothing; a letter is not on the card
+pub no-letters : map (shortest narrow (noLetters 1)) ([] ∷ (97 ∷ []) ∷ []) ≡ found none ∷ refused 27 0 ∷ []
+unfolding shortest shortestBy least leftmost liesInside loadTest unless contentsTest alphabetTest lettersOf insideTest rowInside numberedTest rowNumbered across seen machineOf marksOf movesOf marksTest marks live liveRound liveNext reducedTest classes settle rounds refine firsts
+no-letters = refl
+
+pub no-letters-nothing : map (shortest narrow (noLetters 2)) ([] ∷ (97 ∷ []) ∷ []) ≡ found (at 0 0) ∷ refused 27 0 ∷ []
+unfolding shortest shortestBy least leftmost liesInside loadTest unless contentsTest alphabetTest lettersOf insideTest rowInside numberedTest rowNumbered across seen machineOf marksOf movesOf marksTest marks live liveRound liveNext reducedTest classes settle rounds refine firsts
+no-letters-nothing = refl

@@ -4,4 +4,5 @@ pub mod LongerLaws
 pub mod Shortest
 pub mod ShortestLaws
 pub mod CardLaws
+pub mod MountedLaws
 pub mod Examples

@@ -40,10 +40,10 @@ module _ (c : List ℕ) (m n : ℕ) (a : m ≡ numberAt 2 c 2) (b : n ≡ number
   counts-long r = omega (arith, r .long, cells)
 
   -- the numbers, one by one
-  pub counts-right : 1 ≤ m → m ≤ 26 → 1 ≤ n → n ≤ 120 → numberAt 2 c 0 ≡ 12 → numberAt 2 c 4 ≡ 12 + m → numberAt 2 c 8 ≡ 12 + m + n → numberAt 2 c 10 ≡ n * m
+  pub counts-right : m ≤ 26 → 1 ≤ n → n ≤ 120 → numberAt 2 c 0 ≡ 12 → numberAt 2 c 4 ≡ 12 + m → numberAt 2 c 8 ≡ 12 + m + n → numberAt 2 c 10 ≡ n * m
       → length c ≡ 12 + m + n + n * m → Of m n ≡ countsOf narrow c
-  counts-right lm um ln un w₀ w₄ w₈ w₁₀ l = ap₂ Of a b ∙ sym (counts-of c (record {
-    letters-least = rw (← a) lm;
+  counts-right um ln un w₀ w₄ w₈ w₁₀ l = ap₂ Of a b ∙ sym (counts-of c (record {
+    letters-least = omega arith;
     letters-most = rw (← a) um;
     states-some = rw (← b) ln;
     states-most = rw (← b) un;

@@ -25,7 +25,7 @@ pub fn number(card: &[u8], at: usize) -> usize
     low + 256 * high
 }
 
-// Offsets and lengths are those of m letters and n states, 1 to 26 and 1 to 120, and nothing follows.
+// Offsets and lengths are those of m letters and n states, 0 to 26 and 1 to 120, and nothing follows.
 pub fn contents(card: &[u8]) -> Counts
     ensures { λ r. ⌜ r ≡ countsOf narrow (now (card .entry)) ⌝ }
 {
@@ -34,9 +34,6 @@ pub fn contents(card: &[u8]) -> Counts
     }
     let m = number(card, 2);
     let n = number(card, 6);
-    if m < 1 {
-        return Counts::Bad;
-    }
     if 26 < m {
         return Counts::Bad;
     }

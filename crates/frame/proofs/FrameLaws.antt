@@ -4,6 +4,7 @@ use mathlib.Core.Bool.{Bool, true, false, _&&_}
 use mathlib.Core.Logic.{inl, inr}
 use mathlib.Core.List.{List, [], _∷_, _++_}
 use Prim.Native.Nat.{ℕ, zero, suc, _+_, _-_, _≤_, _<_}
+use native.Mathlib.Nat.{not-suc-le-zero}
 use native.Mathlib.Omega.{arith}
 use lib.Dec.{ltb, leb}
 use lib.ListN.{length, drop, take, length-drop}
@@ -107,9 +108,16 @@ module _ (ls slot : List ℕ) (n : ℕ) (e : n ≡ numberAt slot 0) where
 
 -- ---- line 1
 
-pub no-bytes : (text : List ℕ) → length text ≡ 0 → Heads text (opened.Refused 5 1)
-unfolding compileBook compileText
-no-bytes [] e = record { says = refl }
+-- a text of no bytes: no letters, and no line behind them
+pub no-bytes : (text : List ℕ) → length text ≡ 0 → Heads text (opened.Lines 0 0)
+unfolding compileBook compileText compileLines
+no-bytes [] e = record {
+  says = record {
+    headed = record { is = refl; placed = record { some = λ h. absurd (not-suc-le-zero h); few = omega arith; short = omega arith; at = omega arith } };
+    some = omega arith;
+    within = omega arith;
+  };
+}
 no-bytes (b ∷ text) e = absurd (omega arith)
 
 behind-is : (l : Line) → lettersOf l ≡ drop 1 (l .bytes)
@@ -152,7 +160,7 @@ module _ (text : List ℕ) (end : ℕ) (E : Ends text 0 end) (h : 0 < length tex
   book-head = ap (compileText narrow) (E .lines h)
 
   pub headed : (m : ℕ) (x : Head) → readHead narrow (lineAt text 0 end) ≡ headOf (lineAt text 0 end .bytes) x → x ≡ head.the-variants.Letters m → length text ≤ 16384
-      → Heads text (opened.Lines end)
+      → Heads text (opened.Lines 1 end)
   headed m x e q s =
       let f : readHead narrow (lineAt text 0 end) ≡ letters (take m (drop 1 (lineAt text 0 end .bytes))) = rw q at e in
       let (z, K) = head-read (lineAt text 0 end) (take m (drop 1 (lineAt text 0 end .bytes))) f in
@@ -162,7 +170,7 @@ module _ (text : List ℕ) (end : ℕ) (E : Ends text 0 end) (h : 0 < length tex
       let y : drop 1 (lineAt text 0 end .bytes) ≡ take (end - 1) (drop 1 text) = behind-colon text end one in
       let H : Headed text (drop 1 (lineAt text 0 end .bytes)) (suc end) = record {
         is = book-head ∙ ap (λ r. afterHead r (λ ls. linesFrom narrow text ls (suc end))) g;
-        placed = record { letters = (K′ .least, K′ .most); short = s; at = omega (arith, E .within) };
+        placed = record { some = λ _. K′ .least; few = K′ .most; short = s; at = omega (arith, E .within) };
       } in
       record {
         says = record {
@@ -195,7 +203,7 @@ module _ (text lent : List ℕ) where
   -- what line 1 says
   pub opens : (r : Opened) → length text ≤ 16384 → enough documented lent ≡ true → Heads text r → Opens text lent r
   unfolding outcome
-  opens (opened.Lines end) h e H = record { says = (h, e, H .says) }
+  opens (opened.Lines from end) h e H = record { says = (h, e, H .says) }
   opens (opened.Refused n l) h e H = let z : compileBook narrow text ≡ stopped n l = H .says in record { says = λ room. rw (ltb-false 16384 (length text) h, e, z) }
 
 -- ---- the lengths of the lent buffers

@@ -40,19 +40,19 @@ pub record PutsCard (ls slot : List ℕ) (peak : ℕ) (old new : List ℕ) (r : 
 
 -- ---- the text
 
--- Line 1 was read, and the other lines start at a place.
+-- Line 1 was read, or there is none, and the other lines start at a place.
 pub record Headed (text ls : List ℕ) (next : ℕ) : Type 0 where
   pub is : compileBook narrow text ≡ linesFrom narrow text ls next
   pub placed : Placed text ls next
 
--- Line 1 ends at a place, and its letters stand behind its first byte.
-pub record FirstLine (text : List ℕ) (end : ℕ) : Type 0 where
-  pub headed : Headed text (take (end - 1) (drop 1 text)) (end + 1)
-  pub some : 1 ≤ end
+-- The letters of line 1 stand from one place up to its end.
+pub record FirstLine (text : List ℕ) (from end : ℕ) : Type 0 where
+  pub headed : Headed text (take (end - from) (drop from text)) (end + 1)
+  pub some : from ≤ end
   pub within : end ≤ length text
 
 abbrev pub HeadsSay : List ℕ → Opened → Type 0
-HeadsSay text (opened.Lines end) = FirstLine text end
+HeadsSay text (opened.Lines from end) = FirstLine text from end
 HeadsSay text (opened.Refused n l) = compileBook narrow text ≡ stopped n l
 
 pub record Heads (text : List ℕ) (r : Opened) : Type 0 where
@@ -60,7 +60,7 @@ pub record Heads (text : List ℕ) (r : Opened) : Type 0 where
 
 -- The text is not too long, the lent buffers are long enough, and line 1 was read; or the outcome is a refusal, whatever the card buffer's length.
 abbrev pub OpensSay : List ℕ → List ℕ → Opened → Type 0
-OpensSay text lent (opened.Lines end) = (length text ≤ 16384) × (enough documented lent ≡ true) × FirstLine text end
+OpensSay text lent (opened.Lines from end) = (length text ≤ 16384) × (enough documented lent ≡ true) × FirstLine text from end
 OpensSay text lent (opened.Refused n l) = (room : ℕ) → outcome narrow documented text lent room ≡ stop n l
 
 pub record Opens (text lent : List ℕ) (r : Opened) : Type 0 where

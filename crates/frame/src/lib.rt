@@ -86,9 +86,9 @@ pub fn put_card(letters: &[u8], peak: usize, slot: &[u8], card: &mut [u8]) -> Co
     }
 }
 
-// Where line 1 ends, or the number of a refusal with its line.
+// Where the letters of line 1 begin and end, or the number of a refusal with its line. A text of no bytes has no letters, and no line behind them.
 pub enum Opened {
-    Lines(usize),
+    Lines(usize, usize),
     Refused(u8, usize),
 }
 
@@ -99,12 +99,12 @@ fn first_line(kinds: &KindTable, text: &[u8]) -> Opened
     ensures { λ r. ⌜ Heads (now (text .entry)) r ⌝ }
 {
     if text.len() == 0 {
-        return Opened::Refused(5, 1);
+        return Opened::Lines(0, 0);
     }
     let end = ends::line_end(kinds, text, 0);
     let ended = end < text.len();
     match head::read_head(kinds, &text[0..end], ended) {
-        Head::Letters(_m) => Opened::Lines(end),
+        Head::Letters(_m) => Opened::Lines(1, end),
         Head::Refused(n) => Opened::Refused(n, 1),
     }
 }

@@ -49,26 +49,24 @@ module _ (ls : List ℕ) (d : Draft) (b : Book) (low high registers : List ℕ) 
       → Keeps pl stack low high registers′ low′ high′ registers″ → Behind pl b next p (n .book) → FormSays ls d F b next low′ high′ registers″ true n
   unfolding compileForm
   form-on (place.Name x) F (e, f) next p n stack low′ high′ registers′ registers″ few (counts, M, q, pk, H, R) K U = (
-    record { env = (x, M) ∷ d .env; counts = d .counts ++ counts; ruled = d .ruled; kept = d .kept },
+    record { env = (x, M) ∷ d .env; counts = d .counts ++ counts; kept = d .kept },
     ap (compileForm narrow ls d) f
-        ∙ ap (λ r. onMade r (λ counts M. on (record { env = (x, M) ∷ d .env; counts = d .counts ++ counts; ruled = d .ruled; kept = d .kept }))) (sym (ap (lineMade narrow ls (d .env) (d .kept)) f) ∙ q),
+        ∙ ap (λ r. onMade r (λ counts M. on (record { env = (x, M) ∷ d .env; counts = d .counts ++ counts; kept = d .kept }))) (sym (ap (lineMade narrow ls (d .env) (d .kept)) f) ∙ q),
     record {
       stored = K .stored (length ls) (d .env) (d .kept) M few H (record { names = D .stored .names; registers = R });
       names = U .names .more (namesOf (d .env)) (D .names);
-      ruled = U .ruled ∙ D .ruled;
       peak = omega (arith, U .peak, D .peak, pk, most-append (d .counts) counts);
     },
     U .at,
     U .line,
   )
   form-on place.Book F (P, cs, f) next p n stack low′ high′ registers′ registers″ few (counts, M, q, pk, H, R) K U = (
-    record { env = d .env; counts = d .counts ++ counts; ruled = true; kept = M },
+    record { env = d .env; counts = d .counts ++ counts; kept = M },
     ap (compileForm narrow ls d) f
-        ∙ ap (λ r. onMade r (λ counts M. on (record { env = d .env; counts = d .counts ++ counts; ruled = true; kept = M }))) (sym (ap (lineMade narrow ls (d .env) (d .kept)) f) ∙ q),
+        ∙ ap (λ r. onMade r (λ counts M. on (record { env = d .env; counts = d .counts ++ counts; kept = M }))) (sym (ap (lineMade narrow ls (d .env) (d .kept)) f) ∙ q),
     record {
       stored = K .stored (length ls) (d .env) (d .kept) M few H (record { names = D .stored .names; registers = R });
       names = rw (U .names) (D .names);
-      ruled = U .ruled;
       peak = omega (arith, U .peak, D .peak, pk, most-append (d .counts) counts);
     },
     U .at,
@@ -78,8 +76,8 @@ module _ (ls : List ℕ) (d : Draft) (b : Book) (low high registers : List ℕ) 
   -- a form whose stages stop
   form-off : (F : Form) (next : ℕ) (n : Next) (low′ high′ registers′ : List ℕ) → lineMade narrow ls (d .env) (d .kept) F ≡ refused (n .number) → FormSays ls d F b next low′ high′ registers′ false n
   unfolding compileForm
-  form-off (define x e) next n low′ high′ registers′ q = ap (λ r. onMade r (λ counts M. on (record { env = (x, M) ∷ d .env; counts = d .counts ++ counts; ruled = d .ruled; kept = d .kept }))) q
-  form-off (rule restricts p cs) next n low′ high′ registers′ q = ap (λ r. onMade r (λ counts M. on (record { env = d .env; counts = d .counts ++ counts; ruled = true; kept = M }))) q
+  form-off (define x e) next n low′ high′ registers′ q = ap (λ r. onMade r (λ counts M. on (record { env = (x, M) ∷ d .env; counts = d .counts ++ counts; kept = d .kept }))) q
+  form-off (rule restricts p cs) next n low′ high′ registers′ q = ap (λ r. onMade r (λ counts M. on (record { env = d .env; counts = d .counts ++ counts; kept = M }))) q
   form-off malformed next n low′ high′ registers′ q = ap (λ r. onMade r (λ counts M. on d)) q
 
 module _ (ls : List ℕ) (b : Book) (next len : ℕ) (code low high registers registers′ stack : List ℕ) (r : Evaluated) (E : Evaluates layout ls low high code len registers registers′ stack r) where

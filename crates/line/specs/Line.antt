@@ -64,7 +64,6 @@ pub record Runs (ls : List ℕ) (len : ℕ) (code low high registers stack rows 
 pub record Drafted (ls : List ℕ) (d : Draft) (b : Book) (low high registers : List ℕ) : Type 0 where
   pub stored : Stored (length ls) (d .env) (d .kept) low high registers
   pub names : Holds (b .names) (namesOf (d .env))
-  pub ruled : b .ruled ≡ d .ruled
   pub peak : b .peak ≡ most (d .counts)
 
 -- A form compiled, with the draft d so far: the book goes on with a new draft, whose next line starts at `next`; or it stops.

@@ -6,7 +6,6 @@ use Prim.Native.Nat.{ℕ, suc, _+_, _-_, _≤_, _<_}
 use native.Mathlib.Omega.{arith}
 use lib.ListN.{length, drop, drop-of-length-le}
 use Rattle.automata.specs.Format.{narrow}
-use Rattle.automata.specs.Booleans.{choose}
 use Rattle.book.specs.Text.{linesOf}
 use borrow.Author.Tests.{ltb-true, ltb-false}
 use Rattle.compiler.specs.Book.{Draft, LineResult, on, off, afterLine, compileLine, compileLines, done, stopped, startDraft}
@@ -21,7 +20,7 @@ use Rattle.compiler.specs.Rest.{linesFrom, Placed}
 use Rattle.lines.specs.Lines.{Lent, CompilesLines}
 use Rattle.lines.specs.Course.{Reaches, Follows}
 use Rattle.lines.specs.declared.Course.{Course}
-use Rattle.progress.specs.declared.Ended.the-variants.{Done, Refused}
+use Rattle.progress.specs.declared.Ended.the-variants.{Refused}
 
 -- The lines before the book's place are compiled: what is left of the lines, with the draft that the buffers hold, gives what all the lines give.
 pub record Reached (text ls : List ℕ) (next : ℕ) (b : Book) (low high registers : List ℕ) : Type 0 where
@@ -47,7 +46,7 @@ pub reached-start : (text ls : List ℕ) (next : ℕ) (b : Book) (low high regis
     → Reached text ls next b low high registers
 reached-start text ls next b low high registers P H S = record {
   draft = startDraft (length ls);
-  drafted = record { stored = record { names = λ x i m. absurd (false≢true m); registers = H .registers }; names = S .names; ruled = S .ruled; peak = S .peak };
+  drafted = record { stored = record { names = λ x i m. absurd (false≢true m); registers = H .registers }; names = S .names; peak = S .peak };
   says = sym (ap₂ (λ a l. compileLines narrow ls (linesOf (drop a text)) l (startDraft (length ls))) (S .at) (S .line));
   at = omega (arith, S .at, P .at);
   line = omega (arith, S .line);
@@ -85,26 +84,12 @@ module _ (text ls : List ℕ) (next : ℕ) (b : Book) (low high registers : List
     lines-off q = record { says = first (off (r .number)) (said false q) }
 
   module _ (h : length text ≤ b .at) where
-    at-end : linesFrom narrow text ls next ≡ choose (R .draft .ruled) (λ _. done ls (R .draft)) (λ _. stopped 10 0)
+    at-end : linesFrom narrow text ls next ≡ done ls (R .draft)
     unfolding compileLines
     at-end = R .says ∙ ap (λ s. compileLines narrow ls (linesOf s) (b .line) (R .draft)) (drop-of-length-le text {i = b .at} h)
 
-    lines-done : b .ruled ≡ true → CompilesLines text ls next registers (Done (b .peak))
-    lines-done t =
-        let z : R .draft .ruled ≡ true = sym (R .drafted .ruled) ∙ t in
-        record { says = (R .draft, at-end ∙ ap (λ v. choose v (λ _. done ls (R .draft)) (λ _. stopped 10 0)) z, R .drafted .peak, R .drafted .stored .registers .book) }
-
-    lines-none : b .ruled ≡ false → CompilesLines text ls next registers (Refused 10 0)
-    lines-none t =
-        let z : R .draft .ruled ≡ false = sym (R .drafted .ruled) ∙ t in
-        record { says = at-end ∙ ap (λ v. choose v (λ _. done ls (R .draft)) (λ _. stopped 10 0)) z }
-
     lines-end : (r : Ended) → r ≡ endOf b → CompilesLines text ls next registers r
-    lines-end r e = subst (CompilesLines text ls next registers) (sym e) (go (b .ruled) refl)
-      where
-        go : (v : Bool) → b .ruled ≡ v → CompilesLines text ls next registers (cond v (Done (b .peak)) (Refused 10 0))
-        go true t = lines-done t
-        go false t = lines-none t
+    lines-end r e = subst (CompilesLines text ls next registers) (sym e) (record { says = (R .draft, at-end, R .drafted .peak, R .drafted .stored .registers .book) })
 
 -- ---- the course
 
@@ -183,11 +168,11 @@ lent-begun L e f = record {
 -- The book and the buffers are ready for the line at the book's place.
 pub going : (text ls : List ℕ) (next : ℕ) (b : Book) (low₀ high₀ registers₀ stack₀ rows₀ table₀ work₀ code₀ low high registers stack rows table work code : List ℕ)
     → Placed text ls next → Lent low₀ high₀ registers₀ stack₀ rows₀ table₀ work₀ code₀ → Lengths low₀ high₀ registers₀ stack₀ rows₀ table₀ work₀ code₀ low high registers stack rows table work code
-    → Reached text ls next b low high registers → Going text ls b low high registers stack rows table work code
-going text ls next b low₀ high₀ registers₀ stack₀ rows₀ table₀ work₀ code₀ low high registers stack rows table work code P G L R = record {
+    → Reached text ls next b low high registers × (b .at < length text) → Going text ls b low high registers stack rows table work code
+going text ls next b low₀ high₀ registers₀ stack₀ rows₀ table₀ work₀ code₀ low high registers stack rows table work code P G L (R, h) = record {
   draft = R .draft;
   drafted = R .drafted;
-  letters = P .letters;
+  letters = (P .some (omega (arith, h)), P .few);
   line = omega (arith, R .line, R .at, P .short);
   room = record {
     low = omega (arith, G .room .low, L .low≡);

@@ -28,7 +28,7 @@ use Rattle.operations.specs.declared.apply.Stepped.the-variants.{Next, R
 
 -- the format whose limits the layout has; all else is 01's
 abbrev pub formatOf : Layout → Format
-formatOf l = record { leastLetters = 1; mostLetters = 26; mostStates = l .states; mostSets = l .sets; mostNames = 26; numberBytes = 2; moveBytes = 1 }
+formatOf l = record { leastLetters = 0; mostLetters = 26; mostStates = l .states; mostSets = l .sets; mostNames = 26; numberBytes = 2; moveBytes = 1 }
 
 -- the greatest of the numbers, 0 if there is none
 abbrev pub greatest : List ℕ → ℕ

@@ -1,5 +1,5 @@
-// A book in the making, as far as it is no machine: where the next line starts and its number, the names defined so far, whether there was a rule, and the
-// most sets that a stage made; and what a line and the end of the text say of it. These are parts: callers give a line's number that fits.
+// A book in the making, as far as it is no machine: where the next line starts and its number, the names defined so far, and the most sets that a
+// stage made; and what a line and the end of the text say of it. These are parts: callers give a line's number that fits.
 use kept::Place;
 use reader::line::LineAnswer;
 use reader::names::Names;
@@ -14,7 +14,6 @@ pub struct Book {
     pub at: usize,
     pub line: usize,
     pub names: Names,
-    pub ruled: bool,
     pub peak: usize,
 }
 
@@ -42,7 +41,6 @@ impl Book {
             at: next,
             line: 2,
             names: Names::none(),
-            ruled: false,
             peak: 0,
         }
     }
@@ -58,7 +56,6 @@ impl Book {
             at: next,
             line: self.line + 1,
             names: names.with(name),
-            ruled: self.ruled,
             peak: greater(self.peak, peak),
         }
     }
@@ -73,7 +70,6 @@ impl Book {
             at: next,
             line: self.line + 1,
             names: names,
-            ruled: true,
             peak: greater(self.peak, peak),
         }
     }
@@ -93,10 +89,7 @@ impl Book {
     pub fn end(self) -> Ended
         ensures { λ r. ⌜ r ≡ endOf self ⌝ }
     {
-        if self.ruled {
-            return Ended::Done(self.peak);
-        }
-        Ended::Refused(10, 0)
+        Ended::Done(self.peak)
     }
 }
 

@@ -1,24 +1,38 @@
--- A book that compiling accepts: what follows from the answer alone. The letters are 1 to 26 and rise, the kept machine is within the limits, and
--- its words are the plans that the book allows: nothing is left to assume.
+-- A book that compiling accepts: what follows from the answer alone. The letters are 1 to 26 and rise, or none where the text has no bytes, the kept
+-- machine is within the limits, and its words are the plans that the book allows: nothing is left to assume.
 use mathlib.Core.Path.{_≡_, sym, ap}
-use mathlib.Core.List.{List}
+use mathlib.Core.Bool.{Bool, true, false}
+use mathlib.Core.List.{List, [], _∷_}
 use Prim.Native.Nat.{ℕ, _≤_}
+use native.Mathlib.Nat.{not-suc-le-zero}
 use native.Mathlib.Omega.{arith}
+use lib.Dec.{eqb}
 use lib.ListN.{length}
+use Rattle.automata.specs.Booleans.{choose}
 use Rattle.automata.specs.Format.{Format}
 use Rattle.card.specs.Alphabet.{Alphabet}
 use Rattle.card.specs.Same.{cardOf}
 use Rattle.card.specs.Demand.{Compiled}
-use Rattle.book.specs.Text.{linesOf}
-use Rattle.book.specs.HeadLaws.{Letters}
+use Rattle.book.specs.Kind.{kindOf, lineEndKind}
+use Rattle.book.specs.Text.{Line, putByte, linesOf}
 use Rattle.compiler.specs.Allows.{bookLetters, allows}
 use Rattle.compiler.specs.Book.{Draft, done, compileBook}
-use Rattle.compiler.specs.BookLaws.{accepted-right, accepted-letters, accepted-alphabet}
+use Rattle.compiler.specs.BookLaws.{LettersOf, accepted-right, accepted-letters, accepted-alphabet}
 use Rattle.compiler.specs.Bounds.{accepted-within}
 use Rattle.compiler.specs.Outcome.{Outcome, card, stop, most, outcome}
 use Rattle.compiler.specs.Table.{Outcomes, text-too-long, buffer-too-short, book-stops, output-too-short, gives, outcomes, book-says-only}
 use Rattle.compiler.specs.BookStages.{Peak}
 use Rattle.compiler.specs.Peak.{book-peak}
+
+-- A text with a byte has a line.
+lines-some : (text : List ℕ) → 1 ≤ length text → 1 ≤ length (linesOf text)
+lines-some [] h = h
+lines-some (b ∷ text) h = go (eqb (kindOf b) lineEndKind) (linesOf text)
+  where
+    go : (v : Bool) (ls : List Line) → 1 ≤ length (choose v (λ _. record { bytes = []; ended = true } ∷ ls) (λ _. putByte b ls))
+    go true ls = omega arith
+    go false [] = omega arith
+    go false (l ∷ ls) = omega arith
 
 -- What was made of an accepted text.
 pub record Accepted (fmt : Format) (text c : List ℕ) (room peak : ℕ) : Type 0 where
@@ -63,20 +77,39 @@ module _ (fmt : Format) (needs text lent : List ℕ) (room : ℕ) (c : List ℕ)
   abbrev ls : List ℕ
   ls = bookLetters (linesOf text)
 
-  pub letters-form : Letters fmt (bookLetters (linesOf text))
+  pub letters-form : LettersOf fmt (linesOf text) (bookLetters (linesOf text))
   letters-form = accepted-alphabet fmt text ls (accepted .draft) (accepted .compiled)
 
   pub alphabet : Alphabet (bookLetters (linesOf text))
-  alphabet = record { letter = letters-form .letter; rising = letters-form .rises }
+  alphabet = go (linesOf text) letters-form
+    where
+      go : (lines : List Line) → LettersOf fmt lines (bookLetters lines) → Alphabet (bookLetters lines)
+      go [] f = record { letter = λ i h. absurd (not-suc-le-zero h); rising = λ i j h b. absurd (not-suc-le-zero b) }
+      go (l ∷ rest) f = record { letter = f .letter; rising = f .rises }
 
-  -- the kept machine, as the card's laws ask for it
-  pub compiled : 2 ≤ fmt .mostStates → Compiled fmt (bookLetters (linesOf text)) (allows text) (accepted .draft .kept)
-  compiled two =
+  pub letters-most : length (bookLetters (linesOf text)) ≤ fmt .mostLetters
+  letters-most = go (linesOf text) letters-form
+    where
+      go : (lines : List Line) → LettersOf fmt lines (bookLetters lines) → length (bookLetters lines) ≤ fmt .mostLetters
+      go [] f = omega arith
+      go (l ∷ rest) f = f .most
+
+  -- "Line 1 is `:` and then 1 to 26 letters": an accepted text with a byte has a letter
+  pub letters-some : 1 ≤ length text → 1 ≤ length (bookLetters (linesOf text))
+  letters-some h = go (linesOf text) (lines-some text h) letters-form
+    where
+      go : (lines : List Line) → 1 ≤ length lines → LettersOf fmt lines (bookLetters lines) → 1 ≤ length (bookLetters lines)
+      go [] b f = absurd (not-suc-le-zero b)
+      go (l ∷ rest) b f = f .least
+
+  -- the kept machine, as the laws of a card ask for it, where a card may have so few letters
+  pub compiled : 2 ≤ fmt .mostStates → fmt .leastLetters ≤ length (bookLetters (linesOf text)) → Compiled fmt (bookLetters (linesOf text)) (allows text) (accepted .draft .kept)
+  compiled two some =
       let r = accepted-right fmt text ls (accepted .draft) (accepted .compiled) in
       record {
         alphabet = alphabet;
-        letters-least = letters-form .least;
-        letters-most = letters-form .most;
+        letters-least = some;
+        letters-most = letters-most;
         states-most = accepted-within fmt two text ls (accepted .draft) (accepted .compiled) .states;
         canonical = r .recognizes .canonical;
         exact = r .recognizes .exact;

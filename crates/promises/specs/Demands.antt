@@ -49,8 +49,9 @@ compile-answers fmt needs text lent room o = (
 pub refusal-untouched : (fmt : Format) (needs text lent : List ℕ) (room : ℕ) (r at : ℕ) → outcome fmt needs text lent room ≡ stop r at → (old : List ℕ) → bufferAfter (outcome fmt needs text lent room) old ≡ old
 refusal-untouched fmt needs text lent room r at e old = rw e
 
+-- An accepted book, where the given `.*` fits and a card may have as few letters as the book: in today's format it may have none.
 module _ (fmt : Format) (s : Sound fmt) (two : 2 ≤ fmt .mostStates) (needs text lent : List ℕ) (room : ℕ) (c : List ℕ) (peak : ℕ)
-    (e : outcome fmt needs text lent room ≡ card c peak) where
+    (e : outcome fmt needs text lent room ≡ card c peak) (some : fmt .leastLetters ≤ length (bookLetters (linesOf text))) where
   abbrev ls : List ℕ
   ls = bookLetters (linesOf text)
 
@@ -60,11 +61,11 @@ module _ (fmt : Format) (s : Sound fmt) (two : 2 ≤ fmt .mostStates) (needs tex
   -- card of these letters that allows the same plans is this very card.
   pub demand-three : Demand3 fmt (bookLetters (linesOf text)) (bookAllows text) c
   demand-three = subst (Demand3 fmt ls (bookAllows text)) (sym (accepted fmt needs text lent room c peak e .bytes))
-      (demand-3 fmt s ls (allows text) (accepted fmt needs text lent room c peak e .draft .kept) (compiled fmt needs text lent room c peak e two))
+      (demand-3 fmt s ls (allows text) (accepted fmt needs text lent room c peak e .draft .kept) (compiled fmt needs text lent room c peak e two some))
 
   pub accepted-bytes : Bytes c
   accepted-bytes = subst Bytes (sym (accepted fmt needs text lent room c peak e .bytes))
-      (card-bytes fmt s ls (allows text) (accepted fmt needs text lent room c peak e .draft .kept) (compiled fmt needs text lent room c peak e two))
+      (card-bytes fmt s ls (allows text) (accepted fmt needs text lent room c peak e .draft .kept) (compiled fmt needs text lent room c peak e two some))
 
   -- ---- demand 2
 
@@ -127,16 +128,19 @@ demand-two-board fmt s c b m n = (to, back)
 
 -- "Every accepted book with the same letters that allows the same plans, whatever its lent buffers held, gives this very card, byte for byte."
 pub same-card : (fmt : Format) → Sound fmt → 2 ≤ fmt .mostStates → (needs text lent : List ℕ) (room : ℕ) (c : List ℕ) (peak : ℕ) → outcome fmt needs text lent room ≡ card c peak
-    → (text′ lent′ : List ℕ) (room′ : ℕ) (c′ : List ℕ) (peak′ : ℕ) → outcome fmt needs text′ lent′ room′ ≡ card c′ peak′
+    → fmt .leastLetters ≤ length (bookLetters (linesOf text)) → (text′ lent′ : List ℕ) (room′ : ℕ) (c′ : List ℕ) (peak′ : ℕ) → outcome fmt needs text′ lent′ room′ ≡ card c′ peak′
     → bookLetters (linesOf text) ≡ bookLetters (linesOf text′) → ((plan : List ℕ) → Known (bookLetters (linesOf text)) plan → bookAllows text plan ≡ bookAllows text′ plan) → c ≡ c′
-same-card fmt s two needs text lent room c peak e text′ lent′ room′ c′ peak′ e′ letters plans =
-    D .one c′ (accepted-bytes fmt s two needs text′ lent′ room′ c′ peak′ e′) (D′ .loads) (D′ .letters ∙ sym letters) (λ plan. D′ .plans plan ∙ sym (all plan))
+same-card fmt s two needs text lent room c peak e some text′ lent′ room′ c′ peak′ e′ letters plans =
+    D .one c′ (accepted-bytes fmt s two needs text′ lent′ room′ c′ peak′ e′ some′) (D′ .loads) (D′ .letters ∙ sym letters) (λ plan. D′ .plans plan ∙ sym (all plan))
   where
     D : Demand3 fmt (bookLetters (linesOf text)) (bookAllows text) c
-    D = demand-three fmt s two needs text lent room c peak e
+    D = demand-three fmt s two needs text lent room c peak e some
+
+    some′ : fmt .leastLetters ≤ length (bookLetters (linesOf text′))
+    some′ = subst (λ l. fmt .leastLetters ≤ length l) letters some
 
     D′ : Demand3 fmt (bookLetters (linesOf text′)) (bookAllows text′) c′
-    D′ = demand-three fmt s two needs text′ lent′ room′ c′ peak′ e′
+    D′ = demand-three fmt s two needs text′ lent′ room′ c′ peak′ e′ some′
 
     -- a plan that a book allows is of its letters
     own : (text plan : List ℕ) → bookAllows text plan ≡ true → Known (bookLetters (linesOf text)) plan

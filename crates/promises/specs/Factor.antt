@@ -5,6 +5,7 @@ use mathlib.Core.Logic.{_↔_}
 use mathlib.Core.List.{List}
 use Prim.Native.Nat.{ℕ, _≤_}
 use native.Mathlib.Omega.{arith}
+use lib.ListN.{length}
 use Rattle.automata.specs.Format.{Format, narrow}
 use Rattle.card.specs.Layout.{Sound, narrow-sound, lettersOf}
 use Rattle.card.specs.Alphabet.{Known}
@@ -19,9 +20,10 @@ use Rattle.compiler.specs.Outcome.{card, outcome}
 use Rattle.promises.specs.Demands.{bookAllows, demand-three}
 
 module _ (fmt : Format) (s : Sound fmt) (two : 2 ≤ fmt .mostStates) (needs text lent : List ℕ) (room : ℕ) (c : List ℕ) (peak : ℕ)
-    (e : outcome fmt needs text lent room ≡ card c peak) (plan : List ℕ) (o : Known (bookLetters (linesOf text)) plan) where
+    (e : outcome fmt needs text lent room ≡ card c peak) (some : fmt .leastLetters ≤ length (bookLetters (linesOf text)))
+    (plan : List ℕ) (o : Known (bookLetters (linesOf text)) plan) where
   D : Demand3 fmt (bookLetters (linesOf text)) (bookAllows text) c
-  D = demand-three fmt s two needs text lent room c peak e
+  D = demand-three fmt s two needs text lent room c peak e some
 
   same : cardAllows fmt c ≡ bookAllows text
   same = fun-ext (D .plans)
@@ -45,10 +47,10 @@ module _ (fmt : Format) (s : Sound fmt) (two : 2 ≤ fmt .mostStates) (needs tex
 module _ (needs text lent : List ℕ) (room : ℕ) (c : List ℕ) (peak : ℕ) (e : outcome narrow needs text lent room ≡ card c peak)
     (plan : List ℕ) (o : Known (bookLetters (linesOf text)) plan) where
   pub shortest-today : (r : Shortest) → (shortest narrow c plan ≡ found r) ↔ Blames (bookAllows text) plan r
-  shortest-today = shortest-of-book narrow narrow-sound (omega arith) needs text lent room c peak e plan o
+  shortest-today = shortest-of-book narrow narrow-sound (omega arith) needs text lent room c peak e (omega arith) plan o
 
   pub none-today : (shortest narrow c plan ≡ found none) ↔ Inside (bookAllows text) plan
-  none-today = none-of-book narrow narrow-sound (omega arith) needs text lent room c peak e plan o
+  none-today = none-of-book narrow narrow-sound (omega arith) needs text lent room c peak e (omega arith) plan o
 
   pub nothing-today : ((w : List ℕ) → bookAllows text w ≡ false) → shortest narrow c plan ≡ found (at 0 0)
-  nothing-today = nothing-of-book narrow narrow-sound (omega arith) needs text lent room c peak e plan o
+  nothing-today = nothing-of-book narrow narrow-sound (omega arith) needs text lent room c peak e (omega arith) plan o

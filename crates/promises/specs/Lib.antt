@@ -5,3 +5,4 @@ pub mod PlanCuts
 pub mod Demands
 pub mod Today
 pub mod Factor
+pub mod Islands

@@ -1,5 +1,7 @@
--- "a numbered refusal from document 01": the number of a book's refusal is one of the table's, 1 to 11. So it is never the 0 of an accepted book.
-use mathlib.Core.Path.{_≡_}
+-- "a numbered refusal from document 01": the number of a book's refusal is one of the table's, 1 to 9 or 11. So it is never the 0 of an accepted
+-- book, and "10 occurs no longer".
+use mathlib.Core.Path.{_≡_, refl}
+use mathlib.Core.Logic.{_≢_}
 use mathlib.Core.List.{List, [], _∷_}
 use Prim.Native.Nat.{ℕ, suc, _≤_}
 use native.Mathlib.Omega.{arith}
@@ -22,7 +24,7 @@ use Rattle.book.specs.HeadLaws as HL
 use Rattle.book.specs.HeadLaws.{HeadSays}
 use Rattle.compiler.specs.Book.{Draft, BookResult, done, stopped}
 use Rattle.compiler.specs.Outcome.{Outcome, card, stop, outcome}
-use Rattle.compiler.specs.Table.{MakesLine, LinesSay, line-stops, stage-stops, goes-on, no-rule, all-lines, BookSays, no-bytes, head-stops, head-goes, Outcomes, text-too-long, buffer-too-short, book-stops, output-too-short, gives, outcomes}
+use Rattle.compiler.specs.Table.{MakesLine, LinesSay, line-stops, stage-stops, goes-on, all-lines, BookSays, no-bytes, head-stops, head-goes, Outcomes, text-too-long, buffer-too-short, book-stops, output-too-short, gives, outcomes}
 
 -- A number between two others.
 abbrev Between : ℕ → ℕ → ℕ → Type 0
@@ -113,11 +115,11 @@ head-numbered fmt l q (HL.HeadSays.no-line-end C t) = (omega arith, omega arith)
 head-numbered fmt l q (HL.HeadSays.malformed-line C t n) = (omega arith, omega arith)
 head-numbered fmt l q (HL.HeadSays.says C t ls f) = tt
 
--- ---- books: 3 to 10
+-- ---- books: 3 to 9
 
 abbrev BookNumbered : BookResult → Type 0
 BookNumbered (done ls d) = Unit {0}
-BookNumbered (stopped r at) = Between 3 10 r
+BookNumbered (stopped r at) = Between 3 9 r
 
 module _ (fmt : Format) where
   form-numbered : (ls : List ℕ) (d : Draft) (F : Form) (r : Made) → MakesLine fmt ls d F r → Numbered r
@@ -126,30 +128,33 @@ module _ (fmt : Format) where
   form-numbered ls d malformed = λ r m. absurd m
 
   lines-numbered : (ls : List ℕ) (lines : List Line) (at : ℕ) (d : Draft) (b : BookResult) → LinesSay fmt ls lines at d b → BookNumbered b
-  lines-numbered ls lines at d b (no-rule e) = (omega arith, omega arith)
-  lines-numbered ls lines at d b (all-lines e) = tt
+  lines-numbered ls lines at d b all-lines = tt
   lines-numbered ls (l ∷ rest) at d b (line-stops {r = r} s) = let n = read-numbered ls _ l (stops r) s in (omega arith, omega arith)
   lines-numbered ls (l ∷ rest) at d b (stage-stops {r = r} F s m) = let n = form-numbered ls d F (refused r) m in (omega arith, omega arith)
   lines-numbered ls (l ∷ rest) at d b (goes-on F counts M s m t) = lines-numbered ls rest (suc at) _ b t
 
   book-numbered : (lines : List Line) (b : BookResult) → BookSays fmt lines b → BookNumbered b
-  book-numbered lines b no-bytes = (omega arith, omega arith)
+  book-numbered lines b no-bytes = tt
   book-numbered (l ∷ rest) b (head-stops {r = r} s) = let n = head-numbered fmt l (L.HeadRead.stops r) s in (omega arith, omega arith)
   book-numbered (l ∷ rest) b (head-goes ls s t) = lines-numbered ls rest 2 _ b t
 
--- ---- the table: 1 to 11
+-- ---- the table: 1 to 9 and 11
 
 abbrev OutcomeNumbered : Outcome → Type 0
 OutcomeNumbered (card c peak) = Unit {0}
-OutcomeNumbered (stop r at) = Between 1 11 r
+OutcomeNumbered (stop r at) = Between 1 11 r × (r ≢ 10)
 
--- THE NUMBER of a refusal is one of the table's.
-pub refusal-numbered : (fmt : Format) (needs text lent : List ℕ) (room r at : ℕ) → outcome fmt needs text lent room ≡ stop r at → (1 ≤ r) × (r ≤ 11)
+-- THE NUMBER of a refusal is one of the table's,
+pub refusal-numbered : (fmt : Format) (needs text lent : List ℕ) (room r at : ℕ) → outcome fmt needs text lent room ≡ stop r at → ((1 ≤ r) × (r ≤ 11)) × (r ≢ 10)
 refusal-numbered fmt needs text lent room r at e = rw e at (go (outcome fmt needs text lent room) (outcomes fmt needs text lent room))
   where
     go : (o : Outcome) → Outcomes fmt needs text lent room o → OutcomeNumbered o
-    go o (text-too-long h) = (omega arith, omega arith)
-    go o (buffer-too-short h b) = (omega arith, omega arith)
-    go o (book-stops h b r at s) = let n = book-numbered fmt _ (stopped r at) s in (omega arith, omega arith)
-    go o (output-too-short h b ls d s x) = (omega arith, omega arith)
+    go o (text-too-long h) = ((omega arith, omega arith), λ z. omega arith)
+    go o (buffer-too-short h b) = ((omega arith, omega arith), λ z. omega arith)
+    go o (book-stops h b r at s) = let n = book-numbered fmt _ (stopped r at) s in ((omega arith, omega arith), λ z. omega arith)
+    go o (output-too-short h b ls d s x) = ((omega arith, omega arith), λ z. omega arith)
     go o (gives h b ls d s x) = tt
+
+-- and "10 occurs no longer": for every text, whatever is lent, and every length of the card buffer.
+pub never-ten : (fmt : Format) (needs text lent : List ℕ) (room at : ℕ) → outcome fmt needs text lent room ≢ stop 10 at
+never-ten fmt needs text lent room at e = refusal-numbered fmt needs text lent room 10 at e .1 refl

@@ -1,5 +1,5 @@
 // Reads texts from standard input, each ended by a byte 0x1E, and writes for each the number and the line of the first refusal that reading it
-// gives: 3 to 7 in a line, or 10 without a line where there is no rule; `0 0` where it gives none. No stage is made.
+// gives, 3 to 7 in a line; `0 0` where it gives none, as for a text of no bytes. No stage is made.
 use lexer::kinds::KindTable;
 use libc::STDOUT_FILENO;
 use reader::line::LineAnswer;
@@ -25,7 +25,6 @@ fn later(kinds: &KindTable, text: &[u8], start: usize, letters: &[u8]) -> Outcom
 {
     let mut out = io::large_buffer();
     let mut names = Names::none();
-    let mut ruled = false;
     let mut line = 2;
     let mut at = start;
     while at < text.len() {
@@ -35,7 +34,6 @@ fn later(kinds: &KindTable, text: &[u8], start: usize, letters: &[u8]) -> Outcom
                 at = next;
             }
             LineAnswer::Rule(_, next) => {
-                ruled = true;
                 at = next;
             }
             LineAnswer::Refused(number) => {
@@ -44,20 +42,16 @@ fn later(kinds: &KindTable, text: &[u8], start: usize, letters: &[u8]) -> Outcom
         }
         line += 1;
     }
-    if ruled {
-        Outcome { number: 0, line: 0 }
-    } else {
-        Outcome {
-            number: 10,
-            line: 0,
-        }
-    }
+    Outcome { number: 0, line: 0 }
 }
 
 fn first_refusal(kinds: &KindTable, text: &[u8]) -> Outcome
     requires { ⌜ Kinds (now kinds) ⌝ }
     requires { ⌜ length (now text) ≤ 4096 ⌝ }
 {
+    if text.len() == 0 {
+        return Outcome { number: 0, line: 0 };
+    }
     let end = line_end(kinds, text, 0);
     let ended = end < text.len();
     match read_head(kinds, &text[0..end], ended) {

@@ -15,7 +15,9 @@ abbrev μ-loop : tie.MeasureT-loop
     left (length text) course
 
 begin-requires : tie.Need-begin-requires Inv-loop μ-loop
-begin-requires c κs = (c .before .before .before .before .before .before .before .before .before .before .before .before .pre .1 .0 .letters .1, (c .before .before .before .before .before .before .before .before .before .before .before .before .pre .1 .1 .room .registers, c .before .before .before .before .before .before .before .before .before .before .before .before .pre .1 .1 .room .stack))
+begin-requires c κs =
+    let p = c .before .before .before .before .before .before .before .before .before .before .before .before .pre .1 in
+    (p .0 .few, (p .1 .room .registers, p .1 .room .stack))
 
 loop-holds : tie.Need-loop-holds Inv-loop μ-loop
 loop-holds c =
@@ -38,7 +40,7 @@ one-line-requires c κs =
       (
         going (c30 .args .text .now) (c30 .args .letters .now) (c30 .args .next) (c10 .loop .course .book) _ _ _ _ _ _ _ _ (c10 .loop .low) (c10 .loop .high) (c10 .loop .registers)
             (c10 .loop .stack) (c10 .loop .rows) (c10 .loop .table) (c10 .loop .work) (c10 .loop .code) (c30 .pre .1 .0) (lent-begun (c30 .pre .1 .1) (c17 .begin .kept .1 .0) (c17 .begin .kept .1 .1 .0))
-            (c10 .loop .inv .0) (course-on (c30 .args .text .now) (c30 .args .letters .now) (c30 .args .next) _ _ _ _ (c9 .loop-test .taken) (c10 .loop .inv .1) .0),
+            (c10 .loop .inv .0) (course-on (c30 .args .text .now) (c30 .args .letters .now) (c30 .args .next) _ _ _ _ (c9 .loop-test .taken) (c10 .loop .inv .1)),
         course-on (c30 .args .text .now)
             (c30 .args .letters .now) (c30 .args .next) (c10 .loop .low) (c10 .loop .high) (c10 .loop .registers) _ (c9 .loop-test .taken) (c10 .loop .inv .1) .1,
       ),

@@ -10,10 +10,10 @@ use Rattle.reader_run.proofs.later.Statement.{statement}
 use Rattle.reader_run.proofs.later.Tie as tie
 
 abbrev Inv-loop : tie.InvT-loop
-Inv-loop kinds text start letters out₀ names₀ ruled₀ line₀ at₀ out names ruled line at = (65536 ≡ length out) × (line ≤ at)
+Inv-loop kinds text start letters out₀ names₀ line₀ at₀ out names line at = (65536 ≡ length out) × (line ≤ at)
 
 abbrev μ-loop : tie.MeasureT-loop
-μ-loop kinds text start letters out₀ names₀ ruled₀ line₀ at₀ out names ruled line at = length text - at
+μ-loop kinds text start letters out₀ names₀ line₀ at₀ out names line at = length text - at
 
 loop-holds : tie.Need-loop-holds Inv-loop μ-loop
 loop-holds c = (c .before .large-buffer .ensures, c .before .before .before .before .pre .1 .1)
@@ -29,14 +29,14 @@ with-requires c κs = name-read (c .before .before .before .before .read-line .e
 loop-less : tie.Need-loop-less Inv-loop μ-loop
 loop-less c =
     let r = c .before .before .read-line .ensures in
-    ⊎-elim (λ w. omega (arith, w .6, name-read r (w .1 .given .1) .1, r .ends .from)) (λ w. omega (arith, w .5, rule-read r (w .1 .given .1) .1, r .ends .from)) (c .match .came)
+    ⊎-elim (λ w. omega (arith, w .5, name-read r (w .1 .given .1) .1, r .ends .from)) (λ w. omega (arith, w .4, rule-read r (w .1 .given .1) .1, r .ends .from)) (c .match .came)
 
 loop-again : tie.Need-loop-again Inv-loop μ-loop
 loop-again c =
     let r = c .before .before .read-line .ensures in
     let v = c .before .before .before .before .before .loop .inv in (
       v .0 ∙ sym (c .before .before .read-line .kept .1 .1 .1 .1 .1 .0),
-      ⊎-elim (λ w. omega (arith, w .6, name-read r (w .1 .given .1) .1, r .ends .from, v .1)) (λ w. omega (arith, w .5, rule-read r (w .1 .given .1) .1, r .ends .from, v .1)) (c .match .came),
+      ⊎-elim (λ w. omega (arith, w .5, name-read r (w .1 .given .1) .1, r .ends .from, v .1)) (λ w. omega (arith, w .4, rule-read r (w .1 .given .1) .1, r .ends .from, v .1)) (c .match .came),
     )
 
 pub later-spec : {M : Type 1} → statement M
@@ -58,5 +58,4 @@ later-spec =
     (λ c. search needs)
     loop-less
     loop-again
-    (λ c. tt)
     (λ c. tt))

@@ -1,0 +1,127 @@
+-- Cards without letters: there are two, and the empty plan alone can be judged there.
+use mathlib.Core.Path.{_≡_, refl, ap, _∙_}
+use mathlib.Core.Bool.{Bool, true, false, _&&_}
+use mathlib.Core.Logic.{_⊎_, inl, inr}
+use mathlib.Core.List.{List, [], _∷_, map}
+use Prim.Native.Nat.{ℕ, zero, suc}
+use native.Mathlib.Nat.{not-suc-le-zero, zero-lt-suc, le-of-suc-le-suc}
+use native.Mathlib.Omega.{arith}
+use lib.Dec.{ltb}
+use lib.ListN.{length, getD}
+use Rattle.automata.specs.Booleans.{and-left, and-right}
+use Rattle.automata.specs.Basics.{LtCases, lt-cases, ltb-lt}
+use Rattle.automata.specs.Decide.{unless}
+use Rattle.automata.specs.Automaton.{Reachable}
+use Rattle.automata.specs.Format.{Format, narrow}
+use Rattle.automata.specs.Live.{live, liveRound, liveNext}
+use Rattle.automata.specs.Machine.{Machine, size, automaton, Canonical, access}
+use Rattle.automata.specs.Numbering.{across, seen}
+use Rattle.automata.specs.NumberingTest.{numberedTest, rowNumbered}
+use Rattle.automata.specs.Partition.{classes, settle, rounds, refine, firsts}
+use Rattle.automata.specs.ReducedTest.{reducedTest}
+use Rattle.card.specs.Number.{Bytes}
+use Rattle.card.specs.Mark.{marks}
+use Rattle.card.specs.Layout.{narrow-sound, encode, letterCount, lettersOf, marksOf, movesOf, machineOf, Contents, contentsTest}
+use Rattle.card.specs.LayoutLaws.{letters-length, encode-letterCount}
+use Rattle.card.specs.Alphabet.{alphabetTest}
+use Rattle.card.specs.Load.{loadTest, rowInside, insideTest, marksTest}
+use Rattle.card.specs.Loads.{Card, card-fits, load-loaded, loads-iff}
+use Rattle.card.specs.Verdict.{allowed, hopeless}
+use Rattle.card.specs.Judge.{judge, verdict, refused, unknown-letter}
+use Rattle.card.specs.JudgeLaws.{replies-only}
+use Rattle.card.specs.Step.{stepOn, stopped, step-unknown, steps-only}
+use Rattle.card.specs.Answer.{load, holds, rejected}
+use Rattle.card.specs.Mounted.{mounted}
+
+-- "the card with m = 0, one state, marks 01, no moves", and "its like with marks 02"
+abbrev pub noLetters : ℕ → List ℕ
+noLetters mark = 0x0C ∷ 0 ∷ 0 ∷ 0 ∷ 0x0C ∷ 0 ∷ 1 ∷ 0 ∷ 0x0D ∷ 0 ∷ 0 ∷ 0 ∷ mark ∷ []
+
+-- "so they load it, and its like with marks 02"; marks 00 and 03 are 25
+pub no-letters-load : map (load narrow) (noLetters 1 ∷ noLetters 2 ∷ noLetters 0 ∷ noLetters 3 ∷ []) ≡ holds 0 1 ∷ holds 0 1 ∷ rejected 25 ∷ rejected 25 ∷ []
+unfolding load loadTest unless contentsTest alphabetTest lettersOf insideTest rowInside numberedTest rowNumbered across seen machineOf marksOf movesOf marksTest marks live liveRound liveNext reducedTest classes settle rounds refine firsts
+no-letters-load = refl
+
+-- no state, two states
+pub no-letters-refusals : map (load narrow) ((12 ∷ 0 ∷ 0 ∷ 0 ∷ 12 ∷ 0 ∷ 0 ∷ 0 ∷ 12 ∷ 0 ∷ 0 ∷ 0 ∷ []) ∷ (12 ∷ 0 ∷ 0 ∷ 0 ∷ 12 ∷ 0 ∷ 2 ∷ 0 ∷ 14 ∷ 0 ∷ 0 ∷ 0 ∷ 1 ∷ 2 ∷ []) ∷ []) ≡ rejected 21 ∷ rejected 24 ∷ []
+unfolding load loadTest unless contentsTest alphabetTest lettersOf insideTest rowInside numberedTest rowNumbered across seen machineOf marksOf movesOf marksTest
+no-letters-refusals = refl
+
+-- the empty plan, and a letter; where nothing is allowed the empty plan is hopeless 0
+pub no-letters-judge : map (judge narrow (noLetters 1)) ([] ∷ (97 ∷ []) ∷ []) ≡ verdict allowed ∷ refused 27 0 ∷ []
+unfolding judge loadTest unless contentsTest alphabetTest lettersOf insideTest rowInside numberedTest rowNumbered across seen machineOf marksOf movesOf marksTest marks live liveRound liveNext reducedTest classes settle rounds refine firsts
+no-letters-judge = refl
+
+pub no-letters-hopeless : map (judge narrow (noLetters 2)) ([] ∷ (97 ∷ []) ∷ []) ≡ verdict (hopeless 0) ∷ refused 27 0 ∷ []
+unfolding judge loadTest unless contentsTest alphabetTest lettersOf insideTest rowInside numberedTest rowNumbered across seen machineOf marksOf movesOf marksTest marks live liveRound liveNext reducedTest classes settle rounds refine firsts
+no-letters-hopeless = refl
+
+-- a step: today's boards know no such letter, mounted ones no such card
+pub no-letters-step : stepOn narrow (noLetters 1) 0 97 ∷ stepOn mounted (noLetters 1) 0 97 ∷ [] ≡ stopped 27 ∷ stopped 21 ∷ []
+unfolding stepOn unless contentsTest lettersOf
+no-letters-step = refl
+
+-- "Only the empty plan can be judged there.": any other is 27, with no letter before the first foreign one.
+pub only-empty : (fmt : Format) (c : List ℕ) → loadTest fmt c ≡ 0 → letterCount fmt c ≡ 0 → (l : ℕ) (plan : List ℕ) → judge fmt c (l ∷ plan) ≡ refused 27 0
+only-empty fmt c z e l plan =
+    replies-only fmt c (l ∷ plan) (refused 27 0)
+    (unknown-letter z 0 (zero-lt-suc (length plan)) (λ i h. absurd (not-suc-le-zero h)) (omega (arith, letters-length fmt c (load-loaded fmt c z .contents), e)))
+
+-- A step there is 27, by every letter and from every state, on tested bytes or not.
+pub no-letters-steps : (fmt : Format) (c : List ℕ) → Contents fmt c → letterCount fmt c ≡ 0 → (p l : ℕ) → stepOn fmt c p l ≡ stopped 27
+no-letters-steps fmt c r e p l = steps-only fmt c p l (stopped 27) (step-unknown r (λ i h. absurd (omega (arith, h, e))))
+
+-- Both are bytes.
+small : List ℕ → Bool
+small [] = true
+small (b ∷ l) = ltb b 256 && small l
+
+pub no-letters-bytes : Bytes (noLetters 1) × Bytes (noLetters 2)
+unfolding small
+no-letters-bytes = (bytes (noLetters 1) refl, bytes (noLetters 2) refl)
+  where
+    bytes : (l : List ℕ) → small l ≡ true → Bytes l
+    bytes [] e i h = absurd (not-suc-le-zero h)
+    bytes (b ∷ l) e zero h = ltb-lt b 256 (and-left (ltb b 256) (small l) e)
+    bytes (b ∷ l) e (suc i) h = bytes l (and-right (ltb b 256) (small l) e) i (le-of-suc-le-suc h)
+
+-- ---- there are no others
+
+-- A machine without letters whose states are all reached has one state.
+one-state : (M : Machine) → Canonical 0 M → size M ≡ 1
+one-state M C = go (lt-cases 1 (size M))
+  where
+    start : Reachable 0 (automaton M) 1 → ⊥
+    start ([], o, e) = omega (arith, e)
+    start (c ∷ w, o, e) = not-suc-le-zero (o .0)
+
+    go : LtCases 1 (size M) → size M ≡ 1
+    go (inl p) = absurd (start (access 0 M (C .numbered) 1 (p .0)))
+    go (inr p) = omega (arith, p .0, C .formed .some)
+
+two-cards : (M : Machine) → size M ≡ 1 → length (M .moves) ≡ 1 → length (getD (M .moves) 0 []) ≡ 0 → (encode narrow [] M ≡ noLetters 1) ⊎ (encode narrow [] M ≡ noLetters 2)
+unfolding encode marks live liveRound liveNext
+two-cards M = go (M .accepting) (M .moves)
+  where
+    go : (a : List Bool) (s : List (List ℕ)) → length a ≡ 1 → length s ≡ 1 → length (getD s 0 []) ≡ 0
+        → (encode narrow [] (record { accepting = a; moves = s }) ≡ noLetters 1) ⊎ (encode narrow [] (record { accepting = a; moves = s }) ≡ noLetters 2)
+    go (true ∷ []) ([] ∷ []) e f g = inl refl
+    go (false ∷ []) ([] ∷ []) e f g = inr refl
+    go [] s e f g = absurd (omega arith)
+    go (x ∷ y ∷ a) s e f g = absurd (omega arith)
+    go (x ∷ []) [] e f g = absurd (omega arith)
+    go (x ∷ []) ((m ∷ ms) ∷ []) e f g = absurd (omega arith)
+    go (x ∷ []) (r ∷ t ∷ s) e f g = absurd (omega arith)
+
+-- THE CARDS WITHOUT LETTERS that a board loads are those two.
+pub no-letters-only : (c : List ℕ) → Bytes c → loadTest narrow c ≡ 0 → letterCount narrow c ≡ 0 → (c ≡ noLetters 1) ⊎ (c ≡ noLetters 2)
+no-letters-only c b z e =
+    let (ls, M, d, q) = loads-iff narrow narrow-sound c b .0 z in
+    go ls M d q (ap (letterCount narrow) q ∙ encode-letterCount narrow narrow-sound ls M (card-fits narrow ls M d))
+  where
+    go : (ls : List ℕ) (M : Machine) → Card narrow ls M → c ≡ encode narrow ls M → letterCount narrow c ≡ length ls → (c ≡ noLetters 1) ⊎ (c ≡ noLetters 2)
+    go (l ∷ ls) M d q n = absurd (omega (arith, e, n))
+    go [] M d q n =
+        let C : Canonical 0 M = d .canonical in
+        let s : size M ≡ 1 = one-state M C in
+        rw q (two-cards M s (C .formed .rows ∙ s) (C .formed .wide 0 (C .formed .some)))
