@@ -29,6 +29,7 @@ typedef struct {
 Texts read_texts(const char *folder); // the books of a folder, by name
 Texts large_texts(void);              // those made here, as long as a text may be
 Texts seeded_texts(void);             // those made here from a seed
+Texts ruleless_texts(void);           // those without rules or without bytes; compared, not timed
 void refine_by(int method);           // how plain C refines classes from now on
 Texts find_text(const char *folder, const char *name);
 
@@ -78,6 +79,7 @@ int below(int n);
 int seeded_cards(void); // how many there are
 void seeded_card(int i, Judging *j);
 void trap_card(int letters, int states, Judging *j); // the smallest card of a random machine, one of its states dead
+void bare_card(int states, int marks, Judging *j);   // no letters; every state has these marks. It loads with one state, marks 1 or 2
 
 enum { BOARD_CARDS = 9 };
 int board_card(const char *folder, int i, Judging *j); // the cards for plans, by number; false where the book is not there
@@ -92,6 +94,7 @@ int same_cards(const Texts *texts); // how many books differ; prints each
 Times time_compile(Text *text, double seconds, int most);
 void compile_times(const Texts *texts, double seconds);
 int board_both(const char *folder, double seconds, int *compared); // how many answers differ, of so many; seconds 0 only compares
+int same_ruleless(int *compared);                                  // likewise, on cards of texts without rules and on cards without letters
 int same_factors(const char *folder, int *compared);               // likewise
 int factor_times(const char *folder, double seconds);              // how many answers differ
 

@@ -35,7 +35,7 @@ static void judge_second(void *v) {
 Times time_load(Judging *j, double seconds, int most) { return time_both(load_product, load_twin, IF_SECOND(load_second), j, seconds, most); }
 Times time_judge(Judging *j, double seconds, int most) { return time_both(judge_product, judge_twin, IF_SECOND(judge_second), j, seconds, most); }
 
-// A random plan that never turns hopeless: each letter is one of those that lead to a live state.
+// A random plan that never turns hopeless: each letter is one of those that lead to a live state. The card has letters.
 void live_plan(const Judging *j, uint8_t *plan, size_t letters) {
     size_t m = j->card[2], n = j->card[6], s = 0;
     const uint8_t *names = j->card + 12, *marks = names + m, *moves = marks + n;
@@ -125,6 +125,29 @@ int board_card(const char *folder, int i, Judging *j) {
     made.length = strlen(cards[i].text);
     memcpy(made.text, cards[i].text, made.length);
     return text_card(&made, j);
+}
+
+// Loading, and the empty plan and one letter.
+static int short_plans(Judging *j, int *compared) {
+    int differ = !same_answer(j, load_product, load_twin);
+    j->plan = (const uint8_t *)"a";
+    for (j->letters = 0; j->letters <= 1; j->letters++) differ += !same_answer(j, judge_product, judge_twin);
+    *compared += 3;
+    return differ;
+}
+
+int same_ruleless(int *compared) {
+    static Judging j;
+    int differ = 0;
+    Texts texts = ruleless_texts();
+    for (int i = 0; i < texts.count; i++)
+        if (text_card(&texts.text[i], &j)) differ += short_plans(&j, compared);
+    for (int states = 0; states <= 3; states++)
+        for (int marks = 0; marks <= 3; marks++) {
+            bare_card(states, marks, &j);
+            differ += short_plans(&j, compared);
+        }
+    return differ;
 }
 
 int board_both(const char *folder, double seconds, int *compared) {

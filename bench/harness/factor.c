@@ -33,8 +33,10 @@ static int differs(Judging *j) {
 enum { LONGEST = 1000000 };
 static uint8_t plan[LONGEST];
 
+// Any letters where the card has none.
 static void random_plan(const Judging *j, size_t letters) {
-    for (size_t k = 0; k < letters; k++) plan[k] = j->card[12 + below(j->card[2])];
+    const int m = j->card[2];
+    for (size_t k = 0; k < letters; k++) plan[k] = m ? j->card[12 + below(m)] : (uint8_t)('a' + below(26));
 }
 
 // From the middle on, at the first state that has such a letter, one that leads to the dead state; before it and behind it the plan is live.
@@ -160,12 +162,14 @@ static void nothing_card(int m, Judging *j) {
 int same_factors(const char *folder, int *compared) {
     static Judging j;
     int differ = 0;
-    Texts sets[] = {read_texts(folder), seeded_texts()};
+    Texts sets[] = {read_texts(folder), seeded_texts(), ruleless_texts()};
     begin_seed(200);
-    for (int s = 0; s < 2; s++)
+    for (int s = 0; s < 3; s++)
         for (int i = 0; i < sets[s].count; i++)
             if (text_card(&sets[s].text[i], &j)) differ += all_plans(&j, compared);
     for (int m = 1; m <= 26; m += 5) nothing_card(m, &j), differ += all_plans(&j, compared);
+    for (int states = 1; states <= 2; states++)
+        for (int marks = 0; marks <= 3; marks++) bare_card(states, marks, &j), differ += all_plans(&j, compared);
     for (int i = 0; i < 100; i++) {
         begin_seed(300 + (uint32_t)i);
         trap_card(1 + below(4), 2 + below(8), &j);

@@ -7,13 +7,14 @@
 enum { SETS = 3 };
 
 static int check(const char *folder) {
-    Texts sets[SETS] = {read_texts(folder), large_texts(), seeded_texts()};
+    Texts sets[] = {read_texts(folder), large_texts(), seeded_texts(), ruleless_texts()};
     int differ = 0, all = 0;
-    for (int s = 0; s < SETS; s++) {
+    for (int s = 0; s < (int)(sizeof sets / sizeof *sets); s++) {
         differ += same_cards(&sets[s]);
         all += sets[s].count;
     }
     differ += board_both(folder, 0, &all);
+    differ += same_ruleless(&all);
     differ += same_factors(folder, &all);
     printf("%d passed, %d failed\n", all - differ, differ);
     return differ != 0;

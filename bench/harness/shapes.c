@@ -192,6 +192,14 @@ void seeded_card(int i, Judging *j) {
     }
 }
 
+void bare_card(int states, int marks, Judging *j) {
+    const uint8_t contents[] = {12, 0, 0, 0, 12, 0, (uint8_t)states, 0, (uint8_t)(12 + states), 0, 0, 0};
+    memcpy(j->card, contents, sizeof contents);
+    memset(j->card + sizeof contents, marks, (size_t)states);
+    j->length = sizeof contents + (size_t)states;
+    j->name = "no letters";
+}
+
 void trap_card(int letters, int states, Judging *j) {
     static Table t;
     t.m = letters;

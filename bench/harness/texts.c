@@ -1,4 +1,4 @@
-// The books: those of the folder, and large texts made here, each as long as a text may be.
+// The books: those of the folder, large texts made here, each as long as a text may be, and texts without rules.
 #define _GNU_SOURCE
 #include "bench.h"
 #include <dirent.h>
@@ -92,6 +92,29 @@ Texts large_texts(void) {
         put(t, r->head);
         fill(t, r->part, r->tail);
     }
+    return out;
+}
+
+// Accepted ones first: by the definitions alone peaks of 0, 3, 4, 5 and 512. Then those that stop at a line.
+static const char *const ruleless[][2] = {
+    {"no-bytes", ""},
+    {"no-rule-2", ":ab\n"},
+    {"no-rule-26", ":" ALPHABET "\n"},
+    {"no-rule-letter", ":ab\n=A(a)\n"},
+    {"no-rule-complement", ":ab\n=A!@\n"},
+    {"no-rule-star", ":ab\n=A.*\n"},
+    {"no-rule-plus", ":ab\n=Aa+\n=B!@\n"},
+    {"no-rule-512-sets", ":ab\n=A (a!(aaaa)(aaabb)*)*bbbbb....\n=B A*\n"},
+    {"colon-without-end", ":"},
+    {"colon", ":\n"},
+    {"line-end", "\n"},
+    {"no-rule-without-end", ":ab\n=Aa"},
+    {"no-rule-taken", ":ab\n=Aa\n=Ab\n"},
+};
+
+Texts ruleless_texts(void) {
+    Texts out = {0, calloc(sizeof ruleless / sizeof *ruleless, sizeof(Text))};
+    for (size_t i = 0; i < sizeof ruleless / sizeof *ruleless; i++) put(begin(&out, ruleless[i][0]), ruleless[i][1]);
     return out;
 }
 

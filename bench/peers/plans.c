@@ -7,7 +7,7 @@ static uint8_t card[4096];
 
 int main(int argc, char **argv) {
     FILE *f = argc > 3 ? fopen(argv[1], "rb") : 0;
-    if (!f || fread(card, 1, sizeof card, f) < 15) return 2;
+    if (!f || fread(card, 1, sizeof card, f) < 15 || !card[2]) return 2; // without letters there are no such plans
     size_t m = card[2], n = card[6];
     const uint8_t *letters = card + 12, *marks = letters + m, *moves = marks + n;
     uint32_t seed = 2463534242u;

@@ -19,7 +19,7 @@ static Card view(const uint8_t *card) {
 static int contents(const uint8_t *card, size_t length) {
     if (length < 12) return 0;
     size_t m = get16(card + 2), n = get16(card + 6);
-    return m >= 1 && m <= 26 && n >= 1 && n <= 120 && get16(card) == 12 && get16(card + 4) == 12 + m && get16(card + 8) == 12 + m + n
+    return m <= 26 && n >= 1 && n <= 120 && get16(card) == 12 && get16(card + 4) == 12 + m && get16(card + 8) == 12 + m + n
         && get16(card + 10) == n * m && length == 12 + m + n + n * m;
 }
 

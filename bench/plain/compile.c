@@ -155,10 +155,11 @@ Compiled plain_compile(const uint8_t *text, size_t length, uint8_t *card, size_t
     static Line line;
     Book *b = &book;
     if (length > MOST_TEXT) return refused(1, 0);
-    if (length == 0) return refused(5, 1);
     memset(b->defined, 0, sizeof b->defined);
     b->peak = b->number = 0;
-    int ruled = 0, number = 0;
+    b->m = 0, b->k = 1; // a text of no bytes has no letters
+    two(&b->book, b->k, 1);
+    int number = 0;
     const uint8_t *end = text + length;
     for (const uint8_t *at = text; at < end;) {
         const uint8_t *stop = memchr(at, '\n', (size_t)(end - at));
@@ -175,11 +176,9 @@ Compiled plain_compile(const uint8_t *text, size_t length, uint8_t *card, size_t
             plain_read(at, (size_t)(stop - at), ended, b->letters, b->m, b->defined, &line);
             if (line.number) return refused(line.number, number);
             if (!(line.name ? define(b, &line) : rule(b, &line))) return refused(b->number, number);
-            ruled |= !line.name;
         }
         at = stop + 1;
     }
-    if (!ruled) return refused(10, 0);
     size_t n = plain_card(&b->book, b->letters, b->m, card, room);
     if (!n) return refused(11, 0);
     return (Compiled){0, 0, n, b->peak};

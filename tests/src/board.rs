@@ -4,6 +4,7 @@ use crate::card::{marks_byte, CONTENTS_LENGTH, MOST_LETTERS, MOST_STATES};
 use crate::machine::Machine;
 use crate::minimise::representatives;
 use crate::refusal::*;
+use std::ops::RangeInclusive;
 
 /// The three bodies of bytes that pass test 21.
 #[derive(Clone, Copy, PartialEq, Eq, Debug)]
@@ -37,8 +38,13 @@ pub enum Refused {
     ForeignLetter { before: usize },
 }
 
-/// Test 21.
+/// Test 21 of today's boards: a card may have no letters.
 pub fn bodies(card: &[u8]) -> Result<Bodies<'_>, u8> {
+    contents(card, 0..=MOST_LETTERS)
+}
+
+/// Test 21 where a card may have so many letters.
+pub fn contents(card: &[u8], letters: RangeInclusive<usize>) -> Result<Bodies<'_>, u8> {
     if card.len() < CONTENTS_LENGTH {
         return Err(CONTENTS);
     }
@@ -46,7 +52,7 @@ pub fn bodies(card: &[u8]) -> Result<Bodies<'_>, u8> {
     let (m, n) = (number(1), number(3));
     let expected = [CONTENTS_LENGTH, m, CONTENTS_LENGTH + m, n, CONTENTS_LENGTH + m + n, n * m];
     let as_expected = (0..6).all(|index| number(index) == expected[index]);
-    let sizes = (1..=MOST_LETTERS).contains(&m) && (1..=MOST_STATES).contains(&n);
+    let sizes = letters.contains(&m) && (1..=MOST_STATES).contains(&n);
     if !as_expected || !sizes || card.len() != CONTENTS_LENGTH + m + n + n * m {
         return Err(CONTENTS);
     }
@@ -80,9 +86,10 @@ pub fn load(card: &[u8]) -> Result<Bodies<'_>, u8> {
 
 /// The machine that a card's moves and marks make, once no move is astray.
 pub fn machine(bodies: &Bodies<'_>) -> Machine {
+    let columns = bodies.letters.len();
     Machine {
-        symbols: bodies.letters.len(),
-        next: bodies.moves.chunks(bodies.letters.len()).map(|row| row.iter().map(|&t| t as usize).collect()).collect(),
+        symbols: columns,
+        next: (0..bodies.states()).map(|state| (0..columns).map(|c| bodies.target(state, c)).collect()).collect(),
         accepting: bodies.marks.iter().map(|&byte| byte == 1).collect(),
     }
 }

@@ -5,6 +5,8 @@ use crate::machine::Machine;
 pub const CONTENTS_LENGTH: usize = 12;
 pub const MOST_LETTERS: usize = 26;
 pub const MOST_STATES: usize = 120;
+/// The shortest card there is: no letters, one state.
+pub const SHORTEST: usize = CONTENTS_LENGTH + 1;
 /// The longest card there is.
 pub const LONGEST: usize = CONTENTS_LENGTH + MOST_LETTERS + MOST_STATES + MOST_LETTERS * MOST_STATES;
 

@@ -232,9 +232,6 @@ pub fn compile_by(
     if lent.bench.iter().any(|&(needed, given)| given < needed) {
         return (Err(Refusal::of_book(SHORT_BENCH)), Vec::new());
     }
-    if text.is_empty() {
-        return (Err(Refusal::at(SPOILED_LINE, 1)), Vec::new());
-    }
     let mut workshop = Workshop::new(&[], limits);
     let result = all_lines(text, limits, recipe, &mut workshop).and_then(|book| {
         let card = card::write(&workshop.alphabet, &book.without_last_symbol());
@@ -246,6 +243,7 @@ pub fn compile_by(
     (result, workshop.stages)
 }
 
+/// The book's machine: `.*`, which a text of no bytes has too, met by each rule.
 fn all_lines(text: &[u8], limits: Limits, recipe: RuleRecipe, workshop: &mut Workshop) -> Result<Machine, Refusal> {
     let mut known = Known::default();
     let mut book = None;
@@ -258,10 +256,10 @@ fn all_lines(text: &[u8], limits: Limits, recipe: RuleRecipe, workshop: &mut Wor
             Line::Definition(name, body) => workshop.define(*name, body).map_err(refused)?,
             Line::Rule(rule) => {
                 let allowed = recipe(workshop, rule).map_err(refused)?;
-                let so_far = book.take().unwrap_or_else(|| given::all_words(workshop.symbols));
+                let so_far = book.unwrap_or_else(|| given::all_words(workshop.symbols));
                 book = Some(workshop.intersection(&so_far, &allowed).map_err(refused)?);
             }
         }
     }
-    book.ok_or(Refusal::of_book(NO_RULE))
+    Ok(book.unwrap_or_else(|| given::all_words(workshop.symbols)))
 }

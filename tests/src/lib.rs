@@ -6,7 +6,8 @@
 //! * `stages` makes the stages' sets literally, as sets of states.
 //! * `minimise` finds the smallest machine by table filling.
 //! * `compile` puts them in document 01's order and counts.
-//! * `card` writes the bytes, `board` tests, steps and judges them.
+//! * `card` writes the bytes, `board` tests, steps and judges them, `mounted`
+//!   is a board from before cards without letters.
 //! * `factor` finds the shortest stretch to blame by trying every one.
 //!
 //! Nothing here is made to be fast; everything is made to be compared with
@@ -19,6 +20,7 @@ pub mod derivative;
 pub mod factor;
 pub mod machine;
 pub mod minimise;
+pub mod mounted;
 pub mod pieces;
 pub mod reader;
 pub mod refusal;

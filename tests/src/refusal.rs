@@ -1,4 +1,5 @@
-//! The numbers of document 01's table "What stops a book or a card".
+//! The numbers of document 01's table "What stops a book or a card". 10 (no
+//! rule) occurs no longer.
 
 pub const LONG_BOOK: u8 = 1;
 pub const SHORT_BENCH: u8 = 2;
@@ -9,7 +10,6 @@ pub const STRANGER: u8 = 6;
 pub const TAKEN: u8 = 7;
 pub const CROWDED: u8 = 8;
 pub const OVERSIZE: u8 = 9;
-pub const NO_RULE: u8 = 10;
 pub const SHORT_CARD: u8 = 11;
 
 pub const CONTENTS: u8 = 21;
@@ -33,7 +33,7 @@ impl Refusal {
         Refusal { number, line }
     }
 
-    /// For the numbers that name no line: 1, 2, 10 and 11.
+    /// For the numbers that name no line: 1, 2 and 11.
     pub fn of_book(number: u8) -> Refusal {
         Refusal { number, line: 0 }
     }

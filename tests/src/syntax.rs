@@ -62,7 +62,7 @@ pub enum Line {
     Rule(Rule),
 }
 
-/// A book whose lines passed tests 3 to 7.
+/// A book whose lines passed tests 3 to 7; it need not have a rule, or a line.
 #[derive(Clone, PartialEq, Eq, Debug)]
 pub struct Book {
     pub alphabet: Vec<u8>,

@@ -1,6 +1,7 @@
 //! This program in the part of one of the product's programs, with a fault
 //! or without: the comparisons of programs are tried on it.
 
+use crate::examples::{EVERYTHING_CARD, NO_LETTERS_CARD};
 use crate::expected_output::{card_or_line, verdicts};
 use std::io::{Read, Write};
 
@@ -24,6 +25,8 @@ pub const JUDGING: &[&str] = &[
     "a failed read is the end",
     "answers at the end only",
     "a failed write is not told",
+    "a card without letters is refused",
+    "an empty line is no plan without letters",
 ];
 
 /// The faults of a compiling program; the first is none.
@@ -39,6 +42,10 @@ pub const COMPILING: &[&str] = &[
     "crashes on a long book",
     "a failed read is the end",
     "a failed write is not told",
+    "no input is a spoiled line",
+    "no input prints nothing",
+    "no rule is refused",
+    "a line end is no input",
 ];
 
 /// While the input is no longer than this, what is ready is written before
@@ -83,12 +90,17 @@ fn answers(fault: &str, mut card: Option<Vec<u8>>, mut input: Vec<u8>, whole: bo
                 bytes.truncate(3_278);
             }
         }
-        "a missing card is everything's" => card = card.or(Some(crate::examples::EVERYTHING_CARD.to_vec())),
+        "a missing card is everything's" => card = card.or(Some(EVERYTHING_CARD.to_vec())),
         "lines of 4,096 bytes at most" => {
             let cut = input.split(|&byte| byte == b'\n').map(|line| &line[..line.len().min(4096)]);
             input = cut.collect::<Vec<_>>().join(&b'\n');
         }
         "input of 65,536 bytes at most" => input.truncate(65_536),
+        "a card without letters is refused" if is_without_letters(&card) => card = None,
+        "an empty line is no plan without letters" if is_without_letters(&card) => {
+            let lines = input.split_inclusive(|&byte| byte == b'\n').filter(|line| *line != b"\n");
+            input = lines.collect::<Vec<_>>().concat();
+        }
         "stops at byte 26" => {
             let kept = input.iter().position(|&byte| byte == 26).unwrap_or(input.len());
             input.truncate(kept);
@@ -109,13 +121,19 @@ fn answers(fault: &str, mut card: Option<Vec<u8>>, mut input: Vec<u8>, whole: bo
     output
 }
 
+fn is_without_letters(card: &Option<Vec<u8>>) -> bool {
+    card.as_ref().is_some_and(|bytes| bytes.get(2..4) == Some(&[0, 0]))
+}
+
 pub fn compile(fault: &str) {
     let mut input = Vec::new();
     if !read_pieces(fault, &mut input, |_| {}) {
         return;
     }
-    if fault == "reads 16,384 bytes" {
-        input.truncate(16_384);
+    match fault {
+        "reads 16,384 bytes" => input.truncate(16_384),
+        "a line end is no input" if input == b"\n" => input.clear(),
+        _ => {}
     }
     let mut output = card_or_line(&input);
     let is_refusal = output.starts_with(b"refused");
@@ -129,6 +147,11 @@ pub fn compile(fault: &str) {
             output = output.iter().map(|byte| format!("{byte:02X}")).collect::<String>().into_bytes();
         }
         "says nothing" => output.clear(),
+        "no input is a spoiled line" if input.is_empty() => output = b"refused 5 line 1\n".to_vec(),
+        "no input prints nothing" if input.is_empty() => output.clear(),
+        "no rule is refused" if !is_refusal && output != NO_LETTERS_CARD && !input.contains(&b'>') => {
+            output = b"refused 10 line 0\n".to_vec();
+        }
         "crashes on a long book" if input.len() > 16_384 => std::process::abort(),
         _ => {}
     }

@@ -1,7 +1,7 @@
 //! Cards, steps and plans with the answers that are due by document 01.
 
 use crate::entry::{Judged, Loaded, Stepped};
-use crate::examples::{EVERYTHING_CARD, FIRST_CARD, NOTHING_CARD, NO_A_CARD};
+use crate::examples::{EVERYTHING_CARD, FIRST_CARD, NOTHING_CARD, NO_A_CARD, NO_LETTERS_CARD, NO_LETTERS_NOTHING_CARD};
 use reference::card::lay_out;
 
 /// A card and what loading answers.
@@ -33,6 +33,8 @@ pub fn loads() -> Vec<(&'static str, Vec<u8>, Loaded)> {
         ("the longest card", chain(&all_letters, 120), Loaded::Card { letters: 26, states: 120 }),
         ("120 states over one letter", chain(b"a", 120), Loaded::Card { letters: 1, states: 120 }),
         ("one letter, z", chain(b"z", 2), Loaded::Card { letters: 1, states: 2 }),
+        ("no letters", NO_LETTERS_CARD.to_vec(), Loaded::Card { letters: 0, states: 1 }),
+        ("no letters, nothing", NO_LETTERS_NOTHING_CARD.to_vec(), Loaded::Card { letters: 0, states: 1 }),
         // 21
         ("no bytes", Vec::new(), refused(21)),
         ("one byte", vec![0x0C], refused(21)),
@@ -53,8 +55,14 @@ pub fn loads() -> Vec<(&'static str, Vec<u8>, Loaded)> {
         ("moves elsewhere, high byte", changed(9, 1), refused(21)),
         ("fewer moves", changed(10, 5), refused(21)),
         ("moves' high byte", changed(11, 1), refused(21)),
-        ("no letters", lay_out(b"", &[1], &[]), refused(21)),
         ("no states", lay_out(b"ab", &[], &[]), refused(21)),
+        ("no letters, no states", lay_out(b"", &[], &[]), refused(21)),
+        ("no letters, a byte too few", NO_LETTERS_CARD[..12].to_vec(), refused(21)),
+        ("no letters, a byte too many", [NO_LETTERS_CARD, &[0]].concat(), refused(21)),
+        ("no letters, the card twice", NO_LETTERS_CARD.repeat(2), refused(21)),
+        ("no letters, a move", lay_out(b"", &[1], &[0]), refused(21)),
+        ("no letters, 121 states", lay_out(b"", &[1; 121], &[]), refused(21)),
+        ("no letters, but one counted", [&[0x0C, 0, 1], &NO_LETTERS_CARD[3..]].concat(), refused(21)),
         ("27 letters", chain(&beyond_z, 2), refused(21)),
         ("121 states", chain(b"a", 121), refused(21)),
         ("121 states over 26 letters", chain(&all_letters, 121), refused(21)),
@@ -81,6 +89,10 @@ pub fn loads() -> Vec<(&'static str, Vec<u8>, Loaded)> {
         ("reached only from a state not reached", lay_out(b"a", &[1, 1, 1], &[0, 2, 1]), refused(24)),
         ("numbering before marks", lay_out(b"ab", &[9, 9, 9], &[2, 1, 0, 0, 2, 2]), refused(24)),
         ("a jump over 1", lay_out(b"ab", &[1, 0, 2, 2], &[0, 2, 1, 3, 3, 3, 3, 3]), refused(24)),
+        ("no letters, two states", lay_out(b"", &[1, 2], &[]), refused(24)),
+        ("no letters, two alike", lay_out(b"", &[1, 1], &[]), refused(24)),
+        ("no letters, two states, wrong marks", lay_out(b"", &[0, 9], &[]), refused(24)),
+        ("no letters, 120 states", lay_out(b"", &[1; 120], &[]), refused(24)),
         // 25
         ("marks 3", changed(14, 3), refused(25)),
         ("marks 255", changed(15, 255), refused(25)),
@@ -88,6 +100,9 @@ pub fn loads() -> Vec<(&'static str, Vec<u8>, Loaded)> {
         ("alive marked 2", lay_out(b"a", &[2, 1], &[1, 1]), refused(25)),
         ("alive marked 3", lay_out(b"a", &[3, 1], &[1, 1]), refused(25)),
         ("nothing marked 0", lay_out(b"a", &[0], &[0]), refused(25)),
+        ("no letters, marks 0", lay_out(b"", &[0], &[]), refused(25)),
+        ("no letters, marks 3", lay_out(b"", &[3], &[]), refused(25)),
+        ("no letters, marks 255", lay_out(b"", &[255], &[]), refused(25)),
         ("marks before twins", lay_out(b"a", &[1, 1, 3], &[1, 2, 2]), refused(25)),
         // 26
         ("two alike", lay_out(b"a", &[1, 1], &[1, 1]), refused(26)),
@@ -137,6 +152,16 @@ pub fn steps() -> Vec<(&'static str, Vec<u8>, usize, u8, Stepped)> {
         ("marks handed back as they are", lay_out(b"a", &[1, 9], &[1, 0]), 0, b'a', to(1, 9)),
         ("a state not reached", lay_out(b"ab", &[1, 2], &[0, 0, 1, 1]), 1, b'a', to(1, 2)),
         ("two alike", lay_out(b"a", &[1, 1], &[1, 1]), 1, b'a', to(1, 1)),
+        ("no letters", NO_LETTERS_CARD.to_vec(), 0, b'a', refused(27)),
+        ("no letters, byte 0", NO_LETTERS_CARD.to_vec(), 0, 0, refused(27)),
+        ("no letters, state n", NO_LETTERS_CARD.to_vec(), 1, b'a', refused(27)),
+        ("no letters, the greatest state", NO_LETTERS_CARD.to_vec(), usize::MAX, b'z', refused(27)),
+        ("no letters, nothing", NO_LETTERS_NOTHING_CARD.to_vec(), 0, b'a', refused(27)),
+        ("no letters, marks 1 as a letter", NO_LETTERS_CARD.to_vec(), 0, 1, refused(27)),
+        ("no letters, two states", lay_out(b"", &[1, 1], &[]), 1, b'a', refused(27)),
+        ("no letters, wrong marks", lay_out(b"", &[9], &[]), 0, b'a', refused(27)),
+        ("no letters, no states", lay_out(b"", &[], &[]), 0, b'a', refused(21)),
+        ("no letters, a byte too many", [NO_LETTERS_CARD, &[0]].concat(), 0, b'a', refused(21)),
     ]
 }
 
@@ -170,6 +195,17 @@ pub fn judgings() -> Vec<(&'static str, Vec<u8>, Vec<u8>, Judged)> {
         ("numbering", lay_out(b"ab", &[1, 2], &[0, 0, 1, 1]), b"", Judged::Refused(24)),
         ("marks", lay_out(b"a", &[0], &[0]), b"a", Judged::Refused(25)),
         ("twins", lay_out(b"a", &[1, 1], &[1, 1]), b"a", Judged::Refused(26)),
+        ("no letters", NO_LETTERS_CARD.to_vec(), b"", Judged::Allowed),
+        ("no letters, a letter", NO_LETTERS_CARD.to_vec(), b"a", Judged::ForeignLetter { before: 0 }),
+        ("no letters, two letters", NO_LETTERS_CARD.to_vec(), b"ab", Judged::ForeignLetter { before: 0 }),
+        ("no letters, byte 0", NO_LETTERS_CARD.to_vec(), b"\0", Judged::ForeignLetter { before: 0 }),
+        ("no letters, nothing", NO_LETTERS_NOTHING_CARD.to_vec(), b"", Judged::Hopeless(0)),
+        ("no letters, nothing, a letter", NO_LETTERS_NOTHING_CARD.to_vec(), b"a", Judged::ForeignLetter { before: 0 }),
+        ("no letters, two states", lay_out(b"", &[1, 2], &[]), b"", Judged::Refused(24)),
+        ("no letters, two states, a letter", lay_out(b"", &[1, 2], &[]), b"a", Judged::Refused(24)),
+        ("no letters, marks 0", lay_out(b"", &[0], &[]), b"", Judged::Refused(25)),
+        ("no letters, marks 3, a letter", lay_out(b"", &[3], &[]), b"a", Judged::Refused(25)),
+        ("no letters, no states", lay_out(b"", &[], &[]), b"", Judged::Refused(21)),
     ];
     list.into_iter().map(|(title, card, plan, due)| (title, card, plan.to_vec(), due)).collect()
 }

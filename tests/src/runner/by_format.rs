@@ -6,7 +6,7 @@ use crate::entry::{BoardEntry, Loaded};
 use crate::last_case;
 use crate::tally::{hex, Tally};
 
-/// "In what follows m is the number of letters (1 to 26) and n the number of
+/// "In what follows m is the number of letters (0 to 26) and n the number of
 /// states (1 to 120)."
 struct Card<'b> {
     m: usize,
@@ -29,10 +29,14 @@ impl Card<'_> {
     }
 }
 
+/// The least m: of today's boards, and of those mounted before.
+const NEW: usize = 0;
+const MOUNTED: usize = 1;
+
 /// "A board tests a card in this order and answers with the first number that
 /// applies."
-fn load(bytes: &[u8]) -> Result<(usize, usize), u64> {
-    let card = contents(bytes).ok_or(21u64)?;
+fn load(bytes: &[u8], least: usize) -> Result<(usize, usize), u64> {
+    let card = contents(bytes, least).ok_or(21u64)?;
     if !rising(card.letters) {
         Err(22)
     } else if card.moves.iter().any(|&to| usize::from(to) >= card.n) {
@@ -50,9 +54,9 @@ fn load(bytes: &[u8]) -> Result<(usize, usize), u64> {
 }
 
 /// 21: "there are under 12 bytes, or the length is not 12 + m + n + n × m, or
-/// one of the six numbers is not as in the layout, or m is not 1 to 26, or n
-/// is not 1 to 120."
-fn contents(bytes: &[u8]) -> Option<Card<'_>> {
+/// one of the six numbers is not as in the layout, or m is not 0 to 26 .., or
+/// n is not 1 to 120." Mounted boards take m from 1.
+fn contents(bytes: &[u8], least: usize) -> Option<Card<'_>> {
     if bytes.len() < 12 {
         return None;
     }
@@ -60,7 +64,7 @@ fn contents(bytes: &[u8]) -> Option<Card<'_>> {
     // first."
     let number = |at: usize| usize::from(bytes[at]) + 256 * usize::from(bytes[at + 1]);
     let (m, n) = (number(2), number(6));
-    if bytes.len() != 12 + m + n + n * m || !(1..=26).contains(&m) || !(1..=120).contains(&n) {
+    if bytes.len() != 12 + m + n + n * m || !(least..=26).contains(&m) || !(1..=120).contains(&n) {
         return None;
     }
     let layout = [12, m, 12 + m, n, 12 + m + n, n * m];
@@ -155,8 +159,16 @@ const FIRST: [u8; 23] = [
 pub fn run(tally: &mut Tally, board: &dyn BoardEntry) {
     tally.group("board: the loader of FORMAT.md, its own cards", |tally| {
         let card = |marks: &[u8], moves: &[u8]| laid_out(b"a", marks, moves);
+        let no_letters = |marks: &[u8]| laid_out(b"", marks, b"");
         let cards = [
             (FIRST.to_vec(), Ok((2, 3))),
+            (no_letters(&[1]), Ok((0, 1))),
+            (no_letters(&[2]), Ok((0, 1))),
+            (no_letters(&[]), Err(21)),
+            ([no_letters(&[1]), b"x".to_vec()].concat(), Err(21)),
+            (no_letters(&[1, 2]), Err(24)),
+            (no_letters(&[0]), Err(25)),
+            (no_letters(&[3]), Err(25)),
             (card(&[1], &[0]), Ok((1, 1))),
             ([card(&[1], &[0]), b"x".to_vec()].concat(), Err(21)),
             (laid_out(b"A", &[1], &[0]), Err(22)),
@@ -166,21 +178,36 @@ pub fn run(tally: &mut Tally, board: &dyn BoardEntry) {
             (card(&[1, 1], &[1, 0]), Err(26)),
         ];
         for (card, due) in cards {
-            tally.same(&hex(&card), &due, &load(&card));
-            compare(tally, board, &card);
+            tally.same(&hex(&card), &due, &load(&card, NEW));
+            compare(tally, board, NEW, &card);
         }
+        // "at least 13 and at most 3,278"
+        let lengths = [no_letters(&[1]).len(), laid_out(&[b'a'; 26], &[1; 120], &[0; 26 * 120]).len()];
+        tally.same("the lengths of the shortest card and the longest", &[13, 3278], &lengths);
     });
     tally.group("board: the loader of FORMAT.md, every small card", |tally| {
-        for letters in [&b"a"[..], b"ab"] {
-            for n in 1..=3 {
-                every(n, 4, |marks| {
-                    last_case::note(|| format!("loading a card of {} letters with marks {marks:?}", letters.len()));
-                    every(n * letters.len(), n + 1, |moves| compare(tally, board, &laid_out(letters, marks, moves)))
-                });
-            }
-        }
+        small(tally, board, NEW, &[b"", b"a", b"ab"]);
     });
-    tally.group("board: the loader of FORMAT.md, damaged cards", |tally| damaged(tally, board));
+    tally.group("board: the loader of FORMAT.md, damaged cards", |tally| damaged(tally, board, NEW));
+}
+
+/// The same for a mounted board.
+pub fn mounted(tally: &mut Tally, board: &dyn BoardEntry) {
+    tally.group("reference: a mounted board by FORMAT.md, every small card", |tally| {
+        small(tally, board, MOUNTED, &[b"", b"a"]);
+    });
+    tally.group("reference: a mounted board by FORMAT.md, damaged cards", |tally| damaged(tally, board, MOUNTED));
+}
+
+fn small(tally: &mut Tally, board: &dyn BoardEntry, least: usize, rows: &[&[u8]]) {
+    for letters in rows {
+        for n in 1..=3 {
+            every(n, 4, |marks| {
+                last_case::note(|| format!("loading a card of {} letters with marks {marks:?}", letters.len()));
+                every(n * letters.len(), n + 1, |moves| compare(tally, board, least, &laid_out(letters, marks, moves)))
+            });
+        }
+    }
 }
 
 /// Every row of so many numbers below a bound.
@@ -194,7 +221,7 @@ fn every(length: usize, bound: usize, mut each: impl FnMut(&[u8])) {
     }
 }
 
-fn damaged(tally: &mut Tally, board: &dyn BoardEntry) {
+fn damaged(tally: &mut Tally, board: &dyn BoardEntry, least: usize) {
     let alphabet: Vec<u8> = (b'a'..=b'z').collect();
     // In state s every letter leads to s + 1, in the last to itself.
     let chain = |letters: &[u8], n: usize| {
@@ -202,20 +229,20 @@ fn damaged(tally: &mut Tally, board: &dyn BoardEntry) {
         let moves: Vec<u8> = (0..n).flat_map(|s| vec![(s + 1).min(n - 1) as u8; letters.len()]).collect();
         laid_out(letters, &marks, &moves)
     };
-    for card in [FIRST.to_vec(), chain(b"a", 1), chain(b"q", 2), chain(b"bcz", 4), chain(&alphabet, 3)] {
+    for card in [FIRST.to_vec(), chain(b"", 1), chain(b"a", 1), chain(b"q", 2), chain(b"bcz", 4), chain(&alphabet, 3)] {
         last_case::note(|| format!("loading, damaged, {}", hex(&card)));
         for place in 0..card.len() {
             for byte in 0..=255 {
                 let mut card = card.clone();
                 card[place] = byte;
-                compare(tally, board, &card);
+                compare(tally, board, least, &card);
             }
         }
         for length in 0..card.len() {
-            compare(tally, board, &card[..length]);
+            compare(tally, board, least, &card[..length]);
         }
         for more in [1, 2, 12, card.len()] {
-            compare(tally, board, &[&card[..], &card[..more]].concat());
+            compare(tally, board, least, &[&card[..], &card[..more]].concat());
         }
         // The contents' numbers, two at a time.
         for (one, other) in (0..6).flat_map(|one| (0..one).map(move |other| (one, other))) {
@@ -223,7 +250,7 @@ fn damaged(tally: &mut Tally, board: &dyn BoardEntry) {
                 let mut card = card.clone();
                 card[2 * one] = card[2 * one].wrapping_add(steps[0]).wrapping_sub(4);
                 card[2 * other] = card[2 * other].wrapping_add(steps[1]).wrapping_sub(4);
-                compare(tally, board, &card);
+                compare(tally, board, least, &card);
             });
         }
     }
@@ -232,9 +259,9 @@ fn damaged(tally: &mut Tally, board: &dyn BoardEntry) {
     for m in [0, 1, 2, 25, 26, 27, 255, 256] {
         for n in [0, 1, 2, 119, 120, 121, 255, 256, 257] {
             let letters: Vec<u8> = (0..m).map(|c| b'a'.wrapping_add(c as u8)).collect();
-            compare(tally, board, &laid_out(&letters, &vec![1; n], &vec![0; n * m]));
+            compare(tally, board, least, &laid_out(&letters, &vec![1; n], &vec![0; n * m]));
             if n > 0 {
-                compare(tally, board, &chain(&letters, n));
+                compare(tally, board, least, &chain(&letters, n));
             }
         }
     }
@@ -242,13 +269,13 @@ fn damaged(tally: &mut Tally, board: &dyn BoardEntry) {
     every(3, bytes.len(), |row| {
         let letters: Vec<u8> = row.iter().map(|&place| bytes[usize::from(place)]).collect();
         for count in 1..=3 {
-            compare(tally, board, &chain(&letters[..count], 2));
+            compare(tally, board, least, &chain(&letters[..count], 2));
         }
     });
 }
 
-fn compare(tally: &mut Tally, board: &dyn BoardEntry, card: &[u8]) {
-    let due = match load(card) {
+fn compare(tally: &mut Tally, board: &dyn BoardEntry, least: usize, card: &[u8]) {
+    let due = match load(card, least) {
         Ok((m, n)) => Loaded::Card { letters: m as u64, states: n as u64 },
         Err(number) => Loaded::Refused(number),
     };

@@ -31,23 +31,29 @@ impl Comparison<'_> {
         tally.group("board: examples", |tally| self.examples(tally));
         tally.group("board: every byte value as a letter", |tally| {
             for letter in 0..=255 {
-                for state in [0, 1, 2, 3, 255, 256, usize::MAX] {
-                    self.step(tally, examples::FIRST_CARD, state, letter);
+                for card in [examples::FIRST_CARD, examples::NO_LETTERS_CARD, examples::NO_LETTERS_NOTHING_CARD] {
+                    for state in [0, 1, 2, 3, 255, 256, usize::MAX] {
+                        self.step(tally, card, state, letter);
+                    }
+                    self.judge(tally, card, &[b'a', letter, b'b']);
+                    self.judge(tally, card, &[letter]);
                 }
-                self.judge(tally, examples::FIRST_CARD, &[b'a', letter, b'b']);
             }
         });
         tally.group("board: every byte of a card changed", |tally| {
-            for place in 0..examples::FIRST_CARD.len() {
-                for byte in 0..=255 {
-                    let mut card = examples::FIRST_CARD.to_vec();
-                    card[place] = byte;
-                    self.load(tally, &card);
+            for card in [examples::FIRST_CARD, examples::NO_LETTERS_CARD] {
+                for place in 0..card.len() {
+                    for byte in 0..=255 {
+                        let mut card = card.to_vec();
+                        card[place] = byte;
+                        self.load(tally, &card);
+                        self.judge(tally, &card, b"");
+                    }
                 }
             }
         });
         tally.group("board: every small card", |tally| {
-            for (letters, states) in [(&b"a"[..], 1), (b"a", 2), (b"a", 3), (b"ab", 1), (b"ab", 2), (b"abc", 1)] {
+            for (letters, states) in random_cards::SMALL {
                 for card in random_cards::all_small(letters, states) {
                     self.load(tally, &card);
                 }
@@ -99,7 +105,7 @@ impl Comparison<'_> {
         for (title, card, plan, due) in board_examples::judgings() {
             tally.same(title, &due, &self.judged(&card, &plan));
         }
-        for example in [examples::paper(), examples::reading(), examples::staging()].concat() {
+        for example in examples::quick() {
             if tally.is_over() {
                 return;
             }
@@ -139,7 +145,7 @@ impl Comparison<'_> {
         };
         for _ in 0..3 {
             let state = if rng.once_in(6) { rng.below(300) } else { rng.below(states) };
-            let letter = if rng.once_in(6) { rng.next() as u8 } else { *rng.pick(&letters) };
+            let letter = if rng.once_in(6) { rng.next() as u8 } else { random_cards::letter(rng, &letters) };
             self.step(tally, card, state, letter);
         }
         for _ in 0..3 {

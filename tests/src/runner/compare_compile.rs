@@ -42,7 +42,7 @@ impl Comparison<'_> {
             }
         });
         tally.group("compile: examples", |tally| {
-            for example in [examples::paper(), examples::reading(), examples::staging()].concat() {
+            for example in examples::quick() {
                 self.example(tally, &example);
             }
             for (left, right, _) in examples::binding() {
@@ -198,14 +198,16 @@ impl Comparison<'_> {
         });
     }
 
-    /// Texts that meet each of the early refusals, and one that is accepted.
+    /// Texts that meet each of the early refusals, and some that are accepted.
     fn telling_texts() -> Vec<Vec<u8>> {
         vec![
             b":ab\n>b / .*a _ .*\n".to_vec(),
             vec![b' '; LONGEST_TEXT + 1],
             Vec::new(),
             b">".to_vec(),
+            b":\n".to_vec(),
             b":ab\n".to_vec(),
+            b":ab\n=Aa+\n".to_vec(),
         ]
     }
 
@@ -234,7 +236,10 @@ impl Comparison<'_> {
     }
 
     fn card_buffers(&self, tally: &mut Tally) {
-        let books: [&[u8]; 6] = [
+        let books: [&[u8]; 9] = [
+            b"",
+            b":ab\n",
+            b":ab\n=Aa+\n",
             b":ab\n>b / .*a _ .*\n",
             b":ab\n>a\n",
             b":a\n>@/a_.*\n",
@@ -251,7 +256,7 @@ impl Comparison<'_> {
             }
         }
         for text in Self::telling_texts() {
-            for lent in [0, 1, 22, 23] {
+            for lent in [0, 1, 12, 13, 14, 16, 17, 22, 23] {
                 let request = Request { card_length: lent, ..self.request(&text) };
                 self.compare(tally, &format!("a card buffer of {lent}"), &request);
             }

@@ -4,7 +4,9 @@
 use crate::board_examples;
 use crate::effort::Effort;
 use crate::entry::{BoardEntry, Judged, Reference, Shortest};
-use crate::examples::{self, EVERYTHING_CARD, FIRST_CARD, NOTHING_CARD, NO_A_CARD};
+use crate::examples::{
+    self, EVERYTHING_CARD, FIRST_CARD, NOTHING_CARD, NO_A_CARD, NO_LETTERS_CARD, NO_LETTERS_NOTHING_CARD,
+};
 use crate::extra_books;
 use crate::factor_examples;
 use crate::last_case;
@@ -43,7 +45,7 @@ pub fn relations(tally: &mut Tally, product: &dyn BoardEntry, effort: Effort) {
     if effort.fixed {
         tally.group("stretch: answers against each other, known books", |tally| {
             let mut rng = tally.rng("stretch: known books");
-            for example in [examples::paper(), examples::reading(), examples::staging()].concat() {
+            for example in examples::quick() {
                 comparison.book(tally, &mut rng, &example.text);
             }
             for (_, text) in extra_books::all() {
@@ -74,7 +76,7 @@ impl<'p> Comparison<'p> {
             }
         });
         tally.group("stretch: every plan on small cards", |tally| {
-            for (letters, states) in [(&b"a"[..], 1), (b"a", 2), (b"a", 3), (b"ab", 1), (b"ab", 2), (b"abc", 1)] {
+            for (letters, states) in random_cards::SMALL {
                 for card in random_cards::all_small(letters, states) {
                     let longest = if board::load(&card).is_ok() { 5 } else { 1 };
                     for plan in words(letters, longest) {
@@ -91,12 +93,14 @@ impl<'p> Comparison<'p> {
                     self.compare(tally, &card, plan);
                 }
             }
-            for place in 0..FIRST_CARD.len() {
-                for byte in 0..=255 {
-                    let mut card = FIRST_CARD.to_vec();
-                    card[place] = byte;
-                    self.compare(tally, &card, b"abb");
-                    self.compare(tally, &card, b"abbA");
+            for (card, plan) in [(FIRST_CARD, &b"abb"[..]), (NO_LETTERS_CARD, b"")] {
+                for place in 0..card.len() {
+                    for byte in 0..=255 {
+                        let mut card = card.to_vec();
+                        card[place] = byte;
+                        self.compare(tally, &card, plan);
+                        self.compare(tally, &card, &[plan, b"A"].concat());
+                    }
                 }
             }
         });
@@ -143,8 +147,8 @@ impl<'p> Comparison<'p> {
 
     /// At every place of short plans, alone and before others.
     fn foreign_letters(&self, tally: &mut Tally) {
-        let cards = [FIRST_CARD.to_vec(), NOTHING_CARD.to_vec(), EVERYTHING_CARD.to_vec(), factor_examples::one_a()];
-        for card in &cards {
+        let one_a = factor_examples::one_a();
+        for card in [FIRST_CARD, NOTHING_CARD, EVERYTHING_CARD, &one_a, NO_LETTERS_CARD, NO_LETTERS_NOTHING_CARD] {
             for length in 1..=12 {
                 for place in 0..length {
                     for byte in [0, b'\n', b'A', b'`', b'c', b'z', b'{', 0xE1, 0xFF] {

@@ -2,7 +2,7 @@
 //! by itself.
 
 use crate::effort::Effort;
-use crate::examples::FIRST_CARD;
+use crate::examples::{FIRST_CARD, NO_LETTERS_CARD, NO_LETTERS_NOTHING_CARD};
 use crate::expected_output::plans;
 use crate::product::JudgeLines;
 use crate::random_cards;
@@ -17,8 +17,9 @@ pub fn run(tally: &mut Tally, product: JudgeLines, effort: Effort) {
         tally.group("lines: every room", |tally| {
             for lines in [&b""[..], b"\n", b"\n\n", b"ab", b"ab\n", b"ab\nabb\n\nb", b"a\rb\nzz\n\n", b"\nab\n\n"] {
                 for room in 0..16 {
-                    compare(tally, product, FIRST_CARD, lines, room);
-                    compare(tally, product, &FIRST_CARD[..22], lines, room);
+                    for card in [FIRST_CARD, &FIRST_CARD[..22], NO_LETTERS_CARD, NO_LETTERS_NOTHING_CARD] {
+                        compare(tally, product, card, lines, room);
+                    }
                 }
             }
         });
@@ -47,7 +48,7 @@ pub fn run(tally: &mut Tally, product: JudgeLines, effort: Effort) {
 }
 
 /// The number and `out`, and the replies behind the call.
-fn due(card: &[u8], lines: &[u8], room: usize, mut replies: Vec<u64>) -> ([u64; 4], Vec<u64>) {
+pub fn due(card: &[u8], lines: &[u8], room: usize, mut replies: Vec<u64>) -> ([u64; 4], Vec<u64>) {
     if let Err(number) = load(card) {
         return ([number.into(), 0, 0, 0], replies);
     }

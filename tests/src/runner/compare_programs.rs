@@ -2,7 +2,7 @@
 
 use crate::effort::Effort;
 use crate::examples;
-use crate::expected_output::{card_or_line, verdicts, written_out};
+use crate::expected_output::{card_or_line, compiled_out, verdicts, written_out};
 use crate::extra_books;
 use crate::limits;
 use crate::program::{Handing, Program, WorkingDirectory};
@@ -97,6 +97,7 @@ impl Judge<'_> {
         for input in inputs {
             self.compare(tally, card, input, Handing::AtOnce);
             self.compare(tally, card, input, Handing::InPieces(1));
+            self.compare(tally, Some(examples::NO_LETTERS_CARD), input, Handing::AtOnce);
         }
         let every_byte: Vec<u8> = (0..=255).flat_map(|byte| [b'a', byte, b'b', b'\n']).collect();
         self.compare(tally, card, &every_byte, Handing::AtOnce);
@@ -117,6 +118,7 @@ impl Judge<'_> {
             examples::NO_A_CARD.to_vec(),
             examples::NOTHING_CARD.to_vec(),
             examples::EVERYTHING_CARD.to_vec(),
+            [examples::NO_LETTERS_CARD, b"\n"].concat(),
             [examples::FIRST_CARD, b"\n"].concat(),
             [examples::FIRST_CARD, b"\0"].concat(),
             examples::FIRST_CARD[..22].to_vec(),
@@ -154,6 +156,7 @@ impl Judge<'_> {
         self.compare(tally, card, &[&ten_megabytes[..], b"c\nab"].concat(), Handing::AtOnce);
         self.compare(tally, None, &ten_megabytes, Handing::AtOnce);
         self.compare(tally, card, &b"\n".repeat(100_000), Handing::AtOnce);
+        self.compare(tally, Some(examples::NO_LETTERS_CARD), &b"\n\na\n".repeat(30_000), Handing::AtOnce);
         let mut rng = tally.rng("100,000 lines");
         let mut many = Vec::new();
         for _ in 0..100_000 {
@@ -233,8 +236,14 @@ struct Compiler<'p> {
 
 impl Compiler<'_> {
     fn fixed(&self, tally: &mut Tally) {
+        tally.group("programs: compiling, written out", |tally| {
+            for (text, due) in compiled_out() {
+                let found = self.program.run(&self.place, text, Handing::AtOnce);
+                tally.same(&format!("compiling program, text {}", shown(text)), &Ok(due.to_vec()), &found);
+            }
+        });
         tally.group("programs: compiling, examples", |tally| {
-            for example in [examples::paper(), examples::reading(), examples::staging()].concat() {
+            for example in examples::quick() {
                 self.compare(tally, &example.text, Handing::AtOnce);
             }
         });
@@ -308,12 +317,17 @@ pub fn both(tally: &mut Tally, compiler: &Program, judge: &Program, effort: Effo
     tally.group("programs: compiled, then judged", |tally| {
         let place = WorkingDirectory::new();
         let mut rng = tally.rng("programs: compiled, then judged");
-        for case in 0..effort.of(100) {
-            let text = random_books::book(&mut rng);
+        let mut texts = Vec::new();
+        if effort.fixed {
+            texts = examples::ruleless().into_iter().map(|example| example.text).collect();
+        }
+        texts.extend((0..effort.of(100)).map(|_| random_books::book(&mut rng)));
+        for (case, text) in texts.into_iter().enumerate() {
             let Ok(accepted) = compile(&text, &Lent::plenty()) else { continue };
             let Ok(bodies) = board::load(&accepted.card) else { continue };
             let longest = if bodies.letters.len() > 3 { 2 } else { 4 };
-            let input = words(bodies.letters, longest).join(&b'\n');
+            // Every short plan, and a foreign letter: without letters that is the empty plan's line and one more.
+            let input = [words(bodies.letters, longest), vec![b"?".to_vec()]].concat().join(&b'\n');
             let answer = compiler.run(&place, &text, Handing::AtOnce).and_then(|card| {
                 place.set_board(Some(&card));
                 judge.run(&place, &input, Handing::AtOnce)

@@ -4,9 +4,10 @@
 //! fault that the comparisons have to find.
 
 use crate::rng::Rng;
-use reference::board::{self, Refused, Verdict};
+use reference::board::{self, Bodies, Refused, Verdict};
 use reference::compile::{self, Accepted, Lent};
 use reference::factor;
+use reference::mounted;
 use reference::refusal::Refusal;
 use std::cell::RefCell;
 use std::collections::HashMap;
@@ -122,36 +123,73 @@ pub struct Reference {
 
 impl BoardEntry for Reference {
     fn load(&self, card: &[u8]) -> Loaded {
-        match board::load(card) {
-            Ok(bodies) => Loaded::Card { letters: bodies.letters.len() as u64, states: bodies.states() as u64 },
-            Err(number) => Loaded::Refused(number.into()),
-        }
+        loaded(board::load(card))
     }
 
     fn step(&self, card: &[u8], state: usize, letter: u8) -> Stepped {
-        match board::step(card, state, letter) {
-            Ok((state, marks)) => Stepped::To { state: state as u64, marks: marks.into() },
-            Err(number) => Stepped::Refused(number.into()),
-        }
+        stepped(board::step(card, state, letter))
     }
 
     fn judge(&self, card: &[u8], plan: &[u8]) -> Judged {
-        match board::judge(card, plan) {
-            Ok(Verdict::Allowed) => Judged::Allowed,
-            Ok(Verdict::Unfinished) => Judged::Unfinished,
-            Ok(Verdict::Hopeless(place)) => Judged::Hopeless(place as u64),
-            Err(Refused::Card(number)) => Judged::Refused(number.into()),
-            Err(Refused::ForeignLetter { before }) => Judged::ForeignLetter { before: before as u64 },
-        }
+        judged(board::judge(card, plan))
     }
 
     fn shortest(&self, card: &[u8], plan: &[u8], _: [u64; 3]) -> Shortest {
-        match factor::shortest(card, plan) {
-            Ok(None) => Shortest::None,
-            Ok(Some((start, length))) => Shortest::At { start: start as u64, length: length as u64 },
-            Err(Refused::Card(number)) => Shortest::Refused(number.into()),
-            Err(Refused::ForeignLetter { before }) => Shortest::ForeignLetter { before: before as u64 },
-        }
+        shortest(factor::shortest(card, plan))
+    }
+}
+
+/// The reference's mounted board.
+pub struct Mounted;
+
+impl BoardEntry for Mounted {
+    fn load(&self, card: &[u8]) -> Loaded {
+        loaded(mounted::load(card))
+    }
+
+    fn step(&self, card: &[u8], state: usize, letter: u8) -> Stepped {
+        stepped(mounted::step(card, state, letter))
+    }
+
+    fn judge(&self, card: &[u8], plan: &[u8]) -> Judged {
+        judged(mounted::judge(card, plan))
+    }
+
+    fn shortest(&self, card: &[u8], plan: &[u8], _: [u64; 3]) -> Shortest {
+        shortest(mounted::shortest(card, plan))
+    }
+}
+
+fn loaded(result: Result<Bodies, u8>) -> Loaded {
+    match result {
+        Ok(bodies) => Loaded::Card { letters: bodies.letters.len() as u64, states: bodies.states() as u64 },
+        Err(number) => Loaded::Refused(number.into()),
+    }
+}
+
+fn stepped(result: Result<(usize, u8), u8>) -> Stepped {
+    match result {
+        Ok((state, marks)) => Stepped::To { state: state as u64, marks: marks.into() },
+        Err(number) => Stepped::Refused(number.into()),
+    }
+}
+
+fn judged(result: Result<Verdict, Refused>) -> Judged {
+    match result {
+        Ok(Verdict::Allowed) => Judged::Allowed,
+        Ok(Verdict::Unfinished) => Judged::Unfinished,
+        Ok(Verdict::Hopeless(place)) => Judged::Hopeless(place as u64),
+        Err(Refused::Card(number)) => Judged::Refused(number.into()),
+        Err(Refused::ForeignLetter { before }) => Judged::ForeignLetter { before: before as u64 },
+    }
+}
+
+fn shortest(result: Result<Option<(usize, usize)>, Refused>) -> Shortest {
+    match result {
+        Ok(None) => Shortest::None,
+        Ok(Some((start, length))) => Shortest::At { start: start as u64, length: length as u64 },
+        Err(Refused::Card(number)) => Shortest::Refused(number.into()),
+        Err(Refused::ForeignLetter { before }) => Shortest::ForeignLetter { before: before as u64 },
     }
 }
 

@@ -78,6 +78,17 @@ pub const NOTHING_CARD: &[u8] =
 pub const EVERYTHING_CARD: &[u8] =
     &[0x0C, 0x00, 0x02, 0x00, 0x0E, 0x00, 0x01, 0x00, 0x0F, 0x00, 0x02, 0x00, 0x61, 0x62, 0x01, 0x00, 0x00];
 
+/// The card of a text of no bytes: no letters, and the empty plan allowed.
+pub const NO_LETTERS_CARD: &[u8] = &[0x0C, 0x00, 0x00, 0x00, 0x0C, 0x00, 0x01, 0x00, 0x0D, 0x00, 0x00, 0x00, 0x01];
+
+/// Its like that allows no plan.
+pub const NO_LETTERS_NOTHING_CARD: &[u8] =
+    &[0x0C, 0x00, 0x00, 0x00, 0x0C, 0x00, 0x01, 0x00, 0x0D, 0x00, 0x00, 0x00, 0x02];
+
+/// The card over z that allows every plan.
+pub const EVERY_Z_CARD: &[u8] =
+    &[0x0C, 0x00, 0x01, 0x00, 0x0D, 0x00, 0x01, 0x00, 0x0E, 0x00, 0x01, 0x00, 0x7A, 0x01, 0x00];
+
 /// "Ten days on paper".
 pub fn paper() -> Vec<Example> {
     vec![
@@ -211,15 +222,52 @@ pub fn reading() -> Vec<Example> {
         accepted("26 letters", ":abcdefghijklmnopqrstuvwxyz\n>a\n"),
         refused("27 letters", ":abcdefghijklmnopqrstuvwxyza\n>a\n", 5, 1),
         refused("a letter that the alphabet leaves out", ":az\n>m\n", 6, 2),
-        refused("no rule", ":ab\n", 10, 0),
-        refused("a definition and no rule", ":ab\n=Aa\n", 10, 0),
-        refused("no bytes", "", 5, 1),
+        refused("a colon alone", ":\n", 5, 1),
+        refused("a colon alone, then a line end", ":\n\n", 5, 1),
+        refused("a colon and a space", ": \n", 5, 1),
+        refused("an empty alphabet with a definition", ":\n=A@\n", 5, 1),
+        refused("an empty alphabet with a rule of no letters", ":\n>@/@_@\n", 5, 1),
+        refused("two line ends", "\n\n", 5, 1),
+        refused("a space alone", " ", 5, 1),
+        refused("byte 0 alone", "\0", 5, 1),
+        refused("a line end before line 1", "\n:ab\n", 5, 1),
         refused("16,385 bytes", format!(":ab\n>a{}\n", " ".repeat(16_385 - 7)), 1, 0),
         accepted("16,384 bytes", format!(":ab\n>a{}\n", " ".repeat(16_384 - 7))).card(NO_A_CARD),
         refused("16,385 bytes of nothing", "\0".repeat(16_385), 1, 0),
         refused("16,384 bytes of nothing", "\0".repeat(16_384), 5, 1),
         refused("16,384 line ends", "\n".repeat(16_384), 5, 1),
         refused("a spoiled line far down", format!(":ab\n{}>\n", ">a\n".repeat(300)), 5, 302),
+    ]
+}
+
+/// Texts without rules: everything is allowed, and the peak is that of the
+/// definitions.
+pub fn ruleless() -> Vec<Example> {
+    let alphabet = b"abcdefghijklmnopqrstuvwxyz";
+    let contents = [0x0C, 0x00, 0x1A, 0x00, 0x26, 0x00, 0x01, 0x00, 0x27, 0x00, 0x1A, 0x00];
+    let every_letter = [&contents[..], alphabet, &[0x01], &[0x00; 26]].concat();
+    vec![
+        accepted("no bytes", "").card(NO_LETTERS_CARD).peak(0).verdict("", Allowed),
+        accepted("no rule", ":ab\n").card(EVERYTHING_CARD).peak(0).verdict("", Allowed).verdict("abba", Allowed),
+        accepted("no rule, one letter", ":z\n").card(EVERY_Z_CARD).peak(0).verdict("zzz", Allowed),
+        accepted("no rule, 26 letters", [b":", &alphabet[..], b"\n"].concat()).card(&every_letter).peak(0),
+        accepted("a definition without a stage", ":ab\n=Aa\n").card(EVERYTHING_CARD).peak(0),
+        accepted("a letter in brackets", ":ab\n=A(a)\n").card(EVERYTHING_CARD).peak(0),
+        accepted("every given machine", ":ab\n=A.\n=B@\n=Cb\n=DC\n").card(EVERYTHING_CARD).peak(0),
+        accepted("a complement defined", ":ab\n=A!@\n").card(EVERYTHING_CARD).peak(3),
+        accepted("a star defined", ":ab\n=A.*\n").card(EVERYTHING_CARD).peak(4),
+        accepted("a plus defined", ":ab\n=Aa+\n").card(EVERYTHING_CARD).peak(5),
+        accepted("a question mark defined", ":ab\n=Aa?\n").card(EVERYTHING_CARD).peak(3),
+        accepted("the greatest of three peaks is first", ":ab\n=Aa+\n=B.*\n=C!@\n").card(EVERYTHING_CARD).peak(5),
+        accepted("the greatest of three peaks is last", ":ab\n=A!@\n=B.*\n=Ca+\n").card(EVERYTHING_CARD).peak(5),
+        accepted("a definition of no plan", ":ab\n=Aa-a\n").card(EVERYTHING_CARD).verdict("a", Allowed),
+        accepted("120 states defined", format!(":a\n=A{}\n", a(118))).verdict("a", Allowed),
+        refused("121 states defined", format!(":a\n=A{}\n", a(119)), 9, 2),
+        refused("a crowd defined", format!(":a\n=Aa\n=B{}\n", crowd()), 8, 3),
+        refused("no rule and no line end", ":ab\n=Aa", 5, 2),
+        refused("no rule and a blank line", ":ab\n=Aa\n\n", 5, 3),
+        refused("no rule and a stranger", ":ab\n=Ac\n", 6, 2),
+        refused("no rule and a taken name", ":ab\n=Aa\n=Aa\n", 7, 3),
     ]
 }
 
@@ -271,6 +319,11 @@ pub fn staging() -> Vec<Example> {
         accepted("a name inside a name", ":ab\n=Aa\n=BA\n=CB\n>C\n").card(NO_A_CARD),
         accepted("a rule above a definition", ":ab\n>b / .*a _ .*\n=Ab\n>A / .*a _ .*\n").card(FIRST_CARD),
     ]
+}
+
+/// All books above; those below take their time.
+pub fn quick() -> Vec<Example> {
+    [paper(), reading(), ruleless(), staging()].concat()
 }
 
 /// Books of thousands of stages.

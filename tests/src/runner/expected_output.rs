@@ -1,6 +1,6 @@
 //! What the two programs print, by the reference.
 
-use crate::examples::FIRST_CARD;
+use crate::examples::{EVERYTHING_CARD, FIRST_CARD, NO_LETTERS_CARD, NO_LETTERS_NOTHING_CARD};
 use reference::board::{judge, Refused, Verdict};
 use reference::compile::{compile, Lent};
 
@@ -55,5 +55,27 @@ pub fn written_out() -> Vec<(Option<Bytes>, Bytes, Bytes)> {
         (None, b"ab\n\n", b"refused 21\nrefused 21\n"),
         (None, b"", b""),
         (Some(b""), b"ab\n", b"refused 21\n"),
+        (Some(NO_LETTERS_CARD), b"", b""),
+        (Some(NO_LETTERS_CARD), b"\n", b"allowed\n"),
+        (Some(NO_LETTERS_CARD), b"\n\na\n\nb", b"allowed\nallowed\nrefused 27\nallowed\nrefused 27\n"),
+        (Some(NO_LETTERS_CARD), b" \n\r\n", b"refused 27\nrefused 27\n"),
+        (Some(NO_LETTERS_NOTHING_CARD), b"\na\n", b"hopeless 0\nrefused 27\n"),
+        (Some(&[0x0C, 0, 0, 0, 0x0C, 0, 1, 0, 0x0D, 0, 0, 0, 0]), b"\na\n", b"refused 25\nrefused 25\n"),
+        (Some(&[0x0C, 0, 0, 0, 0x0C, 0, 2, 0, 0x0E, 0, 0, 0, 1, 2]), b"\na\n", b"refused 24\nrefused 24\n"),
+    ]
+}
+
+/// Texts, and what the compiling program prints for them.
+pub fn compiled_out() -> Vec<(Bytes, Bytes)> {
+    vec![
+        (b":ab\n>b / .*a _ .*\n", FIRST_CARD),
+        (b"", NO_LETTERS_CARD),
+        (b":ab\n", EVERYTHING_CARD),
+        (b":ab\n=Aa+\n", EVERYTHING_CARD),
+        (b":ab", b"refused 5 line 1\n"),
+        (b":", b"refused 5 line 1\n"),
+        (b":\n", b"refused 5 line 1\n"),
+        (b"\n", b"refused 5 line 1\n"),
+        (b":ab\n>a\n\n", b"refused 5 line 3\n"),
     ]
 }

@@ -1,7 +1,7 @@
 //! Cards and plans with the shortest stretch that lies inside no allowed plan.
 
 use crate::entry::Shortest;
-use crate::examples::{EVERYTHING_CARD, FIRST_CARD, NOTHING_CARD, NO_A_CARD};
+use crate::examples::{EVERYTHING_CARD, FIRST_CARD, NOTHING_CARD, NO_A_CARD, NO_LETTERS_CARD, NO_LETTERS_NOTHING_CARD};
 use reference::card::lay_out;
 
 /// At most one a.
@@ -17,6 +17,7 @@ pub fn all() -> Vec<(&'static str, Vec<u8>, Vec<u8>, Shortest)> {
     // b only right behind an a, so the only stretch that can't be is bb.
     let first = || FIRST_CARD.to_vec();
     let (no_a, nothing, everything) = (NO_A_CARD.to_vec(), NOTHING_CARD.to_vec(), EVERYTHING_CARD.to_vec());
+    let (no_letters, no_plan) = (|| NO_LETTERS_CARD.to_vec(), || NO_LETTERS_NOTHING_CARD.to_vec());
     // A plan begins with a; what comes then is free.
     let a_first = || lay_out(b"ab", &[0, 1, 2], &[1, 2, 1, 1, 2, 2]);
     let only_ab = || lay_out(b"ab", &[0, 0, 2, 1], &[1, 2, 2, 3, 2, 2, 2, 2]);
@@ -59,6 +60,11 @@ pub fn all() -> Vec<(&'static str, Vec<u8>, Vec<u8>, Shortest)> {
         ("nothing is allowed, foreign", nothing, b"abc", foreign(2)),
         ("everything is allowed", everything.clone(), b"abba", none()),
         ("everything is allowed, the empty plan", everything, b"", none()),
+        ("no letters, the empty plan", no_letters(), b"", none()),
+        ("no letters, a letter", no_letters(), b"a", foreign(0)),
+        ("no letters, three letters", no_letters(), b"aba", foreign(0)),
+        ("no letters and nothing is allowed", no_plan(), b"", at(0, 0)),
+        ("no letters and nothing is allowed, a letter", no_plan(), b"a", foreign(0)),
         ("a first: allowed", a_first(), b"ab", none()),
         ("a first: hopeless, nothing to blame", a_first(), b"bbb", none()),
         ("a first: unfinished", a_first(), b"", none()),
@@ -109,6 +115,12 @@ pub fn all() -> Vec<(&'static str, Vec<u8>, Vec<u8>, Shortest)> {
         ("marks, a foreign letter", lay_out(b"a", &[0], &[0]), b"b", refused(25)),
         ("twins", lay_out(b"a", &[1, 1], &[1, 1]), b"a", refused(26)),
         ("twins, both dead", lay_out(b"ab", &[1, 2, 2], &[1, 2, 1, 1, 2, 2]), b"", refused(26)),
+        ("no letters, no states", lay_out(b"", &[], &[]), b"", refused(21)),
+        ("no letters, a byte too many", [NO_LETTERS_CARD, &[0]].concat(), b"", refused(21)),
+        ("no letters, two states", lay_out(b"", &[1, 2], &[]), b"", refused(24)),
+        ("no letters, two states, a letter", lay_out(b"", &[2, 2], &[]), b"a", refused(24)),
+        ("no letters, marks 0", lay_out(b"", &[0], &[]), b"", refused(25)),
+        ("no letters, marks 3, a letter", lay_out(b"", &[3], &[]), b"a", refused(25)),
     ];
     list.into_iter().map(|(title, card, plan, due)| (title, card, plan.to_vec(), due)).collect()
 }

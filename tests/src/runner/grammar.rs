@@ -183,17 +183,13 @@ fn item(tree: &Item) -> String {
     form
 }
 
-/// Tests 1, 3 to 7 and 10 of a text once more: its refusal as (number, line).
+/// Tests 1 and 3 to 7 of a text once more: its refusal as (number, line).
 pub fn refusal(text: &[u8]) -> Option<(u8, usize)> {
     if text.len() > 16_384 {
         return Some((1, 0));
     }
-    if text.is_empty() {
-        return Some((5, 1));
-    }
     let mut letters: Vec<u8> = Vec::new();
     let mut names: Vec<u8> = Vec::new();
-    let mut has_rule = false;
     for (index, whole) in text.split_inclusive(|&byte| byte == b'\n').enumerate() {
         let refused = |number| Some((number, index + 1));
         let line = whole.strip_suffix(b"\n");
@@ -233,12 +229,8 @@ pub fn refusal(text: &[u8]) -> Option<(u8, usize)> {
         match defined {
             Some(name) if names.contains(&name) => return refused(7),
             Some(name) => names.push(name),
-            None => has_rule = true,
+            None => {}
         }
     }
-    if has_rule {
-        None
-    } else {
-        Some((10, 0))
-    }
+    None
 }

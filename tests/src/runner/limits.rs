@@ -26,13 +26,17 @@ fn multiple(count: usize, x: char, y: char) -> String {
 /// and 121 states (the second is oversize).
 pub fn stages() -> Vec<Limit> {
     use Nearest::{Sets, States};
-    let pair = |left: String, right: String| format!(":ab\n=A{left}\n=B{right}\n=CA&B\n>a\n");
+    let defined = |left: String, right: String| format!(":ab\n=A{left}\n=B{right}\n=CA&B\n");
+    let pair = |left: String, right: String| defined(left, right) + ">a\n";
     let counted = |p: usize, x, y| multiple(p, x, y);
     let whole_days = |p, q| format!(":a\n{}{}", whole_day(p), whole_day(q));
     let listed = vec![
         (pair(counted(17, 'a', 'b') + "aa", counted(26, 'b', 'a') + "b"), Sets("&", 511)),
         (pair(counted(18, 'a', 'b') + "a", counted(26, 'b', 'a') + "b"), Sets("&", 512)),
         (pair("b".to_string() + &counted(17, 'a', 'b') + "a", counted(26, 'b', 'a') + "b"), Sets("&", 513)),
+        (defined(counted(17, 'a', 'b') + "aa", counted(26, 'b', 'a') + "b"), Sets("&", 511)),
+        (defined(counted(18, 'a', 'b') + "a", counted(26, 'b', 'a') + "b"), Sets("&", 512)),
+        (defined("b".to_string() + &counted(17, 'a', 'b') + "a", counted(26, 'b', 'a') + "b"), Sets("&", 513)),
         (format!(":a\n=A({})*&({})*\n>a\n", a(17), a(30)), Sets("&", 511)),
         (format!(":a\n=A({})*&({})*\n>a\n", a(7), a(73)), Sets("&", 512)),
         (format!(":a\n=A({})*&({})*\n>a\n", a(19), a(27)), Sets("&", 514)),
@@ -54,6 +58,8 @@ pub fn stages() -> Vec<Limit> {
         (":ab\n=A(!(baaa)|(.|a))\n=B(.|(((b|....))*|aaaa)).\n=CAB\n>a\n".into(), Sets("join", 513)),
         (format!(":a\n=A{}\n>a\n", a(118)), States("join", 120)),
         (format!(":a\n=A{}\n>a\n", a(119)), States("join", 121)),
+        (format!(":a\n=A{}\n", a(118)), States("join", 120)),
+        (format!(":a\n=A{}\n", a(119)), States("join", 121)),
         (format!(":a\n=A({})*|({})*\n>a\n", a(7), a(17)), States("|", 120)),
         (format!(":a\n=A({})*|({})*\n>a\n", a(8), a(15)), States("|", 121)),
         (":ab\n>ab((.|b)|bbbb)aaaa(aaa|bbbbbb)\n>ba.(b|aaa)ab(aaaaaa|bb)/.*aaaabbb_....b.*\n".into(), States("&", 120)),
@@ -110,5 +116,7 @@ pub fn long_texts(length: usize) -> Vec<Vec<u8>> {
         filled(":ab\n>a", "\n>b/.*a_.*", "\n"),
         filled(":ab\n>a", "\n>a", "\n"),
         filled(":ab\n=Aa\n>A", "|(A)", "\n"),
+        filled(":ab\n=Aa", " ", "\n"),
+        filled(":ab\n=A", "!", "a\n"),
     ]
 }

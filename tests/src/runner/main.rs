@@ -11,6 +11,7 @@ mod compare_board;
 mod compare_compile;
 mod compare_factor;
 mod compare_lines;
+mod compare_mounted;
 mod compare_programs;
 mod effort;
 mod entry;
@@ -24,6 +25,7 @@ mod limits;
 mod planted_boards;
 mod planted_compilers;
 mod planted_factors;
+mod planted_lines;
 mod product;
 mod program;
 mod random_books;
@@ -34,6 +36,7 @@ mod self_coverage;
 mod self_examples;
 mod self_factor;
 mod self_meaning;
+mod self_mounted;
 mod self_planted;
 mod shrink;
 mod tally;
@@ -120,6 +123,7 @@ fn run(tally: &mut Tally, options: &Options, effort: Effort) {
         }
         self_meaning::run(tally, effort);
         self_board::run(tally, effort);
+        self_mounted::run(tally, effort);
         self_factor::run(tally, effort);
     }
     if wanted("board") {
@@ -127,6 +131,7 @@ fn run(tally: &mut Tally, options: &Options, effort: Effort) {
             Some(board) => {
                 compare_board::run(tally, &*board, effort);
                 compare_factor::run(tally, &*board, effort);
+                compare_mounted::run(tally, &*board, &entry::Mounted, effort);
                 if effort.fixed {
                     by_format::run(tally, &*board);
                 }

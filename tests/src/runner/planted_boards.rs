@@ -1,7 +1,7 @@
-//! Wrong boards. Each is the reference with one fault; the comparisons have
-//! to find every one of them.
+//! Wrong boards, new ones and mounted ones. Each is the reference with one
+//! fault; the comparisons have to find every one of them.
 
-use crate::entry::{BoardEntry, Judged, Loaded, Reference, Shortest, Stepped};
+use crate::entry::{BoardEntry, Judged, Loaded, Mounted, Reference, Shortest, Stepped};
 use reference::board;
 use reference::card;
 
@@ -12,34 +12,46 @@ type Judge = fn(&[u8], &[u8], Judged) -> Judged;
 /// The reference's answers, changed afterwards.
 pub struct Planted {
     pub name: &'static str,
+    right: &'static dyn BoardEntry,
     load: Load,
     step: Step,
     judge: Judge,
 }
 
-const REFERENCE: Reference = Reference { bench: Vec::new() };
+static REFERENCE: Reference = Reference { bench: Vec::new() };
 
 impl BoardEntry for Planted {
     fn load(&self, card: &[u8]) -> Loaded {
-        (self.load)(card, REFERENCE.load(card))
+        (self.load)(card, self.right.load(card))
     }
 
     fn step(&self, card: &[u8], state: usize, letter: u8) -> Stepped {
-        (self.step)(card, state, letter, REFERENCE.step(card, state, letter))
+        (self.step)(card, state, letter, self.right.step(card, state, letter))
     }
 
     fn judge(&self, card: &[u8], plan: &[u8]) -> Judged {
-        (self.judge)(card, plan, REFERENCE.judge(card, plan))
+        (self.judge)(card, plan, self.right.judge(card, plan))
     }
 
     fn shortest(&self, card: &[u8], plan: &[u8], held: [u64; 3]) -> Shortest {
-        REFERENCE.shortest(card, plan, held)
+        self.right.shortest(card, plan, held)
     }
 }
 
 /// No fault: the comparisons may find nothing.
 pub fn right() -> Planted {
-    Planted { name: "no fault", load: |_, found| found, step: |_, _, _, found| found, judge: |_, _, found| found }
+    Planted {
+        name: "no fault",
+        right: &REFERENCE,
+        load: |_, found| found,
+        step: |_, _, _, found| found,
+        judge: |_, _, found| found,
+    }
+}
+
+/// No fault, mounted.
+pub fn right_mounted() -> Planted {
+    Planted { right: &Mounted, ..right() }
 }
 
 fn load(name: &'static str, load: Load) -> Planted {
@@ -54,6 +66,11 @@ fn judge(name: &'static str, judge: Judge) -> Planted {
     Planted { name, judge, ..right() }
 }
 
+/// Whether the card passes test 21 and has no letters.
+fn has_no_letters(card: &[u8]) -> bool {
+    board::bodies(card).is_ok_and(|bodies| bodies.letters.is_empty())
+}
+
 /// A card that a refusal should have stopped.
 fn taken(card: &[u8]) -> Loaded {
     match board::bodies(card) {
@@ -63,6 +80,96 @@ fn taken(card: &[u8]) -> Loaded {
 }
 
 pub fn all() -> Vec<Planted> {
+    [on_any_card(), without_letters()].into_iter().flatten().collect()
+}
+
+/// Faults in what a card without letters is answered.
+pub fn without_letters() -> Vec<Planted> {
+    vec![
+        load("refuses to load without letters", |card, found| match found {
+            Loaded::Card { .. } if has_no_letters(card) => Loaded::Refused(21),
+            other => other,
+        }),
+        load("21 for all that has no letters", |card, found| match found {
+            Loaded::Refused(_) if has_no_letters(card) => Loaded::Refused(21),
+            other => other,
+        }),
+        load("loads two states without letters", |card, found| match board::bodies(card) {
+            Ok(bodies) if has_no_letters(card) && bodies.states() == 2 => taken(card),
+            _ => found,
+        }),
+        load("wants a plan without letters", |card, found| match board::bodies(card) {
+            Ok(bodies) if has_no_letters(card) && bodies.marks == [2] => Loaded::Refused(25),
+            _ => found,
+        }),
+        load("loads marks 0 without letters", |card, found| match board::bodies(card) {
+            Ok(bodies) if has_no_letters(card) && bodies.marks == [0] => taken(card),
+            _ => found,
+        }),
+        load("doesn't test marks without letters", |card, found| match found {
+            Loaded::Refused(25) if has_no_letters(card) => taken(card),
+            other => other,
+        }),
+        load("counts one letter where there is none", |_, found| match found {
+            Loaded::Card { letters: 0, states } => Loaded::Card { letters: 1, states },
+            other => other,
+        }),
+        step("refuses to step without letters", |card, _, _, found| match found {
+            Stepped::Refused(27) if has_no_letters(card) => Stepped::Refused(21),
+            other => other,
+        }),
+        step("steps to state 0 without letters", |card, state, _, found| match board::bodies(card) {
+            Ok(bodies) if bodies.letters.is_empty() && state == 0 => {
+                Stepped::To { state: 0, marks: bodies.marks[0].into() }
+            }
+            _ => found,
+        }),
+        step("28 first without letters", |card, state, _, found| match board::bodies(card) {
+            Ok(bodies) if bodies.letters.is_empty() && state >= bodies.states() => Stepped::Refused(28),
+            _ => found,
+        }),
+        judge("refuses to judge without letters", |card, _, found| match found {
+            Judged::Allowed | Judged::Hopeless(_) if has_no_letters(card) => Judged::Refused(21),
+            other => other,
+        }),
+        judge("allows every plan without letters", |card, _, found| match found {
+            Judged::ForeignLetter { .. } if has_no_letters(card) => Judged::Allowed,
+            other => other,
+        }),
+        judge("allows the empty plan without letters", |card, _, found| match found {
+            Judged::Hopeless(0) if has_no_letters(card) => Judged::Allowed,
+            other => other,
+        }),
+        judge("hopeless before 27 without letters", |card, _, found| match board::load(card) {
+            Ok(bodies) if bodies.letters.is_empty() && bodies.marks == [2] => Judged::Hopeless(0),
+            _ => found,
+        }),
+    ]
+}
+
+/// Faults in what a mounted board answers.
+pub fn mounted() -> Vec<Planted> {
+    let mounted = |planted: Planted| Planted { right: &Mounted, ..planted };
+    vec![
+        mounted(load("loads a card without letters", |card, _| REFERENCE.load(card))),
+        mounted(step("27 for a card without letters", |card, state, letter, _| REFERENCE.step(card, state, letter))),
+        mounted(judge("judges by a card without letters", |card, plan, _| REFERENCE.judge(card, plan))),
+        mounted(load("22 for a card without letters", |card, found| match found {
+            Loaded::Refused(21) if has_no_letters(card) => Loaded::Refused(22),
+            other => other,
+        })),
+        mounted(load("refuses a card of one letter", |_, found| match found {
+            Loaded::Card { letters: 1, .. } => Loaded::Refused(21),
+            other => other,
+        })),
+        mounted(load("21 for all refused cards", |_, found| match found {
+            Loaded::Refused(_) => Loaded::Refused(21),
+            other => other,
+        })),
+    ]
+}
+
+fn on_any_card() -> Vec<Planted> {
     vec![
         load("loads everything", |card, _| taken(card)),
         load("refuses everything", |_, _| Loaded::Refused(21)),

@@ -87,7 +87,7 @@ fn lines_of(text: &[u8]) -> Vec<Vec<u8>> {
 }
 
 pub fn all() -> Vec<Planted> {
-    [texts(), answers(), limits(), recipes(), cards(), buffers()].into_iter().flatten().collect()
+    [texts(), answers(), ruleless(), limits(), recipes(), cards(), buffers()].into_iter().flatten().collect()
 }
 
 fn texts() -> Vec<Planted> {
@@ -193,14 +193,8 @@ fn answers() -> Vec<Planted> {
             ..found
         }),
         after("lines from 0", |_, found| Compiled { line: found.line.saturating_sub(1), ..found }),
-        after("a line for 10", |_, found| Compiled { line: if found.number == 10 { 1 } else { found.line }, ..found }),
+        after("a line for 11", |_, found| Compiled { line: if found.number == 11 { 1 } else { found.line }, ..found }),
         after("a line below 256", |_, found| Compiled { line: found.line % 256, ..found }),
-        after("no bytes is no rule", |request, found| {
-            if request.text.is_empty() && found.number == 5 {
-                return refused(request, 10, 0);
-            }
-            found
-        }),
         after("old rubbish alters the peak", |request, found| {
             let altered = found.number == 0 && request.rubbish % 5 == 3;
             Compiled { peak: found.peak + u64::from(altered), ..found }
@@ -275,6 +269,122 @@ fn answers() -> Vec<Planted> {
             found
         }),
     ]
+}
+
+/// Whether the text is accepted and has no rule.
+fn is_ruleless(request: &Request, found: &Compiled) -> bool {
+    found.number == 0 && reader::read_book(&request.text).is_ok_and(|book| book.rules().next().is_none())
+}
+
+/// Faults with texts that have no rule, or no byte.
+fn ruleless() -> Vec<Planted> {
+    vec![
+        after("no rule is refused", |request, found| match is_ruleless(request, &found) {
+            true if !request.text.is_empty() => refused(request, 10, 0),
+            _ => found,
+        }),
+        after("no rule is refused where nothing is defined", |request, found| {
+            match is_ruleless(request, &found) && lines_of(&request.text).len() == 1 {
+                true => refused(request, 10, 0),
+                false => found,
+            }
+        }),
+        after("no bytes is no rule", |request, found| match request.text.is_empty() && found.number == 0 {
+            true => refused(request, 10, 0),
+            false => found,
+        }),
+        after("no bytes is a spoiled line", |request, found| match request.text.is_empty() && found.number == 0 {
+            true => refused(request, 5, 1),
+            false => found,
+        }),
+        after("10 before 11", |request, found| match request.text.is_empty() && found.number == 11 {
+            true => refused(request, 10, 0),
+            false => found,
+        }),
+        after("5 before 2 for no bytes", |request, found| match request.text.is_empty() && found.number == 2 {
+            true => refused(request, 5, 1),
+            false => found,
+        }),
+        after("a peak of 1 for no bytes", |request, found| match request.text.is_empty() && found.number == 0 {
+            true => Compiled { peak: 1, ..found },
+            false => found,
+        }),
+        after("a peak of 1 where nothing is made", |_, found| match found.number == 0 && found.peak == 0 {
+            true => Compiled { peak: 1, ..found },
+            false => found,
+        }),
+        after("no peak without a rule", |request, found| match is_ruleless(request, &found) {
+            true => Compiled { peak: 0, ..found },
+            false => found,
+        }),
+        after("the peak of the last definition", |request, found| match is_ruleless(request, &found) {
+            true => {
+                let mut lines = lines_of(&request.text);
+                let stages = |text: &[u8]| compile_by(text, &Lent::plenty(), LIMITS, rule).1;
+                let all = stages(&lines.concat());
+                lines.pop();
+                let last = all[stages(&lines.concat()).len()..].iter().map(|stage| stage.sets as u64);
+                Compiled { peak: last.max().unwrap_or(0), ..found }
+            }
+            false => found,
+        }),
+        marks_changed("no bytes allows nothing", |request| request.text.is_empty(), 2),
+        marks_changed("no bytes has marks 0", |request| request.text.is_empty(), 0),
+        marks_changed("no rule allows nothing", |request| !request.text.is_empty(), 2),
+        text("a colon alone is a text of no bytes", |text| match text {
+            b":" | b":\n" => Vec::new(),
+            _ => text.to_vec(),
+        }),
+        text("a colon without its end is a text of no bytes", |text| match text {
+            b":" => Vec::new(),
+            _ => text.to_vec(),
+        }),
+        text("a line end is a text of no bytes", |text| match text {
+            b"\n" => Vec::new(),
+            _ => text.to_vec(),
+        }),
+        text("no bytes is a line end", |text| match text {
+            b"" => b"\n".to_vec(),
+            _ => text.to_vec(),
+        }),
+        text("no bytes is an alphabet", |text| match text {
+            b"" => b":a\n".to_vec(),
+            _ => text.to_vec(),
+        }),
+        Planted {
+            name: "no bytes on a short bench will do",
+            compile: Box::new(|request| match request.text.is_empty() {
+                true => answer(request, compile_by(b"", &Lent { bench: Vec::new(), ..lent(request) }, LIMITS, rule).0),
+                false => faultless(request),
+            }),
+        },
+        after("12 bytes will do for no bytes", |request, found| {
+            let mut found = found;
+            if request.text.is_empty() && found.number == 11 && request.card_length == 12 {
+                found.card_buffer.copy_from_slice(&crate::examples::NO_LETTERS_CARD[..12]);
+                return Compiled { number: 0, length: 12, ..found };
+            }
+            found
+        }),
+        after("14 bytes are due for no bytes", |request, found| match request.text.is_empty() {
+            true if request.card_length == card::SHORTEST && found.number == 0 => refused(request, 11, 0),
+            _ => found,
+        }),
+    ]
+}
+
+/// Another first marks byte on the card of a text without rules, where the
+/// text is a wanted one.
+fn marks_changed(name: &'static str, wanted: fn(&Request) -> bool, byte: u8) -> Planted {
+    let compile = move |request: &Request| {
+        let mut found = faultless(request);
+        if is_ruleless(request, &found) && wanted(request) {
+            let letters = usize::from(found.card_buffer[2]);
+            found.card_buffer[card::CONTENTS_LENGTH + letters] = byte;
+        }
+        found
+    };
+    Planted { name, compile: Box::new(compile) }
 }
 
 fn limits() -> Vec<Planted> {
@@ -533,10 +643,10 @@ fn buffers() -> Vec<Planted> {
             }),
         },
         Planted {
-            name: "the card buffer before the rules",
+            name: "the card buffer before the lines",
             compile: Box::new(|request| {
                 let found = faultless(request);
-                if found.number == 10 && request.card_length == 0 {
+                if found.line > 0 && request.card_length == 0 {
                     return refused(request, 11, 0);
                 }
                 found

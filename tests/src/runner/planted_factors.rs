@@ -150,8 +150,12 @@ fn is_known(card: &[u8], letter: &u8) -> bool {
     board::bodies(card).is_ok_and(|bodies| bodies.letters.contains(letter))
 }
 
+fn has_no_letters(card: &[u8]) -> bool {
+    board::bodies(card).is_ok_and(|bodies| bodies.letters.is_empty())
+}
+
 pub fn all() -> Vec<Planted> {
-    [in_the_pass(), in_the_answer(), in_the_tests()].into_iter().flatten().collect()
+    [in_the_pass(), in_the_answer(), in_the_tests(), without_letters()].into_iter().flatten().collect()
 }
 
 fn in_the_pass() -> Vec<Planted> {
@@ -335,5 +339,35 @@ fn in_the_tests() -> Vec<Planted> {
             Shortest::Refused(_) => Shortest::Refused(21),
             other => other,
         }),
+    ]
+}
+
+/// Faults on a card without letters.
+fn without_letters() -> Vec<Planted> {
+    vec![
+        change("refuses a card without letters", |card, _, _, found| match has_no_letters(card) {
+            true => Shortest::Refused(21),
+            false => found,
+        })
+        .contradicts(),
+        change("none without letters", |card, _, _, found| match found {
+            Shortest::At { .. } if has_no_letters(card) => Shortest::None,
+            other => other,
+        }),
+        change("an empty stretch without letters", |card, _, _, found| match found {
+            Shortest::None if has_no_letters(card) => Shortest::At { start: 0, length: 0 },
+            other => other,
+        })
+        .contradicts(),
+        change("none for letters where the card has none", |card, _, _, found| match found {
+            Shortest::ForeignLetter { .. } if has_no_letters(card) => Shortest::None,
+            other => other,
+        })
+        .contradicts(),
+        change("one letter where the card has none", |card, _, _, found| match found {
+            Shortest::ForeignLetter { before } if has_no_letters(card) => Shortest::At { start: before, length: 1 },
+            other => other,
+        })
+        .contradicts(),
     ]
 }

@@ -2,8 +2,12 @@
 
 use crate::rng::Rng;
 
-/// A well-formed book: an alphabet, perhaps definitions, rules.
+/// A well-formed book: an alphabet, perhaps definitions, most often rules. Now
+/// and then a text of no bytes.
 pub fn book(rng: &mut Rng) -> Vec<u8> {
+    if rng.once_in(60) {
+        return Vec::new();
+    }
     let flavour = rng.below(16);
     let mut writer = Writer {
         letters: match flavour {
@@ -30,7 +34,11 @@ pub fn book(rng: &mut Rng) -> Vec<u8> {
     for _ in 0..definitions {
         writer.definition(rng);
     }
-    let rules = if rng.once_in(2) { 1 } else { rng.between(1, 4) };
+    let rules = match rng.below(20) {
+        0 | 1 => 0,
+        2..=10 => 1,
+        _ => rng.between(1, 4),
+    };
     for _ in 0..rules {
         writer.rule(rng);
         if rng.once_in(10) {
@@ -216,13 +224,13 @@ fn damage(rng: &mut Rng, text: &mut Vec<u8>) {
         return;
     }
     let place = rng.below(text.len());
-    match rng.below(15) {
+    match rng.below(16) {
         0..=3 => text[place] = byte,
         4..=6 => text.insert(place, byte),
         7..=8 => {
             text.remove(place);
         }
-        9 => text.truncate(place),
+        9 => text.truncate(if rng.once_in(6) { 0 } else { place }),
         10 => {
             let other = rng.below(text.len());
             text.swap(place, other);
@@ -234,12 +242,16 @@ fn damage(rng: &mut Rng, text: &mut Vec<u8>) {
                 text.insert(place, sign);
             }
         }
-        _ => {
-            let lines: Vec<Vec<u8>> = text.split_inclusive(|&byte| byte == b'\n').map(<[u8]>::to_vec).collect();
+        kind => {
+            let mut lines: Vec<Vec<u8>> = text.split_inclusive(|&byte| byte == b'\n').map(<[u8]>::to_vec).collect();
             let (from, to) = (rng.below(lines.len()), rng.below(lines.len() + 1));
-            let mut moved = lines.clone();
-            moved.insert(to, lines[from].clone());
-            *text = moved.concat();
+            let line = lines[from].clone();
+            if kind == 15 {
+                lines.remove(from);
+            } else {
+                lines.insert(to, line);
+            }
+            *text = lines.concat();
         }
     }
 }

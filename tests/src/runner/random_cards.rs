@@ -30,12 +30,20 @@ pub fn letters(rng: &mut Rng, count: usize) -> Vec<u8> {
     all
 }
 
+/// One of these numbers of letters, now and then none.
+fn letter_count(rng: &mut Rng, some: &[usize]) -> usize {
+    if rng.once_in(12) {
+        return 0;
+    }
+    *rng.pick(some)
+}
+
 /// A card that loads.
 pub fn good(rng: &mut Rng) -> Vec<u8> {
-    let symbols = *rng.pick(&[1, 2, 2, 2, 3, 3, 5, 26]);
+    let symbols = letter_count(rng, &[1, 2, 2, 2, 3, 3, 5, 26]);
     let states = *rng.pick(&[1, 2, 3, 4, 5, 8, 16, 40, 120]);
     let mut smallest = minimise(&machine(rng, symbols, states));
-    if rng.once_in(4) {
+    if symbols > 0 && rng.once_in(4) {
         smallest = with_dead_state(rng, &smallest);
     }
     card::write(&letters(rng, symbols), &smallest)
@@ -57,9 +65,10 @@ fn with_dead_state(rng: &mut Rng, machine: &Machine) -> Machine {
 /// A card that loads, of at most so many states, at least 3; most have letters
 /// in a row that no allowed plan has.
 pub fn strict(rng: &mut Rng, most: usize) -> Vec<u8> {
-    let symbols = *rng.pick(&[1, 2, 2, 2, 3, 3, 5]);
+    let symbols = letter_count(rng, &[1, 2, 2, 2, 3, 3, 5]);
     let states = rng.between(1, most);
     let machine = match rng.below(10) {
+        _ if symbols == 0 => machine(rng, symbols, states),
         0..=2 => dying(rng, symbols, states),
         3..=5 => avoiding(rng, symbols, most),
         6 => counting(rng, symbols, most),
@@ -171,10 +180,11 @@ fn damage(rng: &mut Rng, bytes: &mut Vec<u8>) {
 
 /// Bodies of the right lengths with any small values.
 pub fn loose(rng: &mut Rng) -> Vec<u8> {
-    let letters_count = rng.between(1, 3);
-    let states = rng.between(1, 5);
+    let letters_count = letter_count(rng, &[1, 2, 3]);
+    // Without letters no state but the first is reached.
+    let states = rng.between(1, if letters_count == 0 { 2 } else { 5 });
     let mut row = letters(rng, letters_count);
-    if rng.once_in(6) {
+    if letters_count > 0 && rng.once_in(6) {
         let place = rng.below(letters_count);
         row[place] = *rng.pick(b"aAz`{\0\xff");
     }
@@ -183,6 +193,10 @@ pub fn loose(rng: &mut Rng) -> Vec<u8> {
     let moves: Vec<u8> = (0..states * letters_count).map(|_| rng.below(highest) as u8).collect();
     card::lay_out(&row, &marks, &moves)
 }
+
+/// The letters and states of the small cards that are tried one and all.
+pub const SMALL: [(&[u8], usize); 9] =
+    [(b"", 1), (b"", 2), (b"", 3), (b"a", 1), (b"a", 2), (b"a", 3), (b"ab", 1), (b"ab", 2), (b"abc", 1)];
 
 /// Every card of so many letters and states whose marks are below 4 and
 /// whose moves are at most the number of states.
@@ -206,10 +220,22 @@ pub fn all_small(letters: &[u8], states: usize) -> Vec<Vec<u8>> {
     cards
 }
 
-/// A plan over the card's letters, sometimes with a foreign byte in it.
+/// A letter of these; where there is none, any byte.
+pub fn letter(rng: &mut Rng, letters: &[u8]) -> u8 {
+    if letters.is_empty() {
+        return rng.next() as u8;
+    }
+    *rng.pick(letters)
+}
+
+/// A plan over the card's letters, sometimes with a foreign byte in it. Where
+/// there are none, the empty plan or one of foreign letters.
 pub fn plan(rng: &mut Rng, letters: &[u8]) -> Vec<u8> {
+    if letters.is_empty() && rng.once_in(2) {
+        return Vec::new();
+    }
     let length = *rng.pick(&[0, 1, 2, 3, 4, 6, 9, 14, 40]);
-    let mut plan: Vec<u8> = (0..length).map(|_| if letters.is_empty() { b'a' } else { *rng.pick(letters) }).collect();
+    let mut plan: Vec<u8> = (0..length).map(|_| letter(rng, letters)).collect();
     spoil(rng, &mut plan, 5);
     plan
 }
@@ -217,7 +243,11 @@ pub fn plan(rng: &mut Rng, letters: &[u8]) -> Vec<u8> {
 /// A plan of at most so many letters for a search in it: any letters, one over
 /// and over, or letters that avoid dead states from some state on.
 pub fn searched_plan(rng: &mut Rng, card: &[u8], most: usize) -> Vec<u8> {
-    let Ok(bodies) = board::bodies(card) else { return plan(rng, b"ab") };
+    let bodies = match board::bodies(card) {
+        Ok(bodies) if !bodies.letters.is_empty() => bodies,
+        Ok(_) => return plan(rng, b""),
+        Err(_) => return plan(rng, b"ab"),
+    };
     let length = rng.below(most + 1);
     let (kind, careless) = (rng.below(6), rng.between(2, 12));
     let repeated = *rng.pick(bodies.letters);

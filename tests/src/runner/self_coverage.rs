@@ -13,9 +13,11 @@ type Met = BTreeMap<String, usize>;
 pub fn run(tally: &mut Tally) {
     tally.group("reference: random cases meet every answer", |tally| {
         let books = books(tally);
-        for answer in ["accepted", "3", "4", "5", "6", "7", "8", "9", "10", "11"] {
+        let accepted = ["accepted", "accepted, no bytes", "accepted, no rule", "accepted, no rule and no peak"];
+        for answer in [&accepted[..], &["3", "4", "5", "6", "7", "8", "9", "11"]].concat() {
             tally.check(books.get(answer).is_some_and(|&times| times >= 5), || format!("books: {answer} in {books:?}"));
         }
+        tally.check(!books.contains_key("10"), || format!("books: 10 in {books:?}"));
         let cards = cards(tally);
         for answer in [
             "loaded",
@@ -35,6 +37,13 @@ pub fn run(tally: &mut Tally) {
             "hopeless",
             "hopeless 0",
             "foreign",
+            "no letters, loaded",
+            "no letters, load 24",
+            "no letters, load 25",
+            "no letters, step 27",
+            "no letters, allowed",
+            "no letters, hopeless 0",
+            "no letters, foreign",
         ] {
             tally.check(cards.get(answer).is_some_and(|&times| times >= 5), || format!("cards: {answer} in {cards:?}"));
         }
@@ -57,6 +66,10 @@ pub fn run(tally: &mut Tally) {
             "one as long further right",
             "a longer one further left",
             "foreign",
+            "no letters, none",
+            "no letters, empty",
+            "no letters, foreign",
+            "no letters, refused",
             "refused 21",
             "refused 22",
             "refused 23",
@@ -88,11 +101,27 @@ fn books(tally: &Tally) -> Met {
         };
         let card = if rng.once_in(4) { rng.below(200) } else { 4000 };
         match compile(&text, &Lent { bench: Vec::new(), card }) {
-            Ok(_) => count(&mut met, "accepted"),
+            Ok(accepted) => count(&mut met, kind(&text, accepted.peak)),
             Err(refusal) => count(&mut met, refusal.number.to_string()),
         }
     }
     met
+}
+
+/// What kind of text was accepted.
+fn kind(text: &[u8], peak: usize) -> &'static str {
+    let has_rule = text.split(|&byte| byte == b'\n').any(|line| line.starts_with(b">"));
+    match (text.is_empty(), has_rule, peak) {
+        (true, ..) => "accepted, no bytes",
+        (_, true, _) => "accepted",
+        (_, false, 0) => "accepted, no rule and no peak",
+        (_, false, _) => "accepted, no rule",
+    }
+}
+
+/// Cards without letters are counted by themselves.
+fn of_letters(letters: &[u8]) -> String {
+    if letters.is_empty() { "no letters, " } else { "" }.into()
 }
 
 fn cards(tally: &Tally) -> Met {
@@ -105,22 +134,23 @@ fn cards(tally: &Tally) -> Met {
             1 => good,
             _ => random_cards::damaged(&mut rng, &good),
         };
-        match board::load(&card) {
-            Ok(_) => count(&mut met, "loaded"),
-            Err(number) => count(&mut met, format!("load {number}")),
-        }
         let letters = board::bodies(&card).map_or(b"ab".to_vec(), |bodies| bodies.letters.to_vec());
-        let letter = if rng.once_in(6) { rng.next() as u8 } else { *rng.pick(&letters) };
+        let mut count = |answer: String| count(&mut met, of_letters(&letters) + &answer);
+        match board::load(&card) {
+            Ok(_) => count("loaded".into()),
+            Err(number) => count(format!("load {number}")),
+        }
+        let letter = if rng.once_in(6) { rng.next() as u8 } else { random_cards::letter(&mut rng, &letters) };
         match board::step(&card, rng.below(8), letter) {
-            Ok(_) => count(&mut met, "stepped"),
-            Err(number) => count(&mut met, format!("step {number}")),
+            Ok(_) => count("stepped".into()),
+            Err(number) => count(format!("step {number}")),
         }
         match board::judge(&card, &random_cards::plan(&mut rng, &letters)) {
-            Ok(Verdict::Allowed) => count(&mut met, "allowed"),
-            Ok(Verdict::Unfinished) => count(&mut met, "unfinished"),
-            Ok(Verdict::Hopeless(0)) => count(&mut met, "hopeless 0"),
-            Ok(Verdict::Hopeless(_)) => count(&mut met, "hopeless"),
-            Err(Refused::ForeignLetter { .. }) => count(&mut met, "foreign"),
+            Ok(Verdict::Allowed) => count("allowed".into()),
+            Ok(Verdict::Unfinished) => count("unfinished".into()),
+            Ok(Verdict::Hopeless(0)) => count("hopeless 0".into()),
+            Ok(Verdict::Hopeless(_)) => count("hopeless".into()),
+            Err(Refused::ForeignLetter { .. }) => count("foreign".into()),
             Err(Refused::Card(_)) => {}
         }
     }
@@ -138,6 +168,16 @@ fn factors(tally: &Tally) -> Met {
             _ => strict,
         };
         let plan = random_cards::searched_plan(&mut rng, &card, 12);
+        if board::bodies(&card).is_ok_and(|bodies| bodies.letters.is_empty()) {
+            let answer = match shortest(&card, &plan) {
+                Ok(None) => "no letters, none",
+                Ok(Some(_)) => "no letters, empty",
+                Err(Refused::ForeignLetter { .. }) => "no letters, foreign",
+                Err(Refused::Card(_)) => "no letters, refused",
+            };
+            count(&mut met, answer);
+            continue;
+        }
         match (shortest(&card, &plan), board::judge(&card, &plan)) {
             (Ok(None), Ok(Verdict::Allowed)) => count(&mut met, "none, allowed"),
             (Ok(None), Ok(Verdict::Unfinished)) => count(&mut met, "none, unfinished"),

@@ -15,6 +15,7 @@ use reference::syntax::Line;
 pub fn run(tally: &mut Tally) {
     tally.group("reference: examples of document 01", |tally| all(tally, examples::paper()));
     tally.group("reference: how a text is read", |tally| all(tally, examples::reading()));
+    tally.group("reference: texts without rules", |tally| all(tally, examples::ruleless()));
     tally.group("reference: how stages are made", |tally| {
         all(tally, examples::staging());
         all(tally, examples::many_stages());
@@ -147,7 +148,7 @@ fn long_texts_and_cards(tally: &mut Tally) {
     }
 }
 
-/// Numbers 1, 2, 10 and 11 and their order.
+/// Numbers 1, 2 and 11 and their order.
 fn lent_buffers(tally: &mut Tally) {
     let good = b":ab\n>a\n";
     let card_length = examples::NO_A_CARD.len();
@@ -160,8 +161,15 @@ fn lent_buffers(tally: &mut Tally) {
         ("an empty bench", good.to_vec(), vec![(10, 0), (20, 20)], card_length, Some(2)),
         ("a long book on a short bench", vec![b' '; 16_385], short.clone(), 0, Some(1)),
         ("no bytes on a short bench", Vec::new(), short.clone(), 0, Some(2)),
+        ("no bytes on a short bench, room for the card", Vec::new(), short.clone(), card::SHORTEST, Some(2)),
+        ("no bytes, the card buffer exact", Vec::new(), enough.clone(), 13, None),
+        ("no bytes, the card buffer one short", Vec::new(), enough.clone(), 12, Some(11)),
+        ("no bytes and no card buffer", Vec::new(), enough.clone(), 0, Some(11)),
         ("a spoiled line on a short bench", b">".to_vec(), short.clone(), 0, Some(2)),
-        ("no rule and no card buffer", b":ab\n".to_vec(), enough.clone(), 0, Some(10)),
+        ("no rule, the card buffer exact", b":ab\n".to_vec(), enough.clone(), 17, None),
+        ("no rule, the card buffer one short", b":ab\n".to_vec(), enough.clone(), 16, Some(11)),
+        ("no rule and no card buffer", b":ab\n".to_vec(), enough.clone(), 0, Some(11)),
+        ("a definition and no card buffer", b":ab\n=Aa+\n".to_vec(), enough.clone(), 0, Some(11)),
         ("no card buffer", good.to_vec(), enough.clone(), 0, Some(11)),
         ("a card buffer one short", good.to_vec(), enough.clone(), card_length - 1, Some(11)),
         ("a short card and a short bench", good.to_vec(), short, 0, Some(2)),

@@ -27,7 +27,7 @@ pub fn run(tally: &mut Tally, effort: Effort) {
             }
         });
         tally.group("reference: stretches on every small card", |tally| {
-            for (letters, states) in [(&b"a"[..], 1), (b"a", 2), (b"a", 3), (b"ab", 1), (b"ab", 2), (b"abc", 1)] {
+            for (letters, states) in random_cards::SMALL {
                 for card in random_cards::all_small(letters, states) {
                     by_allowed_plans(tally, &card);
                 }

@@ -4,12 +4,16 @@ use crate::acting;
 use crate::compare_board;
 use crate::compare_compile;
 use crate::compare_factor;
+use crate::compare_lines;
+use crate::compare_mounted;
 use crate::compare_programs;
 use crate::effort::Effort;
-use crate::entry::BoardEntry;
+use crate::entry::{BoardEntry, Reference};
 use crate::planted_boards;
 use crate::planted_compilers;
 use crate::planted_factors;
+use crate::planted_lines;
+use crate::product::JudgeLines;
 use crate::program::Program;
 use crate::random_books;
 use crate::tally::Tally;
@@ -21,6 +25,9 @@ use reference::reader;
 
 /// Planted faults are looked for with the same cases in every run.
 const SEED: u64 = 1;
+
+/// A hunt by random cases alone.
+const RANDOM: Effort = Effort { fixed: false, ..Effort::HUNT };
 
 pub fn run(tally: &mut Tally) {
     tally.group("reference: faults planted in compilers are found", |tally| {
@@ -35,14 +42,40 @@ pub fn run(tally: &mut Tally) {
         }
     });
     tally.group("reference: faults planted in boards are found", |tally| {
-        let hunt = |planted: &planted_boards::Planted| {
+        let hunt = |planted: &planted_boards::Planted, effort: Effort| {
             let mut found = Tally::hunting(SEED);
-            compare_board::run(&mut found, planted, Effort::HUNT);
+            compare_board::run(&mut found, planted, effort);
             found.failed
         };
-        tally.same("a board without a fault", &0, &hunt(&planted_boards::right()));
+        tally.same("a board without a fault", &0, &hunt(&planted_boards::right(), Effort::HUNT));
         for planted in planted_boards::all() {
-            tally.check(hunt(&planted) > 0, || format!("not found: {}", planted.name));
+            tally.check(hunt(&planted, Effort::HUNT) > 0, || format!("not found: {}", planted.name));
+        }
+        for planted in planted_boards::without_letters() {
+            tally.check(hunt(&planted, RANDOM) > 0, || format!("not found by random cases: {}", planted.name));
+        }
+    });
+    tally.group("reference: faults planted in mounted boards are found", |tally| {
+        let hunt = |planted: &planted_boards::Planted, effort: Effort| {
+            let mut found = Tally::hunting(SEED);
+            compare_mounted::run(&mut found, &Reference { bench: Vec::new() }, planted, effort);
+            found.failed
+        };
+        tally.same("a mounted board without a fault", &0, &hunt(&planted_boards::right_mounted(), Effort::HUNT));
+        for planted in planted_boards::mounted() {
+            tally.check(hunt(&planted, Effort::HUNT) > 0, || format!("not found: {}", planted.name));
+            tally.check(hunt(&planted, RANDOM) > 0, || format!("not found by random cases: {}", planted.name));
+        }
+    });
+    tally.group("reference: faults planted in boards for many plans are found", |tally| {
+        let hunt = |planted: JudgeLines| {
+            let mut found = Tally::hunting(SEED);
+            compare_lines::run(&mut found, planted, Effort::HUNT);
+            found.failed
+        };
+        tally.same("many plans without a fault", &0, &hunt(planted_lines::right));
+        for (name, planted) in planted_lines::all() {
+            tally.check(hunt(planted) > 0, || format!("not found: {name}"));
         }
     });
     tally.group("reference: faults planted in the search for a stretch are found", stretches);
@@ -78,13 +111,12 @@ fn stretches(tally: &mut Tally) {
         compare(&mut found, planted, effort);
         found.failed
     };
-    let random = Effort { fixed: false, ..Effort::HUNT };
     tally.same("a search without a fault", &0, &hunt(compare_factor::run, &planted_factors::right(), Effort::HUNT));
     for planted in planted_factors::all() {
         let name = planted.name;
         tally.check(hunt(compare_factor::run, &planted, Effort::HUNT) > 0, || format!("not found: {name}"));
         if !planted.only_long {
-            let found = hunt(compare_factor::run, &planted, random) > 0;
+            let found = hunt(compare_factor::run, &planted, RANDOM) > 0;
             tally.check(found, || format!("not found by random cases: {name}"));
         }
         if planted.contradicts {
