@@ -1,6 +1,7 @@
 //! Cards: reading a file, the loaded table, marks and letters in words.
 
 use crate::proved::{self, Loaded, Stepped};
+use crate::words::count_or_no;
 use crate::{files, refusal, Failure};
 use std::collections::BTreeMap;
 use std::path::Path;
@@ -37,13 +38,18 @@ pub fn refused(path: &Path, bytes: &[u8], number: u64) -> Failure {
     let name = files::shown(path);
     let look = match bytes {
         [b':', ..] => "  look at: it begins with :, as a book does; pier compile makes its card, pier try needs none\n",
-        [] => "  look at: the file is empty\n",
+        [] => "  look at: the file is empty; if it is a book, pier compile makes its card\n",
         _ => "",
     };
     Failure::Refused(format!(
         "{name}: refused {number} ({}): {}\n{look}  advice: {}\n",
         refusal.word, refusal.when, refusal.advice
     ))
+}
+
+/// Is this a card that loads and has no letters?
+pub fn is_without_letters(card: &[u8]) -> bool {
+    matches!(proved::load(card), Loaded::Card { letters: 0, .. })
 }
 
 pub struct Table {
@@ -103,8 +109,14 @@ impl Table {
 
     /// What belongs on the card's envelope.
     pub fn envelope(&self) -> String {
-        let letters = spaced(&self.letters);
-        format!("letters {} ({letters})\nstates  {}\nbytes   {}\n", self.letters.len(), self.marks.len(), self.bytes)
+        let letters = self.letters.len();
+        let states = self.marks.len();
+        format!("letters {letters}{}\nstates  {states}\nbytes   {}\n", bracketed(&self.letters), self.bytes)
+    }
+
+    /// The letters in words: 2 letters (a b), or no letters.
+    pub fn counted_letters(&self) -> String {
+        count_or_no(self.letters.len(), "letter") + &bracketed(&self.letters)
     }
 }
 
@@ -118,6 +130,14 @@ fn target(card: &[u8], state: usize, letter: u8) -> Result<usize, u64> {
 /// The letters in a row, with spaces.
 pub fn spaced(letters: &[u8]) -> String {
     letters.iter().map(|&letter| (letter as char).to_string()).collect::<Vec<_>>().join(" ")
+}
+
+/// The letters in brackets behind their number; nothing where there are none.
+fn bracketed(letters: &[u8]) -> String {
+    match letters {
+        [] => String::new(),
+        _ => format!(" ({})", spaced(letters)),
+    }
 }
 
 /// Letters on an arrow: neighbours of the alphabet as a range, as in a-c e.
@@ -144,6 +164,12 @@ pub fn first() -> Table {
     Table::of(&FIRST_CARD).expect("it loads")
 }
 
+/// The card without letters: one state with this mark.
+#[cfg(test)]
+pub fn without_letters(mark: u8) -> [u8; 13] {
+    [0x0C, 0, 0, 0, 0x0C, 0, 1, 0, 0x0D, 0, 0, 0, mark]
+}
+
 #[cfg(test)]
 mod tests {
     use super::*;
@@ -156,6 +182,21 @@ mod tests {
         assert_eq!(table.moves, [[1, 2], [1, 0], [2, 2]]);
         assert_eq!(table.envelope(), "letters 2 (a b)\nstates  3\nbytes   23\n");
         assert_eq!(Table::of(b"x").err(), Some(21));
+    }
+
+    #[test]
+    fn a_card_without_letters_is_taken_apart() {
+        for mark in [PLAN_MAY_END, HOPELESS] {
+            let card = without_letters(mark);
+            let table = Table::of(&card).expect("it loads");
+            assert!(is_without_letters(&card) && table.letters.is_empty() && table.arrows().is_empty());
+            assert_eq!((&table.marks[..], &table.moves[..]), (&[mark][..], &[vec![]][..]));
+            assert_eq!(table.envelope(), "letters 0\nstates  1\nbytes   13\n");
+            assert_eq!(table.counted_letters(), "no letters");
+        }
+        assert!(!is_without_letters(&FIRST_CARD) && !is_without_letters(b""));
+        assert_eq!(first().counted_letters(), "2 letters (a b)");
+        assert_eq!(Table::of(&without_letters(0)).err(), Some(25));
     }
 
     #[test]

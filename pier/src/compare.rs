@@ -35,10 +35,9 @@ pub fn run(arguments: &Arguments) -> Done {
         let bytes = card::bytes(path)?;
         let table = Table::of(&bytes).map_err(|number| card::refused(path, &bytes, number))?;
         text += &format!(
-            "{}: {} ({}), {}, {}\n",
+            "{}: {}, {}, {}\n",
             files::shown(path),
-            count(table.letters.len(), "letter"),
-            card::spaced(&table.letters),
+            table.counted_letters(),
             count(table.marks.len(), "state"),
             count(bytes.len(), "byte")
         );
@@ -57,6 +56,9 @@ pub fn run(arguments: &Arguments) -> Done {
 fn verdict(same: bool, old: &[u8], new: &[u8]) -> String {
     if same {
         return "same: nothing changed, every plan gets the same reply\n".into();
+    }
+    if old.is_empty() && new.is_empty() {
+        return "different: both have no letters, and the empty plan is judged differently\n".into();
     }
     if old == new {
         return "different: the letters are the same, and some plan is judged differently\n".into();
@@ -116,11 +118,14 @@ mod tests {
     use super::*;
 
     #[test]
-    fn the_three_answers() {
+    fn the_answers() {
         assert!(verdict(true, b"a", b"a").starts_with("same"));
         assert!(verdict(false, b"a", b"a").contains("judged differently"));
         assert_eq!(verdict(false, b"abc", b"bd"), "different: letters that came: d; letters that went: a c\n");
         assert_eq!(verdict(false, b"a", b"ab"), "different: letters that came: b; letters that went: none\n");
+        assert_eq!(verdict(false, b"", b"ab"), "different: letters that came: a b; letters that went: none\n");
+        assert!(verdict(true, b"", b"").starts_with("same"));
+        assert!(verdict(false, b"", b"").contains("both have no letters, and the empty plan"));
     }
 
     #[test]

@@ -18,7 +18,8 @@ Turns a port's book into a card and prints its envelope: letters, states, bytes,
 and the peak (the most sets that one stage made, of 512 that it may make).
 A book that is refused leaves CARD as it was; the message has the number, the
 trade word, the line, and what to look at. CARD is written whole or not at all.
-Notes on standard error tell of slips that compile.
+Notes on standard error tell of slips that compile. A book without a rule allows
+every plan; an empty book's card has no letters, and judges the empty plan only.
 ",
     run,
 };
@@ -99,6 +100,6 @@ x.book: refused 6 (stranger), line 2: a letter that line 1 lacks, or a name not 
   advice: add the letter to line 1, or define the name on a line above
 ";
         assert_eq!(message, expected);
-        assert!(refused(Path::new("x"), b":ab\n", 10, 0).starts_with("x: refused 10 (no rule): the book"));
+        assert!(refused(Path::new("x"), b":ab\n", 1, 0).starts_with("x: refused 1 (long book): the text"));
     }
 }

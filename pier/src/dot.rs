@@ -49,4 +49,11 @@ mod tests {
             assert!(text.contains(part), "{part} in {text}");
         }
     }
+
+    #[test]
+    fn a_card_without_letters_has_the_start_alone() {
+        let table = Table::of(&card::without_letters(card::PLAN_MAY_END)).expect("it loads");
+        let text = text(&table, "", false);
+        assert!(text.contains("start -> 0;\n  0 [shape=doublecircle];\n}"), "{text}");
+    }
 }

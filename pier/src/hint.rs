@@ -35,9 +35,6 @@ pub fn line_of(text: &[u8], line: usize) -> Option<(&[u8], bool)> {
 
 /// What to look at for refusals 3 to 7.
 pub fn hint(text: &[u8], number: u64, line: usize) -> Option<Hint> {
-    if text.is_empty() && number == 5 {
-        return whole("the book is empty; line 1 is : and the port's letters, as in :ab");
-    }
     let (bytes, ended) = line_of(text, line)?;
     match number {
         5 if line == 1 && is_card(text) => whole(
@@ -71,14 +68,18 @@ fn fifth_bracket(bytes: &[u8]) -> Option<usize> {
 }
 
 fn first_line(bytes: &[u8]) -> Option<Hint> {
-    if let Some(words) = bytes.first().and_then(|_| stray::character(bytes, 0)) {
+    const WITHOUT: &str = "a book without letters is a file of no bytes";
+    if bytes.is_empty() {
+        return whole(format!("line 1 is empty: write : and the port's letters, as in :ab; {WITHOUT}"));
+    }
+    if let Some(words) = stray::character(bytes, 0) {
         return at(0, words);
     }
-    if bytes.first() != Some(&b':') {
+    if bytes[0] != b':' {
         return whole("line 1 is : and the port's letters, as in :ab");
     }
     if bytes.len() == 1 {
-        return whole("line 1 names no letter: write 1 to 26 of them behind the :, as in :ab");
+        return whole(format!("line 1 names no letter: write 1 to 26 of them behind the :, as in :ab; {WITHOUT}"));
     }
     if let Some(column) = bytes.iter().skip(1).position(|byte| !byte.is_ascii_lowercase()) {
         let column = column + 1;
@@ -253,7 +254,7 @@ mod tests {
     #[test]
     fn each_common_error_is_named_at_its_place() {
         let cases: [(&str, u64, usize, Option<usize>, &str); 31] = [
-            ("", 5, 1, None, "empty"),
+            ("\n", 5, 1, None, "line 1 is empty"),
             (":ab\n>(((((a)))))\n", 3, 2, Some(5), "fifth open"),
             (":ab\n>a/a_a/a_a/a_a/a_a/a_a\n", 4, 2, Some(20), "fifth _"),
             (":ab\r\n>a\r\n", 5, 1, Some(3), "0x0D"),

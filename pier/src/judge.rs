@@ -46,7 +46,7 @@ pub fn plans_of(arguments: &Arguments) -> Result<&Path, Failure> {
 
 /// Judges all plans of a file by a card that loads.
 pub fn judge(card: &[u8], path: &Path, arguments: &Arguments) -> Done {
-    let mut tally = Tally::of(&[Kind::Allowed, Kind::Unfinished, Kind::Hopeless]);
+    let mut tally = Tally::of(&[Kind::Allowed, Kind::Unfinished, Kind::Hopeless], card);
     plans::each(card, path, arguments.has(Choice::Progress), |out, bytes, replies| {
         if arguments.has(Choice::Explain) {
             explain(out, card, bytes, replies, &mut tally);

@@ -100,4 +100,13 @@ mod tests {
         let layout = Layout::of(&table, false);
         assert_eq!((layout.columns, layout.below), (vec![vec![0]], None));
     }
+
+    #[test]
+    fn a_card_without_letters_is_one_state_without_arrows() {
+        for mark in [card::PLAN_MAY_END, card::HOPELESS] {
+            let table = Table::of(&card::without_letters(mark)).expect("it loads");
+            let layout = Layout::of(&table, false);
+            assert_eq!((layout.arrows.len(), layout.columns, layout.below), (0, vec![vec![0]], None));
+        }
+    }
 }

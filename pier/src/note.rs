@@ -1,19 +1,50 @@
 //! Notes for slips that compile: a side that describes a whole stretch of the
-//! day, a book that allows every plan, or none. They are guesses, not proved.
+//! day, a book that allows every plan, or none, a book without a rule or without
+//! anything. They are guesses, not proved.
 
 use crate::compile::Made;
 use crate::{card, files, hint};
 use std::path::Path;
 
+const MOUNTED: &str = "boards mounted before there were cards without letters refuse it by 21";
+
 /// The notes on an accepted book, a line each.
 pub fn notes(book: &Path, made: &Made) -> String {
     let mut notes = sides(&made.text);
-    notes.extend(match made.table.marks[..] {
+    notes.extend(whole(&made.text, &made.table.marks));
+    notes.iter().map(|note| line(book, note)).collect()
+}
+
+/// The note on a card that loads here and not on every board.
+pub fn of_card(path: &Path, card: &[u8]) -> String {
+    if card::is_without_letters(card) {
+        line(path, MOUNTED)
+    } else {
+        String::new()
+    }
+}
+
+fn line(path: &Path, note: &str) -> String {
+    format!("{}: note: {note}\n", files::shown(path))
+}
+
+/// A note on the book as a whole, by its text and its card's marks.
+fn whole(text: &[u8], marks: &[u8]) -> Option<String> {
+    match marks {
+        _ if text.is_empty() => Some(format!(
+            "this book is empty: its card has no letters, and only the empty plan can be judged; {MOUNTED}"
+        )),
         [card::HOPELESS] => Some("this book allows no plan at all, not even the empty one".into()),
-        [card::PLAN_MAY_END] => Some("this book allows every plan: its rules rule out nothing".to_string()),
+        [card::PLAN_MAY_END] if !has_rule(text) => {
+            Some("this book has no rule (a line that begins with >): it allows every plan".into())
+        }
+        [card::PLAN_MAY_END] => Some("this book allows every plan: its rules rule out nothing".into()),
         _ => None,
-    });
-    notes.iter().map(|note| format!("{}: note: {note}\n", files::shown(book))).collect()
+    }
+}
+
+fn has_rule(text: &[u8]) -> bool {
+    text.split(|&byte| byte == b'\n').any(|line| line.starts_with(b">"))
 }
 
 /// What of an expression matters here. `open`: some alternative has at one of its
@@ -140,6 +171,29 @@ mod tests {
 
     fn of(rule: &str) -> Vec<String> {
         sides(format!(":abc\n=A ab\n=B .*a\n=C (b|c)*\n{rule}\n").as_bytes())
+    }
+
+    #[test]
+    fn a_book_as_a_whole_is_noted() {
+        for (text, marks, words) in [
+            ("", &[1][..], "this book is empty"),
+            (":ab\n", &[1], "has no rule"),
+            (":ab\n=A ab\n", &[1], "has no rule"),
+            (":ab\n=A ab\n>A / .* _ .*\n", &[1], "rule out nothing"),
+            (":ab\n>@ / a _ .*\n", &[2], "no plan at all"),
+        ] {
+            assert!(whole(text.as_bytes(), marks).is_some_and(|note| note.contains(words)), "{text}");
+        }
+        assert_eq!(whole(b":ab\n>a\n", &[1, 2]), None);
+        assert!(sides(b"").is_empty() && sides(b":ab\n").is_empty());
+    }
+
+    #[test]
+    fn a_card_without_letters_is_noted() {
+        let path = Path::new("x.card");
+        let noted = of_card(path, &card::without_letters(card::PLAN_MAY_END));
+        assert!(noted.starts_with("x.card: note: boards mounted before"), "{noted}");
+        assert_eq!(of_card(path, &card::FIRST_CARD), "");
     }
 
     #[test]

@@ -37,7 +37,8 @@ fn page(table: &Table, name: &str) -> String {
         ("name", escaped(name)),
         ("envelope", envelope(table)),
         ("picture", svg::inline(table)),
-        ("legend", draw::legend(table, false)),
+        ("plan", plan(table).into()),
+        ("legend", legend(table)),
         ("table", rows(table)),
         ("version", env!("CARGO_PKG_VERSION").into()),
         ("card", data(table)),
@@ -54,6 +55,23 @@ fn envelope(table: &Table) -> String {
     let lines = table.envelope();
     let pairs = lines.lines().filter_map(|line| line.split_once(' '));
     pairs.map(|(what, value)| format!("<dt>{what}</dt><dd>{}</dd>", value.trim())).collect()
+}
+
+/// What the box for a plan asks for.
+fn plan(table: &Table) -> &'static str {
+    match table.letters[..] {
+        [] => "nothing: this card has no letters, and judges the empty plan only",
+        _ => "letters of this card, in a row",
+    }
+}
+
+/// What stands below the picture.
+fn legend(table: &Table) -> String {
+    let arrows = match table.letters[..] {
+        [] => "The card has no letters, so there are no moves.",
+        _ => "A range such as a-c on an arrow is a, b and c.",
+    };
+    format!("{}. {arrows}", draw::legend(table, false))
 }
 
 fn rows(table: &Table) -> String {
@@ -109,5 +127,21 @@ mod tests {
         for word in ["src=", "href=", "@import", "http-equiv=\"refresh\""] {
             assert!(!page.contains(word), "{word}");
         }
+    }
+
+    #[test]
+    fn a_card_without_letters_says_so() {
+        let table = Table::of(&card::without_letters(card::PLAN_MAY_END)).expect("it loads");
+        let page = page(&table, "none.card");
+        for part in [
+            "<dt>letters</dt><dd>0</dd>",
+            "placeholder=\"nothing: this card has no letters",
+            "The card has no letters, so there are no moves.",
+            "letters: \"\", marks: [1], may_end: 1, hopeless: 2, moves: [[]]",
+            "<td class=\"mark\">may end</td></tr>",
+        ] {
+            assert!(page.contains(part), "{part}");
+        }
+        assert!(!page.contains("such as a-c"));
     }
 }

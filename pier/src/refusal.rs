@@ -1,4 +1,5 @@
-//! The table of refusals in words: trade word, when it is given, what to do.
+//! The table of refusals in words: trade word, when it is given, what to do. 10
+//! is given no longer.
 
 pub struct Refusal {
     pub number: u64,
@@ -7,7 +8,7 @@ pub struct Refusal {
     pub advice: &'static str,
 }
 
-const TABLE: [Refusal; 19] = [
+const TABLE: [Refusal; 18] = [
     entry(1, "long book", "the text is over 16,384 bytes", "shorten the book: give repeated parts a name (=A ...)"),
     entry(
         2,
@@ -37,7 +38,6 @@ const TABLE: [Refusal; 19] = [
         "the smallest machine of a stage has over 120 states",
         "see \"Staying below the limits\" in pier guide",
     ),
-    entry(10, "no rule", "the book has no rule", "add a line that begins with >"),
     entry(
         11,
         "short card",
@@ -106,10 +106,10 @@ mod tests {
 
     #[test]
     fn every_number_of_the_table_has_its_word() {
-        for number in (1..=11).chain(21..=28) {
+        for number in (1..=9).chain([11]).chain(21..=28) {
             assert_eq!(of(number).number, number);
         }
-        assert_eq!(of(12).word, "unknown");
+        assert_eq!((of(10).word, of(12).word), ("unknown", "unknown"));
         assert_eq!((of(5).word, of(26).word), ("spoiled line", "twins"));
     }
 }

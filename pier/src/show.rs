@@ -27,19 +27,18 @@ pub fn run(arguments: &Arguments) -> Done {
 }
 
 fn text(table: &Table) -> String {
-    let mut text = table.envelope() + "\nstate mark      ";
-    for &letter in &table.letters {
-        text += &format!(" {:>3}", letter as char);
-    }
-    text.push('\n');
+    let letters = table.letters.iter().map(|&letter| format!(" {:>3}", letter as char));
+    let mut text = table.envelope() + "\n" + &line("state", "mark", letters);
     for (state, row) in table.moves.iter().enumerate() {
-        text += &format!("{state:>5} {:<10}", card::mark(table.marks[state]));
-        for next in row {
-            text += &format!(" {next:>3}");
-        }
-        text.push('\n');
+        let row = row.iter().map(|next| format!(" {next:>3}"));
+        text += &line(&state.to_string(), card::mark(table.marks[state]), row);
     }
     text
+}
+
+/// A line of the table; without letters it ends with the mark.
+fn line(state: &str, mark: &str, cells: impl Iterator<Item = String>) -> String {
+    format!("{state:>5} {mark:<10}{}", cells.collect::<String>()).trim_end().to_string() + "\n"
 }
 
 #[cfg(test)]
@@ -58,6 +57,20 @@ state mark         a   b
     0 may end      1   2
     1 may end      1   0
     2 hopeless     2   2
+";
+        assert_eq!(text(&table), expected);
+    }
+
+    #[test]
+    fn a_card_without_letters() {
+        let table = Table::of(&card::without_letters(card::HOPELESS)).expect("it loads");
+        let expected = "\
+letters 0
+states  1
+bytes   13
+
+state mark
+    0 hopeless
 ";
         assert_eq!(text(&table), expected);
     }

@@ -32,7 +32,7 @@ standard error, counts the replies.
 pub fn run(arguments: &Arguments) -> Done {
     let path = judge::plans_of(arguments)?;
     let card = card::read(&arguments.files[0])?;
-    let mut tally = Tally::of(&[Kind::None, Kind::Stretch]);
+    let mut tally = Tally::of(&[Kind::None, Kind::Stretch], &card);
     plans::each(&card, path, arguments.has(Choice::Progress), |out, bytes, replies| {
         for (plan, judged) in plans::lines(bytes).zip(replies) {
             let found = shortest(&card, plan, judged);

@@ -135,4 +135,13 @@ mod tests {
         }
         assert_eq!(text.matches("<path class=\"arrow\"").count(), 1 + table.arrows().len());
     }
+
+    #[test]
+    fn a_card_without_letters_has_the_start_alone() {
+        let table = Table::of(&card::without_letters(card::HOPELESS)).expect("it loads");
+        let text = text(&table, "", false);
+        assert!(text.contains("<title>state 0: hopeless</title><rect"), "{text}");
+        assert_eq!(text.matches("<path class=\"arrow\"").count(), 1);
+        assert!(!text.contains("NaN") && !text.contains("inf"), "{text}");
+    }
 }

@@ -2,7 +2,7 @@
 
 use crate::reply::{ALLOWED, HOPELESS, NONE, REFUSED, STRETCH, UNFINISHED};
 use crate::words::count;
-use crate::{refusal, Status};
+use crate::{card, refusal, Status};
 
 /// A kind of reply, refusals apart.
 #[derive(Clone, Copy, PartialEq, Eq, Debug)]
@@ -35,15 +35,18 @@ pub struct Tally {
     plans: usize,
     refused: usize,
     first: String,
+    /// Has the card no letters?
+    without_letters: bool,
 }
 
 impl Tally {
     /// From so many plans on the replies are counted in a last line.
     const MANY: usize = 10;
 
-    /// For replies of these kinds, the one without fault first.
-    pub fn of(kinds: &'static [Kind]) -> Tally {
-        Tally { kinds, counts: [0; Kind::NUMBER], plans: 0, refused: 0, first: String::new() }
+    /// For a card's replies of these kinds, the one without fault first.
+    pub fn of(kinds: &'static [Kind], card: &[u8]) -> Tally {
+        let without_letters = card::is_without_letters(card);
+        Tally { kinds, counts: [0; Kind::NUMBER], plans: 0, refused: 0, first: String::new(), without_letters }
     }
 
     #[inline]
@@ -82,9 +85,13 @@ impl Tally {
     /// The refused plans, and where there are many plans the count of replies.
     pub fn message(&self) -> String {
         let plans = count(self.plans, "plan");
+        let only = match self.without_letters {
+            true => "; the card has no letters: only the empty plan can be judged",
+            false => "",
+        };
         let mut text = match self.refused {
             0 => String::new(),
-            refused => format!("pier: {refused} of {plans} refused; {}\n", self.first),
+            refused => format!("pier: {refused} of {plans} refused; {}{only}\n", self.first),
         };
         if self.plans >= Self::MANY {
             let kind = |kind: &Kind| format!("{} {}, ", self.counts[*kind as usize], kind.word());
@@ -117,7 +124,7 @@ mod tests {
 
     #[test]
     fn replies_are_counted_and_the_first_refused_plan_is_told() {
-        let mut tally = Tally::of(&[Kind::Allowed, Kind::Unfinished, Kind::Hopeless]);
+        let mut tally = Tally::of(&[Kind::Allowed, Kind::Unfinished, Kind::Hopeless], &card::FIRST_CARD);
         tally.note(Kind::Allowed);
         assert_eq!(tally.status(true), Status::Fine);
         tally.note_foreign(2, || b"ab\r");
@@ -132,8 +139,21 @@ mod tests {
     }
 
     #[test]
+    fn a_letter_on_a_card_without_letters_is_told() {
+        let mut tally = Tally::of(&[Kind::Allowed], &card::without_letters(card::PLAN_MAY_END));
+        tally.note(Kind::Allowed);
+        assert_eq!(tally.message(), "");
+        tally.note_foreign(0, || b"ab");
+        assert_eq!(
+            tally.message(),
+            "pier: 1 of 2 plans refused; the first is plan 2: a at the beginning is not on the card; \
+             the card has no letters: only the empty plan can be judged\n"
+        );
+    }
+
+    #[test]
     fn a_fault_is_a_refusal_only_where_that_is_asked_for() {
-        let mut tally = Tally::of(&[Kind::None, Kind::Stretch]);
+        let mut tally = Tally::of(&[Kind::None, Kind::Stretch], &card::FIRST_CARD);
         for _ in 0..5 {
             tally.note(Kind::None);
             tally.note(Kind::Stretch);

@@ -5,6 +5,14 @@ pub fn count(number: usize, noun: &str) -> String {
     format!("{number} {noun}{}", if number == 1 { "" } else { "s" })
 }
 
+/// The same where there may be none: no letters, 1 letter, 2 letters.
+pub fn count_or_no(number: usize, noun: &str) -> String {
+    match number {
+        0 => format!("no {noun}s"),
+        _ => count(number, noun),
+    }
+}
+
 /// The known word that is at most two slips away: a letter too many, too few,
 /// another, or two that changed places.
 pub fn nearest(word: &str, known: impl Iterator<Item = &'static str>) -> Option<&'static str> {
@@ -44,6 +52,7 @@ mod tests {
     #[test]
     fn one_thing_or_several() {
         assert_eq!((count(1, "state"), count(2, "state")), ("1 state".into(), "2 states".into()));
+        assert_eq!((count_or_no(0, "letter"), count_or_no(1, "letter")), ("no letters".into(), "1 letter".into()));
     }
 
     #[test]

@@ -19,11 +19,11 @@ echo 'rt: target/staticlib/libcapi.a has the functions of capi that are marked'
 PLAY
 printf '#!/bin/sh\nmkdir -p target/release && ln -sf "%s" target/release/pier\n' "$pier" >play/cargo
 chmod +x play/rt play/cargo
-FAIL=yes PATH=$PWD/play:$PATH copy/samples/first >words 2>&1
+FAIL=yes PIER_LIB="" PATH=$PWD/play:$PATH copy/samples/first >words 2>&1
 check "a refused proof ends it" 1 $?
 has "and is told" "fn capi::f: not proved" "$(cat words)"
 number=$(sed -n 's/^proving \([0-9]*\) crates .*/\1/p' words)
-CRATES=$((number - 1)) PATH=$PWD/play:$PATH copy/samples/first >words 2>&1
+CRATES=$((number - 1)) PIER_LIB="" PATH=$PWD/play:$PATH copy/samples/first >words 2>&1
 check "the first run" 0 $?
 check "it begins with what it will do" "This builds the command pier" "$(head -c 28 words)"
 has "and how long" "minutes on two cores" "$(sed -n 2p words)"
@@ -31,7 +31,7 @@ check "a line a crate" "$number" "$(grep -c "^ *[0-9]* of $number: " words)"
 check "no note of the prover" 0 "$(grep -c -E 'note:|^fn ' words)"
 check "which are in the log" $((number - 1)) "$(grep -c 'note: large' copy/target/staticlib.log)"
 check "the sum" "done: $number crates proved; 1 book compiled; $(pier try ramp.book ramp.plans 2>&1 >/dev/null | tail -n 1)" "$(tail -n 1 words)"
-PATH=$PWD/play:$PATH copy/samples/first >words 2>&1
+PIER_LIB="" PATH=$PWD/play:$PATH copy/samples/first >words 2>&1
 check "the second run proves nothing" "0 done: the library was proved before" "$(grep -c '^proving' words) $(tail -n 1 words | cut -d ';' -f 1)"
 
 # The manual page.

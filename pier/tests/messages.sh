@@ -20,7 +20,7 @@ status 1 pier judge ramp.book ramp.plans
 has "a book given as a card" "it begins with :, as a book does" "$(cat err)"
 : >none.card
 status 1 pier check none.card
-has "an empty card" "the file is empty" "$(cat err)"
+has "an empty card" "the file is empty; if it is a book, pier compile makes its card" "$(cat err)"
 
 # noted WORDS BOOK: it compiles, with one note that has these words; none for ''.
 noted() {
@@ -34,9 +34,14 @@ noted "line 2: the right side a describes the whole rest of the day behind the p
 noted "" ':ab\n>b / .*a _ .*\n'
 noted "" ':ab\n>b / a.* _ @\n'
 noted "this book allows every plan" ':ab\n>b / .* _ .*\n'
+noted "this book has no rule" ':ab\n'
+noted "this book has no rule" ':ab\n=A ab\n'
+noted "this book is empty" ''
 noted "" ':ab\n>a\n>b\n'
 for book in *.book; do
-    check "no note on $book" "" "$(pier compile "$book" -o x.card 2>&1 >/dev/null)"
+    notes=0
+    case $book in island.book | islet.book) notes=1 ;; esac
+    check "notes on $book" "$notes" "$(pier compile "$book" -o x.card 2>&1 >/dev/null | wc -l)"
 done
 printf ':ab\n>b / a _ .*\n' | pier compile - -o x.card >out 2>/dev/null
 check "the envelope alone on standard output" 4 "$(wc -l <out)"

@@ -3,6 +3,7 @@
 pier compile ramp.book -o ramp.card >/dev/null
 pier compile pilots.book -o pilots.card >/dev/null
 pier compile hazard.book -o hazard.card >/dev/null
+pier compile islet.book -o islet.card >/dev/null 2>&1
 mkdir none && ln -s "$pier" none/pier
 check "drawn without any other program" "wrote ramp.svg" "$(PATH=$PWD/none pier draw ramp.card -o ramp.svg 2>&1)"
 check "a picture" "<svg xmlns=" "$(head -c 11 ramp.svg)"
@@ -20,6 +21,7 @@ check "labels are written one way" "" "$(grep -o 'label="[a-z -]*"' all.dot | gr
 pier page ramp.card -o ramp.html >/dev/null
 pier page pilots.card -o pilots.html >/dev/null
 pier page hazard.card -o hazard.html >/dev/null
+pier page islet.card -o islet.html >/dev/null
 check "the page loads nothing" 0 "$(grep -v 'xmlns=' ramp.html | grep -c -E 'https?:|src=|href=|@import')"
 browser=$(command -v chromium || command -v chromium-browser || command -v google-chrome || command -v headless_shell || true)
 if [ -z "$browser" ]; then
@@ -29,7 +31,7 @@ else
     seen() { timeout 120 "$browser" --headless --no-sandbox --disable-gpu --user-data-dir="$PWD/profile" --dump-dom "file://$PWD/$1" 2>/dev/null; }
     has "the picture in a browser" 'id="state0"' "$(seen ramp.svg)"
     check "which finds no fault" 0 "$(seen all.svg | grep -c parsererror)"
-    for name in ramp pilots hazard; do
+    for name in ramp pilots hazard islet; do
         # The plans are typed into the box one by one.
         {
             cat $name.html

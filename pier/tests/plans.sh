@@ -68,8 +68,9 @@ fi
 for book in *.book; do
     name=${book%.book}
     [ -e "$name.plans" ] || continue
-    pier compile "$book" -o "$name.card" >/dev/null
-    check "pier try $book" "$(pier judge "$name.card" "$name.plans" --explain 2>&1)" "$(pier try "$book" "$name.plans" --explain 2>&1)"
+    pier compile "$book" -o "$name.card" >/dev/null 2>&1
+    check "pier try $book" "$(pier judge "$name.card" "$name.plans" --explain 2>&1)" \
+        "$(pier try "$book" "$name.plans" --explain 2>&1 | grep -v ': note: ')"
 done
 check "no card is left" "" "$(mkdir empty && cd empty && pier try ../ramp.book ../ramp.plans >/dev/null 2>&1; ls)"
 

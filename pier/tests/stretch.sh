@@ -70,7 +70,7 @@ has "the number" "26.card: refused 26 (twins)" "$(pier stretch 26.card three.pla
 # What judge --explain says of it is the same; a plan that is not hopeless has none.
 for book in *.book; do
     name=${book%.book}
-    pier compile "$book" -o "$name.card" >/dev/null
+    pier compile "$book" -o "$name.card" >/dev/null 2>&1
     pier stretch "$name.card" "$name.plans" >found 2>/dev/null
     paste -d ' ' "$name.plans" found | while read -r plan word start length; do
         [ "$word" = stretch ] || continue
