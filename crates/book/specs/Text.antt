@@ -54,9 +54,13 @@ abbrev pub rising : ℕ → List ℕ → Bool
 rising low [] = true
 rising low (b ∷ bs) = choose (isLetter b && ltb low b) (λ _. rising b bs) (λ _. false)
 
+-- the fewest, whatever a card may have
+abbrev pub fewestLetters : ℕ
+fewestLetters = 1
+
 abbrev pub isHead : Format → List ℕ → Bool
 isHead fmt [] = false
-isHead fmt (b ∷ ls) = eqb (kindOf b) colonKind && (leb 1 (length ls) && (leb (length ls) (fmt .mostLetters) && rising 0 ls))
+isHead fmt (b ∷ ls) = eqb (kindOf b) colonKind && (leb fewestLetters (length ls) && (leb (length ls) (fmt .mostLetters) && rising 0 ls))
 
 -- the letters of line 1
 abbrev pub lettersOf : Line → List ℕ

@@ -5,11 +5,12 @@ use mathlib.Core.Logic.{_↔_}
 use mathlib.Core.List.{List, [], _∷_}
 use Prim.Native.Nat.{ℕ, suc, _≤_}
 use native.Mathlib.Omega.{arith}
-use Rattle.automata.specs.Booleans.{not-true, bool-iff}
+use borrow.Author.Tests.{le-leb}
+use Rattle.automata.specs.Booleans.{not-true}
 use Rattle.automata.specs.Decide.{unless}
 use Rattle.automata.specs.Format.{Format, narrow}
-use Rattle.card.specs.Layout.{Sound, letterCount, moveAt, lettersOf, marksOf, movesOf, machineOf, Contents, contentsTest}
-use Rattle.card.specs.LayoutLaws.{contents-sound, contents-whole}
+use Rattle.card.specs.Layout.{Sound, letterCount, moveAt, lettersOf, marksOf, movesOf, machineOf, contentsTest}
+use Rattle.card.specs.LayoutLaws.{contents-sound}
 use Rattle.card.specs.Alphabet.{column}
 use Rattle.card.specs.Load.{loadTest, rowInside, insideTest, marksTest}
 use Rattle.card.specs.Loads.{load-loaded}
@@ -70,35 +71,8 @@ dead-same c (l ∷ plan) p k = ap (λ d. byPlace (deadAt narrow c p k) found (λ
 
 module _ (c : List ℕ) (h : 1 ≤ letterCount narrow c) where
   same-contents : contentsTest mounted c ≡ contentsTest narrow c
-  same-contents = bool-iff (contentsTest mounted c) (contentsTest narrow c)
-      (λ t. contents-whole narrow c (wider (contents-sound mounted c t)))
-      (λ t. contents-whole mounted c (stricter (contents-sound narrow c t)))
-    where
-      wider : Contents mounted c → Contents narrow c
-      wider r = record {
-        letters-least = omega arith;
-        letters-most = r .letters-most;
-        states-some = r .states-some;
-        states-most = r .states-most;
-        letters-offset = r .letters-offset;
-        marks-offset = r .marks-offset;
-        moves-offset = r .moves-offset;
-        moves-count = r .moves-count;
-        long = r .long;
-      }
-
-      stricter : Contents narrow c → Contents mounted c
-      stricter r = record {
-        letters-least = h;
-        letters-most = r .letters-most;
-        states-some = r .states-some;
-        states-most = r .states-most;
-        letters-offset = r .letters-offset;
-        marks-offset = r .marks-offset;
-        moves-offset = r .moves-offset;
-        moves-count = r .moves-count;
-        long = r .long;
-      }
+  unfolding contentsTest
+  same-contents = rw (le-leb 1 (letterCount narrow c) h, le-leb 0 (letterCount narrow c) (omega arith))
 
   pub same-test : loadTest mounted c ≡ loadTest narrow c
   unfolding loadTest insideTest rowInside marksTest machineOf lettersOf marksOf movesOf

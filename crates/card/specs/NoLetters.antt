@@ -1,15 +1,13 @@
 -- Cards without letters: there are two, and the empty plan alone can be judged there.
-use mathlib.Core.Path.{_≡_, refl, ap, _∙_}
-use mathlib.Core.Bool.{Bool, true, false, _&&_}
+use mathlib.Core.Path.{_≡_, refl, ap, _∙_, subst}
+use mathlib.Core.Bool.{Bool, true, false}
 use mathlib.Core.Logic.{_⊎_, inl, inr}
 use mathlib.Core.List.{List, [], _∷_, map}
-use Prim.Native.Nat.{ℕ, zero, suc}
-use native.Mathlib.Nat.{not-suc-le-zero, zero-lt-suc, le-of-suc-le-suc}
+use Prim.Native.Nat.{ℕ}
+use native.Mathlib.Nat.{not-suc-le-zero, zero-lt-suc}
 use native.Mathlib.Omega.{arith}
-use lib.Dec.{ltb}
 use lib.ListN.{length, getD}
-use Rattle.automata.specs.Booleans.{and-left, and-right}
-use Rattle.automata.specs.Basics.{LtCases, lt-cases, ltb-lt}
+use Rattle.automata.specs.Basics.{LtCases, lt-cases}
 use Rattle.automata.specs.Decide.{unless}
 use Rattle.automata.specs.Automaton.{Reachable}
 use Rattle.automata.specs.Format.{Format, narrow}
@@ -23,7 +21,7 @@ use Rattle.card.specs.Number.{Bytes}
 use Rattle.card.specs.Mark.{marks}
 use Rattle.card.specs.Layout.{narrow-sound, encode, letterCount, lettersOf, marksOf, movesOf, machineOf, Contents, contentsTest}
 use Rattle.card.specs.LayoutLaws.{letters-length, encode-letterCount}
-use Rattle.card.specs.Alphabet.{alphabetTest}
+use Rattle.card.specs.Alphabet.{Alphabet, alphabetTest}
 use Rattle.card.specs.Load.{loadTest, rowInside, insideTest, marksTest}
 use Rattle.card.specs.Loads.{Card, card-fits, load-loaded, loads-iff}
 use Rattle.card.specs.Verdict.{allowed, hopeless}
@@ -31,20 +29,22 @@ use Rattle.card.specs.Judge.{judge, verdict, refused, unknown-letter}
 use Rattle.card.specs.JudgeLaws.{replies-only}
 use Rattle.card.specs.Step.{stepOn, stopped, step-unknown, steps-only}
 use Rattle.card.specs.Answer.{load, holds, rejected}
+use Rattle.card.specs.Write.{encode-bytes}
 use Rattle.card.specs.Mounted.{mounted}
 
 -- "the card with m = 0, one state, marks 01, no moves", and "its like with marks 02"
 abbrev pub noLetters : ℕ → List ℕ
 noLetters mark = 0x0C ∷ 0 ∷ 0 ∷ 0 ∷ 0x0C ∷ 0 ∷ 1 ∷ 0 ∷ 0x0D ∷ 0 ∷ 0 ∷ 0 ∷ mark ∷ []
 
--- "so they load it, and its like with marks 02"; marks 00 and 03 are 25
-pub no-letters-load : map (load narrow) (noLetters 1 ∷ noLetters 2 ∷ noLetters 0 ∷ noLetters 3 ∷ []) ≡ holds 0 1 ∷ holds 0 1 ∷ rejected 25 ∷ rejected 25 ∷ []
+-- "so they load it, and its like with marks 02"
+pub no-letters-load : (load narrow (noLetters 1) ≡ holds 0 1) × (load narrow (noLetters 2) ≡ holds 0 1)
 unfolding load loadTest unless contentsTest alphabetTest lettersOf insideTest rowInside numberedTest rowNumbered across seen machineOf marksOf movesOf marksTest marks live liveRound liveNext reducedTest classes settle rounds refine firsts
-no-letters-load = refl
+no-letters-load = (refl, refl)
 
--- no state, two states
-pub no-letters-refusals : map (load narrow) ((12 ∷ 0 ∷ 0 ∷ 0 ∷ 12 ∷ 0 ∷ 0 ∷ 0 ∷ 12 ∷ 0 ∷ 0 ∷ 0 ∷ []) ∷ (12 ∷ 0 ∷ 0 ∷ 0 ∷ 12 ∷ 0 ∷ 2 ∷ 0 ∷ 14 ∷ 0 ∷ 0 ∷ 0 ∷ 1 ∷ 2 ∷ []) ∷ []) ≡ rejected 21 ∷ rejected 24 ∷ []
-unfolding load loadTest unless contentsTest alphabetTest lettersOf insideTest rowInside numberedTest rowNumbered across seen machineOf marksOf movesOf marksTest
+-- marks 00 and 03; no state, two states
+pub no-letters-refusals : map (load narrow) (noLetters 0 ∷ noLetters 3 ∷ (0x0C ∷ 0 ∷ 0 ∷ 0 ∷ 0x0C ∷ 0 ∷ 0 ∷ 0 ∷ 0x0C ∷ 0 ∷ 0 ∷ 0 ∷ []) ∷ (0x0C ∷ 0 ∷ 0 ∷ 0 ∷ 0x0C ∷ 0 ∷ 2 ∷ 0 ∷ 0x0E ∷ 0 ∷ 0 ∷ 0 ∷ 1 ∷ 2 ∷ []) ∷ [])
+    ≡ rejected 25 ∷ rejected 25 ∷ rejected 21 ∷ rejected 24 ∷ []
+unfolding load loadTest unless contentsTest alphabetTest lettersOf insideTest rowInside numberedTest rowNumbered across seen machineOf marksOf movesOf marksTest marks live liveRound liveNext
 no-letters-refusals = refl
 
 -- the empty plan, and a letter; where nothing is allowed the empty plan is hopeless 0
@@ -71,19 +71,23 @@ only-empty fmt c z e l plan =
 pub no-letters-steps : (fmt : Format) (c : List ℕ) → Contents fmt c → letterCount fmt c ≡ 0 → (p l : ℕ) → stepOn fmt c p l ≡ stopped 27
 no-letters-steps fmt c r e p l = steps-only fmt c p l (stopped 27) (step-unknown r (λ i h. absurd (omega (arith, h, e))))
 
--- Both are bytes.
-small : List ℕ → Bool
-small [] = true
-small (b ∷ l) = ltb b 256 && small l
+-- ---- their machines
 
+-- no letters rise strictly
+pub no-alphabet : Alphabet []
+no-alphabet = record { letter = λ i h. absurd (not-suc-le-zero h); rising = λ i j h b. absurd (not-suc-le-zero b) }
+
+-- One state, without moves, that accepts or not: the two cards are those of its machines,
+abbrev alone : Bool → Machine
+alone accepts = record { accepting = accepts ∷ []; moves = [] ∷ [] }
+
+alone-cards : (encode narrow [] (alone true) ≡ noLetters 1) × (encode narrow [] (alone false) ≡ noLetters 2)
+unfolding encode marks live liveRound liveNext
+alone-cards = (refl, refl)
+
+-- so that both are bytes.
 pub no-letters-bytes : Bytes (noLetters 1) × Bytes (noLetters 2)
-unfolding small
-no-letters-bytes = (bytes (noLetters 1) refl, bytes (noLetters 2) refl)
-  where
-    bytes : (l : List ℕ) → small l ≡ true → Bytes l
-    bytes [] e i h = absurd (not-suc-le-zero h)
-    bytes (b ∷ l) e zero h = ltb-lt b 256 (and-left (ltb b 256) (small l) e)
-    bytes (b ∷ l) e (suc i) h = bytes l (and-right (ltb b 256) (small l) e) i (le-of-suc-le-suc h)
+no-letters-bytes = (subst Bytes (alone-cards .0) (encode-bytes narrow [] (alone true) no-alphabet), subst Bytes (alone-cards .1) (encode-bytes narrow [] (alone false) no-alphabet))
 
 -- ---- there are no others
 
@@ -100,13 +104,12 @@ one-state M C = go (lt-cases 1 (size M))
     go (inr p) = omega (arith, p .0, C .formed .some)
 
 two-cards : (M : Machine) → size M ≡ 1 → length (M .moves) ≡ 1 → length (getD (M .moves) 0 []) ≡ 0 → (encode narrow [] M ≡ noLetters 1) ⊎ (encode narrow [] M ≡ noLetters 2)
-unfolding encode marks live liveRound liveNext
 two-cards M = go (M .accepting) (M .moves)
   where
     go : (a : List Bool) (s : List (List ℕ)) → length a ≡ 1 → length s ≡ 1 → length (getD s 0 []) ≡ 0
         → (encode narrow [] (record { accepting = a; moves = s }) ≡ noLetters 1) ⊎ (encode narrow [] (record { accepting = a; moves = s }) ≡ noLetters 2)
-    go (true ∷ []) ([] ∷ []) e f g = inl refl
-    go (false ∷ []) ([] ∷ []) e f g = inr refl
+    go (true ∷ []) ([] ∷ []) e f g = inl (alone-cards .0)
+    go (false ∷ []) ([] ∷ []) e f g = inr (alone-cards .1)
     go [] s e f g = absurd (omega arith)
     go (x ∷ y ∷ a) s e f g = absurd (omega arith)
     go (x ∷ []) [] e f g = absurd (omega arith)

@@ -7,7 +7,7 @@ use mathlib.Core.List.{List, [], _∷_}
 use Prim.Native.Nat.{ℕ, suc}
 use lib.ListN.{length}
 use Rattle.automata.specs.Format.{Format}
-use Rattle.automata.specs.Booleans.{and-left, and-right, and-both}
+use Rattle.automata.specs.Booleans.{and-left, and-right, and-both, and-true}
 use Rattle.automata.specs.Automaton.{Over, over-more, accepts}
 use Rattle.automata.specs.Machine.{Machine, automaton, Canonical}
 use Rattle.automata.specs.Stage.{Made, made, Keeps, then-keeps}
@@ -65,10 +65,6 @@ module _ (fmt : Format) (ls : List ℕ) where
   and-assoc true b c = refl
   and-assoc false b c = refl
 
-  and-true : (b : Bool) → b ≡ b && true
-  and-true true = refl
-  and-true false = refl
-
   -- K has words of letters only, so that `.*` in it changes nothing
   meet : (K L : Language) → (M : Machine) → Right m M K → (w : Word) → K w && (all w && L w) ≡ K w && L w
   meet K L M r w = go (K w) refl
@@ -112,7 +108,7 @@ module _ (fmt : Format) (ls : List ℕ) where
 
   pub lines-right : (lines : List Line) (at : ℕ) (d : Draft) (b : BookResult) → LinesSay fmt ls lines at d b → (ys : List (ℕ × Language)) (K : Language) → DraftRight m d ys K
       → Accepts (Final K (rulesOf lines ls ys)) b
-  lines-right lines at d b all-lines ys K h = right-same m (d .kept) K (λ w. K w && true) (λ w. and-true (K w)) (h .kept)
+  lines-right lines at d b all-lines ys K h = right-same m (d .kept) K (λ w. K w && true) (λ w. sym (and-true (K w))) (h .kept)
   lines-right (l ∷ rest) at d b (line-stops s) ys K h = tt
   lines-right (l ∷ rest) at d b (stage-stops F s x) ys K h = tt
   lines-right (l ∷ rest) at d b (goes-on F counts M s x t) ys K h =
@@ -142,7 +138,7 @@ book-letters fmt (l ∷ rest) b (head-goes ls s t) =
 
 -- BOOKS. The kept machine of an accepted book is right for the plans that the book allows.
 book-right : (fmt : Format) (lines : List Line) (b : BookResult) → BookSays fmt lines b → Accepts (λ ls d. Right (length ls) (d .kept) (allowsLines lines)) b
-book-right fmt lines b no-bytes = right-same 0 _ (allWords 0) (λ w. allWords 0 w && true) (λ w. and-true fmt [] (allWords 0 w)) (record { recognizes = all-recognizes 0; letters = allWords-sound 0 })
+book-right fmt lines b no-bytes = right-same 0 _ (allWords 0) (λ w. allWords 0 w && true) (λ w. sym (and-true (allWords 0 w))) (record { recognizes = all-recognizes 0; letters = allWords-sound 0 })
 book-right fmt (l ∷ rest) b (head-stops s) = tt
 book-right fmt (l ∷ rest) b (head-goes ls s t) =
     subst (λ x. LinesSay fmt x rest 2 (startDraft (length x)) b → Accepts (λ ls d. Right (length ls) (d .kept) (allowsLines (l ∷ rest))) b) (head-letters fmt l ls (head-form fmt l (letters ls) s)) made t

@@ -117,9 +117,12 @@ StageOf text s = StageIn (length (bookLetters (linesOf text))) (bookStages (line
 abbrev pub ReachableSets : List ℕ → Stage → ℕ → Type 0
 ReachableSets text s n = Reaches (length (bookLetters (linesOf text))) s n
 
--- "The peak .. is the most sets that one stage of this book made", "0 if they made no set": n of the book's stages.
+-- Some stage of the book reaches exactly n sets; or, "0 if they made no set", the book has no stage and n is 0.
+abbrev pub Attained : List ℕ → ℕ → Type 0
+Attained text n = ((s : Stage) × StageOf text s × ReachableSets text s n) ⊎ (((s : Stage) → ¬ StageOf text s) × (n ≡ 0))
+
+-- "The peak .. is the most sets that one stage of this book made": n is attained,
 pub record Peak (text : List ℕ) (n : ℕ) : Type 0 where
-  -- some stage of the book reaches exactly n sets, or the book has no stage and n is 0,
-  pub reached : ((s : Stage) × StageOf text s × ReachableSets text s n) ⊎ (((s : Stage) → ¬ StageOf text s) × (n ≡ 0))
+  pub reached : Attained text n
   -- and every stage of the book reaches at most n
   pub most : (s : Stage) → StageOf text s → (k : ℕ) × ReachableSets text s k × (k ≤ n)

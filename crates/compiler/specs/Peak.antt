@@ -1,7 +1,7 @@
 -- "The peak, carried in the result, is the most sets that one stage of this book made": some stage of an accepted book reaches that many sets, or it has
 -- no stage and the peak is 0; every stage of it reaches no more. The counts of a book are those of its stages (BookStages.antt), one by one.
 use mathlib.Core.Path.{_≡_, refl, sym, subst, _∙_}
-use mathlib.Core.Logic.{_⊎_, inl, inr}
+use mathlib.Core.Logic.{inl, inr}
 use mathlib.Core.List.{List, [], _∷_, _++_, append-assoc, append-nil}
 use Prim.Native.Nat.{ℕ, zero, suc, _≤_, _<_, max, suc-le-suc}
 use native.Mathlib.Nat.{not-suc-le-zero, le-of-suc-le-suc, zero-lt-suc}
@@ -25,7 +25,7 @@ use Rattle.compiler.specs.Allows.{bookLetters}
 use Rattle.compiler.specs.Book.{Draft, BookResult, done, stopped, startDraft, compileBook}
 use Rattle.compiler.specs.Outcome.{most}
 use Rattle.compiler.specs.Table.{MakesLine, advance, LinesSay, line-stops, stage-stops, goes-on, all-lines, BookSays, no-bytes, head-stops, head-goes, line-form, head-form, accepted-says}
-use Rattle.compiler.specs.BookStages.{Stage, pairs, joins, stars, erases, Reaches, Leaves, Row, gives, makes, andThen, StageIn, first, later, expressionStages, markedStages, contextStages, ruleStages, formStages, lineStages, bookStages, StageOf, ReachableSets, Peak}
+use Rattle.compiler.specs.BookStages.{Stage, pairs, joins, stars, erases, Reaches, Leaves, Row, gives, makes, andThen, StageIn, first, later, expressionStages, markedStages, contextStages, ruleStages, formStages, lineStages, bookStages, Attained, Peak}
 
 -- No count is greater.
 pub most-greatest : (cs : List ℕ) (i : ℕ) → i < length cs → getD cs i 0 ≤ most cs
@@ -236,8 +236,7 @@ book-peak fmt text ls d e = record {
     c : BookCounted (linesOf text) (done ls d)
     c = book-counted fmt (linesOf text) (done ls d) (accepted-says fmt text ls d e)
 
-    go : (ns : List ℕ) (k : Counted m (bookStages (linesOf text)) ns (d .kept))
-        → ((s : Stage) × StageOf text s × ReachableSets text s (most ns)) ⊎ (((s : Stage) → ¬ StageOf text s) × (most ns ≡ 0))
+    go : (ns : List ℕ) → Counted m (bookStages (linesOf text)) ns (d .kept) → Attained text (most ns)
     go [] k = inr (λ s x. not-suc-le-zero (stage-number m (bookStages (linesOf text)) s x [] (d .kept) k .1), refl)
     go (n ∷ ns) k =
         let (i, h, q) = most-attained (n ∷ ns) (zero-lt-suc (length ns)) in
@@ -260,6 +259,6 @@ peak-one text n k P Q = omega (arith, below n k P Q, below k n Q P)
     below : (a b : ℕ) → Peak text a → Peak text b → a ≤ b
     below a b P Q = go (P .reached)
       where
-        go : ((s : Stage) × StageOf text s × ReachableSets text s a) ⊎ (((s : Stage) → ¬ StageOf text s) × (a ≡ 0)) → a ≤ b
+        go : Attained text a → a ≤ b
         go (inl (s, x, r)) = let (j, q, h) = Q .most s x in omega (arith, one-number s a j r q, h)
         go (inr (f, z)) = omega (arith, z)

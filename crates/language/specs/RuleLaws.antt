@@ -116,10 +116,6 @@ module _ (fmt : Format) (m : ℕ) where
 
 -- ---- the context restriction
 
-and-true : (b : Bool) → b && true ≡ b
-and-true true = refl
-and-true false = refl
-
 or-assoc : (a b c : Bool) → (a || b) || c ≡ a || (b || c)
 or-assoc true b c = refl
 or-assoc false b c = refl

@@ -7,7 +7,7 @@ use native.Mathlib.Nat.{mul-le-mul-right, suc-mul, zero-mul}
 use native.Mathlib.Numerals.{add-one}
 use native.Mathlib.Omega.{arith}
 use lib.ListN.{length, getD, drop}
-use Rattle.automata.specs.Format.{Format}
+use Rattle.automata.specs.Format.{Format, narrow}
 use Rattle.automata.specs.Machine.{Machine}
 use Rattle.automata.specs.Stage.{Made, made, refused, after, thenMade}
 use Rattle.automata.specs.Stages.{starStage, concatStage}
@@ -26,9 +26,17 @@ use Rattle.codes.specs.declared.Source.{Source}
 use Rattle.operations.specs.declared.apply.Stepped.{Stepped}
 use Rattle.operations.specs.declared.apply.Stepped.the-variants.{Next, Refused, Stuck}
 
--- the format whose limits the layout has; all else is 01's
+-- the format whose limits the layout has; all else is today's
 abbrev pub formatOf : Layout → Format
-formatOf l = record { leastLetters = 0; mostLetters = 26; mostStates = l .states; mostSets = l .sets; mostNames = 26; numberBytes = 2; moveBytes = 1 }
+formatOf l = record {
+  leastLetters = narrow .leastLetters;
+  mostLetters = narrow .mostLetters;
+  mostStates = l .states;
+  mostSets = l .sets;
+  mostNames = narrow .mostNames;
+  numberBytes = narrow .numberBytes;
+  moveBytes = narrow .moveBytes;
+}
 
 -- the greatest of the numbers, 0 if there is none
 abbrev pub greatest : List ℕ → ℕ

@@ -11,6 +11,7 @@ use lib.ListN.{length}
 use Rattle.automata.specs.Booleans.{choose}
 use Rattle.automata.specs.Format.{Format}
 use Rattle.card.specs.Alphabet.{Alphabet}
+use Rattle.card.specs.NoLetters.{no-alphabet}
 use Rattle.card.specs.Same.{cardOf}
 use Rattle.card.specs.Demand.{Compiled}
 use Rattle.book.specs.Kind.{kindOf, lineEndKind}
@@ -84,7 +85,7 @@ module _ (fmt : Format) (needs text lent : List ℕ) (room : ℕ) (c : List ℕ)
   alphabet = go (linesOf text) letters-form
     where
       go : (lines : List Line) → LettersOf fmt lines (bookLetters lines) → Alphabet (bookLetters lines)
-      go [] f = record { letter = λ i h. absurd (not-suc-le-zero h); rising = λ i j h b. absurd (not-suc-le-zero b) }
+      go [] f = no-alphabet
       go (l ∷ rest) f = record { letter = f .letter; rising = f .rises }
 
   pub letters-most : length (bookLetters (linesOf text)) ≤ fmt .mostLetters

@@ -1,11 +1,12 @@
 -- "Two islands have no port rules and still mount a board.": a text of no bytes, a book without rules, and the boards that were mounted before.
 use mathlib.Core.Path.{_≡_, refl, sym, ap, _∙_, subst}
-use mathlib.Core.Bool.{Bool, true, false, _&&_}
-use mathlib.Core.Logic.{_↔_, _⊎_, inl, inr}
+use mathlib.Core.Bool.{true, false, _&&_}
+use mathlib.Core.Logic.{_↔_, inl, inr}
 use mathlib.Core.List.{List, []}
 use Prim.Native.Nat.{ℕ, _≤_, _<_}
 use native.Mathlib.Omega.{arith}
-use lib.ListN.{length, getD}
+use lib.ListN.{length}
+use Rattle.automata.specs.Booleans.{and-true}
 use Rattle.automata.specs.Basics.{lt-ltb, ltb-false}
 use Rattle.automata.specs.Format.{Format, narrow}
 use Rattle.automata.specs.Given.{allMachine}
@@ -31,7 +32,7 @@ use Rattle.card.specs.NoLetters.{noLetters, no-letters-load, no-letters-bytes}
 use Rattle.book.specs.Text.{linesOf}
 use Rattle.compiler.specs.Allows.{bookLetters, bookRules, allows}
 use Rattle.compiler.specs.Book.{compileText, compileBook}
-use Rattle.compiler.specs.BookStages.{Stage, StageOf, ReachableSets}
+use Rattle.compiler.specs.BookStages.{Stage, StageOf, Attained}
 use Rattle.compiler.specs.Outcome.{card, stop, enough, outcome}
 use Rattle.promises.specs.Accepted.{accepted, compiled, alphabet, letters-most, letters-some, peak-of-stages}
 use Rattle.promises.specs.Demands.{bookAllows, demand-three, SmallestCard, demand-two-board}
@@ -46,23 +47,23 @@ no-bytes-card = refl
 
 module _ (needs lent : List ℕ) (room : ℕ) where
   -- "A text of no bytes gives the card with m = 0, one state, marks 01, no moves, with peak 0"; 2 and 11 come before it.
-  pub empty-text : enough needs lent ≡ true → 13 ≤ room → outcome narrow needs [] lent room ≡ card (noLetters 1) 0
+  pub empty-text : enough needs lent ≡ true → length (noLetters 1) ≤ room → outcome narrow needs [] lent room ≡ card (noLetters 1) 0
   unfolding outcome compileBook compileText
-  empty-text e h = rw (e, no-bytes-card, ltb-false room 13 h)
+  empty-text e h = rw (e, no-bytes-card, ltb-false room (length (noLetters 1)) h)
 
   pub empty-lent : enough needs lent ≡ false → outcome narrow needs [] lent room ≡ stop 2 0
   unfolding outcome
   empty-lent e = rw e
 
-  pub empty-room : enough needs lent ≡ true → room < 13 → outcome narrow needs [] lent room ≡ stop 11 0
+  pub empty-room : enough needs lent ≡ true → room < length (noLetters 1) → outcome narrow needs [] lent room ≡ stop 11 0
   unfolding outcome compileBook compileText
-  empty-room e h = rw (e, no-bytes-card, lt-ltb room 13 h)
+  empty-room e h = rw (e, no-bytes-card, lt-ltb room (length (noLetters 1)) h)
 
 -- "The guarantee about smallest cards includes both": each of the two cards without letters is that of the numbered smallest machine of some set of plans.
 pub no-letters-smallest : SmallestCard narrow 0 1 (noLetters 1) × SmallestCard narrow 0 1 (noLetters 2)
 no-letters-smallest = (
-  board-loads (noLetters 1) (no-letters-bytes .0) 0 1 .0 (ap (λ l. getD l 0 (rejected 0)) no-letters-load),
-  board-loads (noLetters 2) (no-letters-bytes .1) 0 1 .0 (ap (λ l. getD l 1 (rejected 0)) no-letters-load),
+  board-loads (noLetters 1) (no-letters-bytes .0) 0 1 .0 (no-letters-load .0),
+  board-loads (noLetters 2) (no-letters-bytes .1) 0 1 .0 (no-letters-load .1),
 )
 
 -- ---- a book without rules
@@ -78,10 +79,6 @@ module _ (fmt : Format) (s : Sound fmt) (two : 2 ≤ fmt .mostStates) (needs tex
   -- it allows every plan of its letters, and no other row of bytes
   all-allowed : (plan : List ℕ) → bookAllows text plan ≡ allWords (length ls) (columns ls plan)
   all-allowed plan = ap (λ rs. allWords (length ls) (columns ls plan) && obeys rs (columns ls plan)) none ∙ and-true (allWords (length ls) (columns ls plan))
-    where
-      and-true : (b : Bool) → b && true ≡ b
-      and-true true = refl
-      and-true false = refl
 
   whole : Compiled fmt ls (allWords (length ls)) (allMachine (length ls))
   whole = record {
@@ -113,7 +110,7 @@ pub no-stage-peak : (fmt : Format) (needs text lent : List ℕ) (room : ℕ) (c 
     → ((s : Stage) → ¬ StageOf text s) → peak ≡ 0
 no-stage-peak fmt needs text lent room c peak e f = go (peak-of-stages fmt needs text lent room c peak e .reached)
   where
-    go : ((s : Stage) × StageOf text s × ReachableSets text s peak) ⊎ (((s : Stage) → ¬ StageOf text s) × (peak ≡ 0)) → peak ≡ 0
+    go : Attained text peak → peak ≡ 0
     go (inl (s, x, r)) = absurd (f s x)
     go (inr (g, z)) = z
 

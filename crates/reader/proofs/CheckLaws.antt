@@ -9,7 +9,7 @@ use native.Mathlib.Omega.{arith}
 use borrow.Author.Tests.{eq-eqb, ne-eqb}
 use lib.Dec.{ltb}
 use lib.ListN.{length, take, drop, getD, length-take, length-drop}
-use Rattle.automata.specs.Booleans.{choose}
+use Rattle.automata.specs.Booleans.{choose, and-true}
 use Rattle.automata.specs.Basics.{nat-test, LtCases, lt-cases}
 use Rattle.automata.specs.Stages.{Pairing, either, both, without}
 use Rattle.language.specs.Restriction.{restricts}
@@ -64,10 +64,6 @@ module _ (ls ns : List ℕ) where
 
   define-known : (n x : ℕ) (e : Expr) → FormHeld n (define x e) → codeKnown ls ns (program (define x e)) ≡ known ls ns e
   define-known n x e s = ap (codeKnown ls ns) (sym (append-nil (postfix e))) ∙ known-code e (s .leaves) [] ∙ and-true (known ls ns e)
-    where
-      and-true : (t : Bool) → t && true ≡ t
-      and-true true = refl
-      and-true false = refl
 
   rule-known : (n : ℕ) (p : Expr) (cs : List (Expr × Expr)) → FormHeld n (rule restricts p cs) → codeKnown ls ns (program (rule restricts p cs)) ≡ known ls ns p && allKnown ls ns cs
   rule-known n p cs (a, s) = rw (known-code p (a .leaves)) (ap (λ t. known ls ns p && t) (contexts-known n cs s))
