@@ -15,6 +15,7 @@ pub mod Subset
 pub mod Operations
 pub mod Decide
 pub mod Live
+pub mod Distance
 pub mod Minimal
 pub mod Restrict
 pub mod NumberingTest

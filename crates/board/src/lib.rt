@@ -1,12 +1,17 @@
 // The board: it knows a card's layout and nothing else, and is lent no work buffer. Its entries ask nothing of the caller: they answer every row of
 // bytes, state, letter and plan.
 ghost use mathlib.Core.Path.{_≡_};
+ghost use Prim.Native.Nat.{_<_};
 ghost use Rattle.automata.specs.Format.{narrow};
 ghost use Rattle.card.specs.Answer.{load as loadOf};
 ghost use Rattle.card.specs.Judge.{judge as judgeOf};
-ghost use Rattle.card.specs.Step.{stepOn};
+ghost use Rattle.card.specs.Step.{landing as landingOf, stepOn};
 ghost use Rattle.run.specs.Reading.{replyOf};
+ghost use Rattle.run.specs.Walk.{Ready};
 ghost use Rattle.board.specs.Answers.{loading, stepping};
+
+// A marks byte is "1 where the state accepts, 2 where no continuation is allowed, else 0".
+const UNFINISHED: u8 = 0;
 
 // What loading answers: the card's letters and states, or the number of a refusal.
 pub enum Loaded {
@@ -28,19 +33,31 @@ pub fn load(card: &[u8]) -> Loaded
     Loaded::Refused(number)
 }
 
-// What one step answers: the next state and its marks byte, or the number of a refusal.
+// What one step answers: the next state and its marks byte; or, where that is 0, the next state and the fewest further letters; or the number of a refusal.
 pub enum Stepped {
     Moved(usize, u8),
+    Owing(usize, usize),
     Stopped(u8),
 }
 
-// One step on any bytes: 21, 27, 28 and 23 are tested, in that order, and nothing more.
-pub fn step(card: &[u8], state: usize, letter: u8) -> Stepped
+// Where a step lands.
+fn landing(card: &[u8], m: usize, n: usize, next: usize) -> Stepped
+    requires { ⌜ Ready (now card) m n × (next < n) ⌝ }
+    ensures { λ r. ⌜ stepping r ≡ landingOf narrow (now (card .entry)) next ⌝ }
+{
+    let marks = fields::marks(card, m, n);
+    let mark = marks[next];
+    if mark == UNFINISHED {
+        return Stepped::Owing(next, run::owed::owed(card, m, n, next));
+    }
+    Stepped::Moved(next, mark)
+}
+
+// One step on a card that was tested: 27, then 28.
+fn step_on(card: &[u8], m: usize, n: usize, state: usize, letter: u8) -> Stepped
+    requires { ⌜ Ready (now card) m n ⌝ }
     ensures { λ r. ⌜ stepping r ≡ stepOn narrow (now (card .entry)) state letter ⌝ }
 {
-    let fields::Counts::Of(m, n) = fields::contents(card) else {
-        return Stepped::Stopped(21);
-    };
     let i = fields::column(fields::letters(card, m, n), letter);
     if m <= i {
         return Stepped::Stopped(27);
@@ -48,13 +65,18 @@ pub fn step(card: &[u8], state: usize, letter: u8) -> Stepped
     if n <= state {
         return Stepped::Stopped(28);
     }
-    let moves = fields::moves(card, m, n);
-    let next = moves[state * m + i] as usize;
-    if n <= next {
-        return Stepped::Stopped(23);
+    let next = run::next(fields::moves(card, m, n), m, state, i);
+    landing(card, m, n, next)
+}
+
+// One step on any bytes: the card is tested 21 to 26, then the letter and the state. It costs a load, so that nothing walks a plan by it.
+pub fn step(card: &[u8], state: usize, letter: u8) -> Stepped
+    ensures { λ r. ⌜ stepping r ≡ stepOn narrow (now (card .entry)) state letter ⌝ }
+{
+    match load(card) {
+        Loaded::Refused(number) => Stepped::Stopped(number),
+        Loaded::Accepted(m, n) => step_on(card, m, n, state, letter),
     }
-    let marks = fields::marks(card, m, n);
-    Stepped::Moved(next, marks[next])
 }
 
 // Judges a plan: the card is tested, then all letters, then the plan.

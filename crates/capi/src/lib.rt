@@ -11,7 +11,7 @@ ghost use lib.ListN.{length};
 ghost use Rattle.compiler.specs.Outcome.{outcome};
 ghost use Rattle.driver.specs.Entry.{documented, lentLengths};
 ghost use Rattle.factor.specs.Shortest.{shortest};
-ghost use Rattle.numbers.specs.Handed.{handed, numbers, shortestNumbers};
+ghost use Rattle.numbers.specs.Handed.{handed, numbers, stepHanded, shortestNumbers};
 ghost use Rattle.capi.specs.Compiles.{Compiles};
 
 // Loading: 0, and letters, states, 0; or 21 to 26.
@@ -22,16 +22,16 @@ pub extern "C" fn pier_load(card: &[u8], out: &mut [u64; 3]) -> u64
     numbers::loaded(board::load(card), out)
 }
 
-// One step: 0, and the next state, its marks byte, 0; or 21, 27, 28 or 23.
+// One step: 0, and the next state, its marks byte, the letters owed where that is 0; or 21 to 28. The card is tested first, so that a step costs a load.
 #[no_mangle]
 pub extern "C" fn pier_step(card: &[u8], state: usize, letter: u8, out: &mut [u64; 3]) -> u64
-    ensures { λ r. ⌜ handed r (now (out .exit)) ≡ numbers (stepNumbers (stepOn narrow (now (card .entry)) state letter)) ⌝ }
+    ensures { λ r. ⌜ handed r (now (out .exit)) ≡ stepHanded (stepNumbers (stepOn narrow (now (card .entry)) state letter)) ⌝ }
 {
     numbers::stepped(board::step(card, state, letter), out)
 }
 
-// Judging: 0, and the verdict (1 allowed, 0 unfinished, 2 hopeless), the place of hopeless, 0; or 21 to 26; or 27, and 0, the letters before the first
-// unknown one, 0.
+// Judging: 0, and the verdict (1 allowed, 0 unfinished, 2 hopeless), the letters owed of unfinished or the place of hopeless, 0; or 21 to 26; or 27, and 0,
+// the letters before the first unknown one, 0.
 #[no_mangle]
 pub extern "C" fn pier_judge(card: &[u8], plan: &[u8], out: &mut [u64; 3]) -> u64
     ensures { λ r. ⌜ handed r (now (out .exit)) ≡ numbers (replyNumbers (judge narrow (now (card .entry)) (now (plan .entry)))) ⌝ }

@@ -9,9 +9,9 @@ use Rattle.automata.specs.Basics.{nat-test}
 use Rattle.automata.specs.Format.{Format}
 use Rattle.card.specs.Layout.{letterCount, stateCount}
 use Rattle.card.specs.Load.{loadTest}
-use Rattle.card.specs.Step.{Stepped, moved, stopped}
-use Rattle.card.specs.Verdict.{allowed, unfinished, hopeless}
-use Rattle.card.specs.Judge.{Reply, verdict, refused}
+use Rattle.card.specs.Step.{Stepped, moved, owing, stopped}
+use Rattle.card.specs.Verdict.{Verdict, allowed, unfinished, hopeless}
+use Rattle.card.specs.Reply.{Reply, answered, refused}
 
 -- ---- loading
 
@@ -34,7 +34,7 @@ module _ (fmt : Format) (c : List ℕ) where
 
 -- ---- each answer in numbers
 
--- A refusal's number of the table, or 0; and two values.
+-- Of loading and judging: a refusal's number of the table, or 0; and two values.
 pub record Numbers : Type 0 where
   pub number : ℕ
   pub first : ℕ
@@ -48,15 +48,22 @@ abbrev pub loadNumbers : Loading → Numbers
 loadNumbers (holds m n) = answer 0 m n
 loadNumbers (rejected number) = answer number 0 0
 
--- One step: "it gives the next state and its marks byte"; or 21, 27, 28 or 23.
-abbrev pub stepNumbers : Stepped → Numbers
-stepNumbers (moved q mark) = answer 0 q mark
-stepNumbers (stopped number) = answer number 0 0
+-- One step: a refusal's number, 21 to 28, or 0; "the next state and its marks byte", and the fewest further letters where that is 0.
+pub record StepNumbers : Type 0 where
+  pub number : ℕ
+  pub state : ℕ
+  pub mark : ℕ
+  pub owed : ℕ
 
--- Judging: the verdict as a marks byte, 1 allowed, 0 unfinished, 2 hopeless, and the place of hopeless; or 21 to 26; or 27 and, as the place, how many
--- letters precede the first that is not on the card.
-abbrev pub replyNumbers : Reply → Numbers
-replyNumbers (verdict allowed) = answer 0 1 0
-replyNumbers (verdict unfinished) = answer 0 0 0
-replyNumbers (verdict (hopeless k)) = answer 0 2 k
+abbrev pub stepNumbers : Stepped → StepNumbers
+stepNumbers (moved q mark) = record { number = 0; state = q; mark = mark; owed = 0 }
+stepNumbers (owing q k) = record { number = 0; state = q; mark = 0; owed = k }
+stepNumbers (stopped number) = record { number = number; state = 0; mark = 0; owed = 0 }
+
+-- Judging: the verdict as a marks byte, 1 allowed, 0 unfinished, 2 hopeless, and the number of unfinished or the place of hopeless; or 21 to 26; or 27 and,
+-- as the place, how many letters precede the first that is not on the card.
+abbrev pub replyNumbers : Reply Verdict → Numbers
+replyNumbers (answered allowed) = answer 0 1 0
+replyNumbers (answered (unfinished k)) = answer 0 0 k
+replyNumbers (answered (hopeless k)) = answer 0 2 k
 replyNumbers (refused number before) = answer number 0 before

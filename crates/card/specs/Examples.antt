@@ -1,11 +1,12 @@
--- The definitions, computed: the first card of "Ten days on paper", its verdicts, a card that each test stops, each answer of a step; a card of another
--- format, and one without letters.
+-- The definitions, computed: the first card of "Ten days on paper", its verdicts, a card that each test stops, how much is owed, each answer of a step; a
+-- card of another format, and one without letters.
 use mathlib.Core.Path.{_≡_, refl}
 use mathlib.Core.Bool.{true, false}
 use mathlib.Core.List.{List, [], _∷_, map}
 use Prim.Native.Nat.{ℕ}
 use native.Mathlib.Omega.{arith}
 use Rattle.automata.specs.Decide.{unless}
+use Rattle.automata.specs.Distance.{distance}
 use Rattle.automata.specs.Format.{Format, narrow}
 use Rattle.automata.specs.Listing.{listing, turn, addTo, add}
 use Rattle.automata.specs.Live.{live, liveRound, liveNext}
@@ -20,9 +21,10 @@ use Rattle.card.specs.Mark.{marks}
 use Rattle.card.specs.Layout.{Sound, encode, lettersOf, marksOf, movesOf, machineOf, contentsTest}
 use Rattle.card.specs.Alphabet.{alphabetTest}
 use Rattle.card.specs.Load.{loadTest, rowInside, insideTest, marksTest}
-use Rattle.card.specs.Verdict.{allowed, hopeless}
-use Rattle.card.specs.Judge.{judge, verdict, refused}
-use Rattle.card.specs.Step.{stepOn, moved, stopped}
+use Rattle.card.specs.Verdict.{allowed, unfinished, hopeless}
+use Rattle.card.specs.Reply.{answered, refused, asked}
+use Rattle.card.specs.Judge.{judge}
+use Rattle.card.specs.Step.{stepOn, moved, owing, stopped}
 use Rattle.card.specs.Answer.{load, holds, rejected}
 use Rattle.card.specs.Same.{cardOf}
 
@@ -42,8 +44,8 @@ unfolding load loadTest unless contentsTest alphabetTest lettersOf insideTest ro
 first-loads = refl
 
 pub verdicts : map (judge narrow first) ((97 ∷ 98 ∷ []) ∷ (97 ∷ 98 ∷ 98 ∷ []) ∷ (98 ∷ []) ∷ [] ∷ (98 ∷ 98 ∷ 99 ∷ []) ∷ [])
-    ≡ verdict allowed ∷ verdict (hopeless 3) ∷ verdict (hopeless 1) ∷ verdict allowed ∷ refused 27 2 ∷ []
-unfolding judge loadTest unless contentsTest alphabetTest lettersOf insideTest rowInside numberedTest rowNumbered across seen machineOf marksOf movesOf marksTest marks live liveRound liveNext reducedTest classes settle rounds refine firsts
+    ≡ answered allowed ∷ answered (hopeless 3) ∷ answered (hopeless 1) ∷ answered allowed ∷ refused 27 2 ∷ []
+unfolding judge asked loadTest unless contentsTest alphabetTest lettersOf insideTest rowInside numberedTest rowNumbered across seen machineOf marksOf movesOf marksTest marks live liveRound liveNext reducedTest classes settle rounds refine firsts
 verdicts = refl
 
 -- two letters, two states
@@ -58,13 +60,32 @@ pub refusals : map (load narrow) (two 97 98 15 (1 ∷ 2 ∷ 1 ∷ 0 ∷ 1 ∷ 1 
 unfolding load loadTest unless contentsTest alphabetTest lettersOf insideTest rowInside numberedTest rowNumbered across seen machineOf marksOf movesOf marksTest marks live liveRound liveNext reducedTest classes settle rounds refine firsts
 refusals = refl
 
--- steps: on; no contents; a letter not on the card, though there is no such state either; no state; a move to 2, from state 1 only; the first column of a
--- repeated letter
-pub step-answers : stepOn narrow first 0 97 ∷ stepOn narrow [] 0 97 ∷ stepOn narrow first 3 99 ∷ stepOn narrow first 3 97
-    ∷ stepOn narrow (two 97 98 14 (1 ∷ 2 ∷ 1 ∷ 0 ∷ 1 ∷ 2 ∷ [])) 1 98 ∷ stepOn narrow (two 97 98 14 (1 ∷ 2 ∷ 1 ∷ 0 ∷ 1 ∷ 2 ∷ [])) 0 98 ∷ stepOn narrow (two 97 97 14 (1 ∷ 2 ∷ 1 ∷ 0 ∷ 1 ∷ 1 ∷ [])) 0 97 ∷ []
-    ≡ moved 1 1 ∷ stopped 21 ∷ stopped 27 ∷ stopped 28 ∷ stopped 23 ∷ moved 0 1 ∷ moved 1 2 ∷ []
-unfolding stepOn unless contentsTest lettersOf
+-- ---- how much is owed, and steps
+
+-- `:ab`, `>a / .* _ .*b.*`, each a has a b behind it: state 1 is that of a plan that still lacks one
+abbrev behind : List ℕ
+behind = two 97 98 14 (1 ∷ 0 ∷ 1 ∷ 0 ∷ 1 ∷ 0 ∷ [])
+
+-- `:ab`, one state accepts, and three letters are owed at the start of a plan, two or one on the way
+abbrev three : List ℕ
+three = 12 ∷ 0 ∷ 2 ∷ 0 ∷ 14 ∷ 0 ∷ 4 ∷ 0 ∷ 18 ∷ 0 ∷ 8 ∷ 0 ∷ 97 ∷ 98 ∷ 0 ∷ 0 ∷ 0 ∷ 1 ∷ 1 ∷ 0 ∷ 1 ∷ 2 ∷ 3 ∷ 0 ∷ 3 ∷ 3 ∷ []
+
+pub owing-replies : judge narrow behind (97 ∷ []) ∷ judge narrow behind (97 ∷ 98 ∷ []) ∷ map (judge narrow three) ([] ∷ (97 ∷ []) ∷ (97 ∷ 98 ∷ []) ∷ (98 ∷ 97 ∷ []) ∷ [])
+    ≡ answered (unfinished 1) ∷ answered allowed ∷ answered (unfinished 3) ∷ answered (unfinished 2) ∷ answered (unfinished 1) ∷ answered (unfinished 2) ∷ []
+unfolding judge asked distance loadTest unless contentsTest alphabetTest lettersOf insideTest rowInside numberedTest rowNumbered across seen machineOf marksOf movesOf marksTest marks live liveRound liveNext reducedTest classes settle rounds refine firsts
+owing-replies = refl
+
+-- on; to a state that is unfinished, with its number, and not that of the state left; no contents, a move to 2, twins, whatever the letter and the state
+pub step-answers : stepOn narrow first 0 97 ∷ stepOn narrow behind 0 97 ∷ stepOn narrow behind 1 98 ∷ stepOn narrow three 0 97 ∷ stepOn narrow three 1 98
+    ∷ stepOn narrow [] 3 99 ∷ stepOn narrow (two 97 98 14 (1 ∷ 2 ∷ 1 ∷ 0 ∷ 1 ∷ 2 ∷ [])) 0 97 ∷ stepOn narrow (two 97 98 14 (1 ∷ 1 ∷ 1 ∷ 0 ∷ 0 ∷ 1 ∷ [])) 3 99 ∷ []
+    ≡ moved 1 1 ∷ owing 1 1 ∷ moved 0 1 ∷ owing 1 2 ∷ owing 2 1 ∷ stopped 21 ∷ stopped 23 ∷ stopped 26 ∷ []
+unfolding stepOn distance loadTest unless contentsTest alphabetTest lettersOf insideTest rowInside numberedTest rowNumbered across seen machineOf marksOf movesOf marksTest marks live liveRound liveNext reducedTest classes settle rounds refine firsts
 step-answers = refl
+
+-- a letter not on the card, though there is no such state either; no state
+pub step-refusals : stepOn narrow first 3 99 ∷ stepOn narrow first 3 97 ∷ [] ≡ stopped 27 ∷ stopped 28 ∷ []
+unfolding stepOn distance loadTest unless contentsTest alphabetTest lettersOf insideTest rowInside numberedTest rowNumbered across seen machineOf marksOf movesOf marksTest marks live liveRound liveNext reducedTest classes settle rounds refine firsts
+step-refusals = refl
 
 -- ---- another format: no letters are enough, numbers of four bytes, moves of two
 
@@ -86,6 +107,6 @@ widened-card = refl
 abbrev bare : List ℕ
 bare = 24 ∷ 0 ∷ 0 ∷ 0 ∷ 0 ∷ 0 ∷ 0 ∷ 0 ∷ 24 ∷ 0 ∷ 0 ∷ 0 ∷ 1 ∷ 0 ∷ 0 ∷ 0 ∷ 25 ∷ 0 ∷ 0 ∷ 0 ∷ 0 ∷ 0 ∷ 0 ∷ 0 ∷ 1 ∷ []
 
-pub bare-replies : map (judge other bare) ([] ∷ (97 ∷ []) ∷ []) ≡ verdict allowed ∷ refused 27 0 ∷ []
-unfolding judge loadTest unless contentsTest alphabetTest lettersOf insideTest rowInside numberedTest rowNumbered across seen machineOf marksOf movesOf marksTest marks live liveRound liveNext reducedTest classes settle rounds refine firsts
+pub bare-replies : map (judge other bare) ([] ∷ (97 ∷ []) ∷ []) ≡ answered allowed ∷ refused 27 0 ∷ []
+unfolding judge asked loadTest unless contentsTest alphabetTest lettersOf insideTest rowInside numberedTest rowNumbered across seen machineOf marksOf movesOf marksTest marks live liveRound liveNext reducedTest classes settle rounds refine firsts
 bare-replies = refl

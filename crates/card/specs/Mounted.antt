@@ -1,4 +1,5 @@
--- The boards that were mounted before W2: "mounted ones refuse m = 0 by 21", and answer every other card as today's do.
+-- The boards that were mounted before W2: "mounted ones refuse m = 0 by 21", and answer every other card as those that were mounted after them. They were
+-- mounted before W3 too, so that they reply without the number (MountedVerdict.antt) and step as MountedStep.antt says.
 use mathlib.Core.Path.{_≡_, refl, sym, ap, _∙_}
 use mathlib.Core.Bool.{false}
 use mathlib.Core.Logic.{_↔_}
@@ -15,10 +16,13 @@ use Rattle.card.specs.Alphabet.{column}
 use Rattle.card.specs.Load.{loadTest, rowInside, insideTest, marksTest}
 use Rattle.card.specs.Loads.{load-loaded}
 use Rattle.card.specs.Answer.{load, rejected}
-use Rattle.card.specs.Step.{stepOn, stopped}
-use Rattle.card.specs.Judge.{judge, refused, stateAfter, firstDead, deadAt, byPlace, found}
+use Rattle.card.specs.Reply.{refused, asked, mapReply}
+use Rattle.card.specs.Judge.{judge, stateAfter, firstDead, deadAt, byPlace, found}
+use Rattle.card.specs.MountedVerdict.{mountedJudge, lessNumber, less-number}
+use Rattle.card.specs.Step.{stepOn}
+use Rattle.card.specs.MountedStep.{mountedStep, stopped, lessOwed, step-less}
 
--- "length m (1 to 26)": their test 21 is that of 01, and all else is today's.
+-- "length m (1 to 26)": their test 21 is that of 01, and every other limit is today's.
 abbrev pub mounted : Format
 mounted = record {
   leastLetters = 1;
@@ -48,17 +52,17 @@ module _ (c : List ℕ) (e : letterCount narrow c ≡ 0) where
   unfolding load
   mounted-rejects = rw mounted-refuses
 
-  pub mounted-stops : (p l : ℕ) → stepOn mounted c p l ≡ stopped 21
-  unfolding stepOn unless
+  pub mounted-stops : (p l : ℕ) → mountedStep mounted c p l ≡ stopped 21
+  unfolding mountedStep unless
   mounted-stops p l = rw no-contents
 
-  pub mounted-judges-none : (plan : List ℕ) → judge mounted c plan ≡ refused 21 0
-  unfolding judge unless
+  pub mounted-judges-none : (plan : List ℕ) → mountedJudge mounted c plan ≡ refused 21 0
+  unfolding mountedJudge asked unless
   mounted-judges-none plan = rw mounted-refuses
 
 -- ---- any other card
 
--- the places of judging are those of today's boards
+-- the places of judging are the same
 pub state-same : (c plan : List ℕ) (p : ℕ) → stateAfter mounted c plan p ≡ stateAfter narrow c plan p
 unfolding lettersOf
 state-same c [] p = refl
@@ -82,13 +86,20 @@ module _ (c : List ℕ) (h : 1 ≤ letterCount narrow c) where
   unfolding load
   mounted-loads = rw same-test
 
-  pub mounted-steps : (p l : ℕ) → stepOn mounted c p l ≡ stepOn narrow c p l
-  unfolding stepOn lettersOf
-  mounted-steps p l = rw same-contents
+  pub mounted-steps-same : (p l : ℕ) → mountedStep mounted c p l ≡ mountedStep narrow c p l
+  unfolding mountedStep lettersOf
+  mounted-steps-same p l = rw same-contents
 
-  pub mounted-judges : (plan : List ℕ) → judge mounted c plan ≡ judge narrow c plan
-  unfolding judge lettersOf
-  mounted-judges plan = rw (same-test, dead-same c plan 0 0, state-same c plan 0)
+  pub mounted-judges-same : (plan : List ℕ) → mountedJudge mounted c plan ≡ mountedJudge narrow c plan
+  unfolding mountedJudge asked lettersOf
+  mounted-judges-same plan = rw (same-test, dead-same c plan 0 0, state-same c plan 0)
+
+  -- so that they step and reply as today's boards do, less the number.
+  pub mounted-steps-less : loadTest narrow c ≡ 0 → (p l : ℕ) → mountedStep mounted c p l ≡ lessOwed (stepOn narrow c p l)
+  mounted-steps-less z p l = mounted-steps-same p l ∙ step-less narrow c z p l
+
+  pub mounted-judges : (plan : List ℕ) → mountedJudge mounted c plan ≡ mapReply lessNumber (judge narrow c plan)
+  mounted-judges plan = mounted-judges-same plan ∙ less-number narrow c plan
 
 -- What a mounted board loads is what today's load, where there is a letter.
 pub mounted-iff : (c : List ℕ) → (loadTest mounted c ≡ 0) ↔ ((loadTest narrow c ≡ 0) × (1 ≤ letterCount narrow c))

@@ -25,12 +25,15 @@ use Rattle.card.specs.Alphabet.{Alphabet, alphabetTest}
 use Rattle.card.specs.Load.{loadTest, rowInside, insideTest, marksTest}
 use Rattle.card.specs.Loads.{Card, card-fits, load-loaded, loads-iff}
 use Rattle.card.specs.Verdict.{allowed, hopeless}
-use Rattle.card.specs.Judge.{judge, verdict, refused, unknown-letter}
+use Rattle.card.specs.Reply.{answered, refused, asked, unknown-letter}
+use Rattle.card.specs.Judge.{judge}
 use Rattle.card.specs.JudgeLaws.{replies-only}
 use Rattle.card.specs.Step.{stepOn, stopped, step-unknown, steps-only}
 use Rattle.card.specs.Answer.{load, holds, rejected}
 use Rattle.card.specs.Write.{encode-bytes}
-use Rattle.card.specs.Mounted.{mounted}
+use Rattle.card.specs.MountedStep as MountedStep
+use Rattle.card.specs.MountedStep.{mountedStep, mounted-steps-only}
+use Rattle.card.specs.Mounted.{mounted, mounted-stops}
 
 -- "the card with m = 0, one state, marks 01, no moves", and "its like with marks 02"
 abbrev pub noLetters : ℕ → List ℕ
@@ -41,6 +44,10 @@ pub no-letters-load : (load narrow (noLetters 1) ≡ holds 0 1) × (load narrow 
 unfolding load loadTest unless contentsTest alphabetTest lettersOf insideTest rowInside numberedTest rowNumbered across seen machineOf marksOf movesOf marksTest marks live liveRound liveNext reducedTest classes settle rounds refine firsts
 no-letters-load = (refl, refl)
 
+no-letters-tests : (loadTest narrow (noLetters 1) ≡ 0) × (loadTest narrow (noLetters 2) ≡ 0)
+unfolding loadTest unless contentsTest alphabetTest lettersOf insideTest rowInside numberedTest rowNumbered across seen machineOf marksOf movesOf marksTest marks live liveRound liveNext reducedTest classes settle rounds refine firsts
+no-letters-tests = (refl, refl)
+
 -- marks 00 and 03; no state, two states
 pub no-letters-refusals : map (load narrow) (noLetters 0 ∷ noLetters 3 ∷ (0x0C ∷ 0 ∷ 0 ∷ 0 ∷ 0x0C ∷ 0 ∷ 0 ∷ 0 ∷ 0x0C ∷ 0 ∷ 0 ∷ 0 ∷ []) ∷ (0x0C ∷ 0 ∷ 0 ∷ 0 ∷ 0x0C ∷ 0 ∷ 2 ∷ 0 ∷ 0x0E ∷ 0 ∷ 0 ∷ 0 ∷ 1 ∷ 2 ∷ []) ∷ [])
     ≡ rejected 25 ∷ rejected 25 ∷ rejected 21 ∷ rejected 24 ∷ []
@@ -48,18 +55,13 @@ unfolding load loadTest unless contentsTest alphabetTest lettersOf insideTest ro
 no-letters-refusals = refl
 
 -- the empty plan, and a letter; where nothing is allowed the empty plan is hopeless 0
-pub no-letters-judge : map (judge narrow (noLetters 1)) ([] ∷ (97 ∷ []) ∷ []) ≡ verdict allowed ∷ refused 27 0 ∷ []
-unfolding judge loadTest unless contentsTest alphabetTest lettersOf insideTest rowInside numberedTest rowNumbered across seen machineOf marksOf movesOf marksTest marks live liveRound liveNext reducedTest classes settle rounds refine firsts
+pub no-letters-judge : map (judge narrow (noLetters 1)) ([] ∷ (97 ∷ []) ∷ []) ≡ answered allowed ∷ refused 27 0 ∷ []
+unfolding judge asked loadTest unless contentsTest alphabetTest lettersOf insideTest rowInside numberedTest rowNumbered across seen machineOf marksOf movesOf marksTest marks live liveRound liveNext reducedTest classes settle rounds refine firsts
 no-letters-judge = refl
 
-pub no-letters-hopeless : map (judge narrow (noLetters 2)) ([] ∷ (97 ∷ []) ∷ []) ≡ verdict (hopeless 0) ∷ refused 27 0 ∷ []
-unfolding judge loadTest unless contentsTest alphabetTest lettersOf insideTest rowInside numberedTest rowNumbered across seen machineOf marksOf movesOf marksTest marks live liveRound liveNext reducedTest classes settle rounds refine firsts
+pub no-letters-hopeless : map (judge narrow (noLetters 2)) ([] ∷ (97 ∷ []) ∷ []) ≡ answered (hopeless 0) ∷ refused 27 0 ∷ []
+unfolding judge asked loadTest unless contentsTest alphabetTest lettersOf insideTest rowInside numberedTest rowNumbered across seen machineOf marksOf movesOf marksTest marks live liveRound liveNext reducedTest classes settle rounds refine firsts
 no-letters-hopeless = refl
-
--- a step: today's boards know no such letter, mounted ones no such card
-pub no-letters-step : stepOn narrow (noLetters 1) 0 97 ∷ stepOn mounted (noLetters 1) 0 97 ∷ [] ≡ stopped 27 ∷ stopped 21 ∷ []
-unfolding stepOn unless contentsTest lettersOf
-no-letters-step = refl
 
 -- "Only the empty plan can be judged there.": any other is 27, with no letter before the first foreign one.
 pub only-empty : (fmt : Format) (c : List ℕ) → loadTest fmt c ≡ 0 → letterCount fmt c ≡ 0 → (l : ℕ) (plan : List ℕ) → judge fmt c (l ∷ plan) ≡ refused 27 0
@@ -67,9 +69,17 @@ only-empty fmt c z e l plan =
     replies-only fmt c (l ∷ plan) (refused 27 0)
     (unknown-letter z 0 (zero-lt-suc (length plan)) (λ i h. absurd (not-suc-le-zero h)) (omega (arith, letters-length fmt c (load-loaded fmt c z .contents), e)))
 
--- A step there is 27, by every letter and from every state, on tested bytes or not.
-pub no-letters-steps : (fmt : Format) (c : List ℕ) → Contents fmt c → letterCount fmt c ≡ 0 → (p l : ℕ) → stepOn fmt c p l ≡ stopped 27
-no-letters-steps fmt c r e p l = steps-only fmt c p l (stopped 27) (step-unknown r (λ i h. absurd (omega (arith, h, e))))
+-- A step there is 27, by every letter and from every state.
+pub no-letters-steps : (fmt : Format) (c : List ℕ) → loadTest fmt c ≡ 0 → letterCount fmt c ≡ 0 → (p l : ℕ) → stepOn fmt c p l ≡ stopped 27
+no-letters-steps fmt c z e p l = steps-only fmt c p l (stopped 27) (step-unknown z (λ i h. absurd (omega (arith, h, e))))
+
+-- So it is on boards that were mounted after W2, on tested bytes or not.
+pub no-letters-mounted-steps : (fmt : Format) (c : List ℕ) → Contents fmt c → letterCount fmt c ≡ 0 → (p l : ℕ) → mountedStep fmt c p l ≡ MountedStep.stopped 27
+no-letters-mounted-steps fmt c r e p l = mounted-steps-only fmt c p l (MountedStep.stopped 27) (MountedStep.step-unknown r (λ i h. absurd (omega (arith, h, e))))
+
+-- a step: today's boards know no such letter, those mounted before W2 no such card
+pub no-letters-step : (stepOn narrow (noLetters 1) 0 97 ≡ stopped 27) × (mountedStep mounted (noLetters 1) 0 97 ≡ MountedStep.stopped 21)
+no-letters-step = (no-letters-steps narrow (noLetters 1) (no-letters-tests .0) refl 0 97, mounted-stops (noLetters 1) refl 0 97)
 
 -- ---- their machines
 

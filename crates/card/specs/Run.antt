@@ -8,7 +8,8 @@ use Rattle.automata.specs.Format.{Format}
 use Rattle.card.specs.Layout.{moveAt, lettersOf}
 use Rattle.card.specs.Alphabet.{column}
 use Rattle.card.specs.Verdict.{Verdict, hopeless}
-use Rattle.card.specs.Judge.{Place, none, found, byPlace, deadAt, verdictAt, Reply, verdict, refused}
+use Rattle.card.specs.Reply.{Reply, answered, refused}
+use Rattle.card.specs.Judge.{Place, none, found, byPlace, deadAt, verdictAt}
 
 -- ---- what is kept
 
@@ -51,5 +52,5 @@ runOn fmt c r (l ∷ plan) = runOn fmt c (runLetter fmt c r l) plan
 abbrev pub runVerdict : Format → List ℕ → Run → Verdict
 runVerdict fmt c r = byPlace (r .dead) hopeless (λ _. verdictAt fmt c (r .state))
 
-abbrev pub runReply : Format → List ℕ → Run → Reply
-runReply fmt c r = byPlace (r .unknown) (refused 27) (λ _. verdict (runVerdict fmt c r))
+abbrev pub runReply : Format → List ℕ → Run → Reply Verdict
+runReply fmt c r = byPlace (r .unknown) (refused 27) (λ _. answered (runVerdict fmt c r))

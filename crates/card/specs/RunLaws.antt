@@ -22,7 +22,8 @@ use Rattle.card.specs.Alphabet.{column, columns, Known, knownCount, Coun
 use Rattle.card.specs.Load.{loadTest}
 use Rattle.card.specs.Loads.{Loaded, loaded-formed}
 use Rattle.card.specs.Allowed.{known-count}
-use Rattle.card.specs.Judge.{Place, none, found, byPlace, deadAt, stateAfter, firstDead, planVerdict, verdict, refused, judge}
+use Rattle.card.specs.Reply.{answered, refused, asked}
+use Rattle.card.specs.Judge.{Place, none, found, byPlace, deadAt, stateAfter, firstDead, planVerdict, judge}
 use Rattle.card.specs.Run.{Run, going, halted, runStart, taken, runLetter, runOn, runReply}
 
 module _ (fmt : Format) (c : List ℕ) where
@@ -119,11 +120,11 @@ module _ (fmt : Format) (c : List ℕ) where
 
   -- JUDGING a plan on a card that loads is the reply of the run over the whole plan.
   pub judge-run : loadTest fmt c ≡ 0 → (plan : List ℕ) → judge fmt c plan ≡ runReply fmt c (runOn fmt c (runStart fmt c) plan)
-  unfolding judge unless
+  unfolding judge asked unless
   judge-run e plan = rw e (go (knownCount ls plan) refl (counted ls plan))
     where
       go : (n : ℕ) → knownCount ls plan ≡ n → Counted ls plan n
-          → unless (refused 27 (knownCount ls plan)) (eqb (knownCount ls plan) (length plan)) (λ _. verdict (planVerdict fmt c plan)) ≡ runReply fmt c (runOn fmt c (runStart fmt c) plan)
+          → unless (refused 27 (knownCount ls plan)) (eqb (knownCount ls plan) (length plan)) (λ _. answered (planVerdict fmt c plan)) ≡ runReply fmt c (runOn fmt c (runStart fmt c) plan)
       go n z (all-known o) =
           rw (known-count ls plan o, nat-test .whole (length plan))
           (ap (runReply fmt c) (sym (run-known plan o)))

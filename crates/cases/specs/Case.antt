@@ -8,7 +8,8 @@ use Rattle.automata.specs.Format.{narrow}
 use Rattle.automata.specs.Given.{allMachine, markMachine}
 use Rattle.card.specs.Alphabet.{Known}
 use Rattle.card.specs.Verdict.{Verdict}
-use Rattle.card.specs.Judge.{judge, verdict, Reply}
+use Rattle.card.specs.Reply.{Reply, answered as verdict}
+use Rattle.card.specs.Judge.{judge}
 use Rattle.book.specs.Text.{linesOf}
 use Rattle.compiler.specs.Allows.{bookLetters}
 use Rattle.compiler.specs.Outcome.{Outcome, card, stop, outcome}
@@ -28,7 +29,7 @@ pub data Case : Type 0 where
   -- compiled with work buffers of these lengths and a card buffer of this one, the text is answered so
   answered : (text lent : List ℕ) (room : ℕ) → Outcome → Case
   -- its card judges these plans so
-  judged : (text : List ℕ) → List (String × Reply) → Case
+  judged : (text : List ℕ) → List (String × Reply Verdict) → Case
   -- its card judges every plan of its letters so
   always : (text : List ℕ) → Verdict → Case
   -- joining `.*` and M over so many letters makes so many sets
@@ -62,5 +63,5 @@ pub data AllHold : List Case → Type 0 where
 abbrev pub compiles : String → Outcome → Case
 compiles book o = answered (bytesOf book) documented ample o
 
-abbrev pub judges : String → List (String × Reply) → Case
+abbrev pub judges : String → List (String × Reply Verdict) → Case
 judges book plans = judged (bytesOf book) plans

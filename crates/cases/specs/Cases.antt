@@ -22,9 +22,11 @@ use Rattle.language.specs.Evaluate.{evaluate, markedStages, minusContexts, eras
 use Rattle.card.specs.Mark.{marks}
 use Rattle.card.specs.Layout.{encode, contentsTest, lettersOf, marksOf, movesOf, machineOf}
 use Rattle.card.specs.Load.{loadTest, insideTest, rowInside, marksTest}
-use Rattle.card.specs.Verdict.{allowed, unfinished, hopeless}
-use Rattle.card.specs.Judge.{Reply, judge, planVerdict, verdict, refused as notJudged}
+use Rattle.card.specs.Verdict.{Verdict, allowed, unfinished, hopeless}
+use Rattle.card.specs.Reply.{Reply, asked, answered as verdict, refused as notJudged}
+use Rattle.card.specs.Judge.{judge, planVerdict}
 use Rattle.automata.specs.Decide.{unless}
+use Rattle.automata.specs.Distance.{distance}
 use Rattle.automata.specs.Numbering.{seen, across}
 use Rattle.automata.specs.NumberingTest.{numberedTest, rowNumbered}
 use Rattle.card.specs.Alphabet.{alphabetTest}
@@ -72,7 +74,7 @@ overlapping = 12 ∷ 0 ∷ 2 ∷ 0 ∷ 14 ∷ 0 ∷ 4 ∷ 0 ∷ 18 ∷ 0 ∷ 8 �
 abbrev pub firstBook : String
 firstBook = ":ab\n>b / .*a _ .*\n"
 
-abbrev pub firstPlans : List (String × Reply)
+abbrev pub firstPlans : List (String × Reply Verdict)
 firstPlans = ("ab", verdict allowed) ∷ ("abb", verdict (hopeless 3)) ∷ ("b", verdict (hopeless 1)) ∷ []
 
 abbrev pub nothingBook : String
@@ -85,8 +87,8 @@ alwaysHopeless = always (bytesOf nothingBook) (hopeless 0)
 abbrev pub twoBook : String
 twoBook = ":abc\n>b / a _ a / c _ c\n"
 
-abbrev pub twoPlans : List (String × Reply)
-twoPlans = ("aba", verdict allowed) ∷ ("ab", verdict unfinished) ∷ ("abc", verdict (hopeless 3)) ∷ []
+abbrev pub twoPlans : List (String × Reply Verdict)
+twoPlans = ("aba", verdict allowed) ∷ ("ab", verdict (unfinished 1)) ∷ ("abc", verdict (hopeless 3)) ∷ []
 
 -- the documented lengths, but that the first, or the last, is one less
 abbrev pub firstShort : List ℕ
@@ -105,7 +107,7 @@ cases =
     ∷ compiles nothingBook (card nothing 8)
     ∷ alwaysHopeless
     ∷ compiles ":ab\n>a / .* _ .*\n" (card everything 7)
-    ∷ judges ":ab\n>a / .* _ .*b.*\n" (("a", verdict unfinished) ∷ ("ab", verdict allowed) ∷ [])
+    ∷ judges ":ab\n>a / .* _ .*b.*\n" (("a", verdict (unfinished 1)) ∷ ("ab", verdict allowed) ∷ [])
     ∷ judges twoBook twoPlans
     ∷ joining 2 5
     -- a pattern that holds the empty plan, a call at every gap; calls that overlap; the contexts taken off one by one
@@ -183,27 +185,27 @@ cases =
 -- ---- cards of several cases, each computed once
 
 first-card : Holds (compiles firstBook (card firstCard 9))
-unfolding explore exploreFrom listing turn addTo add classes settle rounds refine firsts smallest smallestBy tabulated smallestOf subset gains pair-test stage keep pairStage concatStage starStage eraseStage lineTest formOf readHead readLine checkForm evaluate markedStages minusContexts eraseAndExclude evaluateRule compileForm compileLine compileLines compileHead compileText compileBook outcome cardOf restrict encode marks live liveRound liveNext loadTest contentsTest insideTest rowInside marksTest numberedTest reducedTest judge lettersOf marksOf movesOf machineOf unless alphabetTest rowNumbered seen across
+unfolding explore exploreFrom listing turn addTo add classes settle rounds refine firsts smallest smallestBy tabulated smallestOf subset gains pair-test stage keep pairStage concatStage starStage eraseStage lineTest formOf readHead readLine checkForm evaluate markedStages minusContexts eraseAndExclude evaluateRule compileForm compileLine compileLines compileHead compileText compileBook outcome cardOf restrict encode marks live liveRound liveNext loadTest contentsTest insideTest rowInside marksTest numberedTest reducedTest judge asked distance lettersOf marksOf movesOf machineOf unless alphabetTest rowNumbered seen across
 first-card = refl
 
 nothing-card : Holds (compiles nothingBook (card nothing 8))
-unfolding explore exploreFrom listing turn addTo add classes settle rounds refine firsts smallest smallestBy tabulated smallestOf subset gains pair-test stage keep pairStage concatStage starStage eraseStage lineTest formOf readHead readLine checkForm evaluate markedStages minusContexts eraseAndExclude evaluateRule compileForm compileLine compileLines compileHead compileText compileBook outcome cardOf restrict encode marks live liveRound liveNext loadTest contentsTest insideTest rowInside marksTest numberedTest reducedTest judge lettersOf marksOf movesOf machineOf unless alphabetTest rowNumbered seen across
+unfolding explore exploreFrom listing turn addTo add classes settle rounds refine firsts smallest smallestBy tabulated smallestOf subset gains pair-test stage keep pairStage concatStage starStage eraseStage lineTest formOf readHead readLine checkForm evaluate markedStages minusContexts eraseAndExclude evaluateRule compileForm compileLine compileLines compileHead compileText compileBook outcome cardOf restrict encode marks live liveRound liveNext loadTest contentsTest insideTest rowInside marksTest numberedTest reducedTest judge asked distance lettersOf marksOf movesOf machineOf unless alphabetTest rowNumbered seen across
 nothing-card = refl
 
 two-card : Holds (compiles twoBook (card twoContexts 16))
-unfolding explore exploreFrom listing turn addTo add classes settle rounds refine firsts smallest smallestBy tabulated smallestOf subset gains pair-test stage keep pairStage concatStage starStage eraseStage lineTest formOf readHead readLine checkForm evaluate markedStages minusContexts eraseAndExclude evaluateRule compileForm compileLine compileLines compileHead compileText compileBook outcome cardOf restrict encode marks live liveRound liveNext loadTest contentsTest insideTest rowInside marksTest numberedTest reducedTest judge lettersOf marksOf movesOf machineOf unless alphabetTest rowNumbered seen across
+unfolding explore exploreFrom listing turn addTo add classes settle rounds refine firsts smallest smallestBy tabulated smallestOf subset gains pair-test stage keep pairStage concatStage starStage eraseStage lineTest formOf readHead readLine checkForm evaluate markedStages minusContexts eraseAndExclude evaluateRule compileForm compileLine compileLines compileHead compileText compileBook outcome cardOf restrict encode marks live liveRound liveNext loadTest contentsTest insideTest rowInside marksTest numberedTest reducedTest judge asked distance lettersOf marksOf movesOf machineOf unless alphabetTest rowNumbered seen across
 two-card = refl
 
-by-card : (text c : List ℕ) (peak : ℕ) (plans : List (String × Reply)) → Holds (answered text documented ample (card c peak))
+by-card : (text c : List ℕ) (peak : ℕ) (plans : List (String × Reply Verdict)) → Holds (answered text documented ample (card c peak))
     → map (λ p. judge narrow c (bytesOf (p .0))) plans ≡ map (λ p. p .1) plans → Holds (judged text plans)
 by-card text c peak plans e h = rw e h
 
 first-judged : Holds (judges firstBook firstPlans)
-unfolding loadTest contentsTest insideTest rowInside marksTest numberedTest reducedTest rowNumbered seen across alphabetTest lettersOf marksOf movesOf machineOf unless marks live liveRound liveNext classes settle rounds refine firsts judge
+unfolding loadTest contentsTest insideTest rowInside marksTest numberedTest reducedTest rowNumbered seen across alphabetTest lettersOf marksOf movesOf machineOf unless marks live liveRound liveNext classes settle rounds refine firsts judge asked distance
 first-judged = by-card (bytesOf firstBook) firstCard 9 firstPlans first-card refl
 
 two-judged : Holds (judges twoBook twoPlans)
-unfolding loadTest contentsTest insideTest rowInside marksTest numberedTest reducedTest rowNumbered seen across alphabetTest lettersOf marksOf movesOf machineOf unless marks live liveRound liveNext classes settle rounds refine firsts judge
+unfolding loadTest contentsTest insideTest rowInside marksTest numberedTest reducedTest rowNumbered seen across alphabetTest lettersOf marksOf movesOf machineOf unless marks live liveRound liveNext classes settle rounds refine firsts judge asked distance
 two-judged = by-card (bytesOf twoBook) twoContexts 16 twoPlans two-card refl
 
 -- ---- "every plan hopeless 0"
@@ -217,7 +219,7 @@ dead-at-once [] = refl
 dead-at-once (l ∷ plan) = refl
 
 always-hopeless : Holds alwaysHopeless
-unfolding judge unless lettersOf
+unfolding judge asked unless lettersOf
 always-hopeless plan k = rw (nothing-card, nothing-loads, known-count (97 ∷ 98 ∷ []) plan k, nat-test .whole (length plan), dead-at-once plan)
 
 -- ---- "makes 5 sets"
@@ -234,7 +236,7 @@ counted k n A r (too-many-sets c) e = absurd (omega arith)
 counted k n A r (too-many-states i N C h s b) e = absurd (omega arith)
 
 five : countOf (concatStage narrow 3 (allMachine 2) (markMachine 2)) ≡ 5
-unfolding explore exploreFrom listing turn addTo add classes settle rounds refine firsts smallest smallestBy tabulated smallestOf subset gains pair-test stage keep pairStage concatStage starStage eraseStage lineTest formOf readHead readLine checkForm evaluate markedStages minusContexts eraseAndExclude evaluateRule compileForm compileLine compileLines compileHead compileText compileBook outcome cardOf restrict encode marks live liveRound liveNext loadTest contentsTest insideTest rowInside marksTest numberedTest reducedTest judge lettersOf marksOf movesOf machineOf unless alphabetTest rowNumbered seen across
+unfolding explore exploreFrom listing turn addTo add classes settle rounds refine firsts smallest smallestBy tabulated smallestOf subset gains pair-test stage keep pairStage concatStage starStage eraseStage lineTest formOf readHead readLine checkForm evaluate markedStages minusContexts eraseAndExclude evaluateRule compileForm compileLine compileLines compileHead compileText compileBook outcome cardOf restrict encode marks live liveRound liveNext loadTest contentsTest insideTest rowInside marksTest numberedTest reducedTest judge asked distance lettersOf marksOf movesOf machineOf unless alphabetTest rowNumbered seen across
 five = refl
 
 five-sets : Holds (joining 2 5)
@@ -242,7 +244,7 @@ five-sets = counted 3 4 _ (concatStage narrow 3 (allMachine 2) (markMachine 2)) 
 
 -- THE CASES hold.
 pub cases-hold : AllHold cases
-unfolding explore exploreFrom listing turn addTo add classes settle rounds refine firsts smallest smallestBy tabulated smallestOf subset gains pair-test stage keep pairStage concatStage starStage eraseStage lineTest formOf readHead readLine checkForm evaluate markedStages minusContexts eraseAndExclude evaluateRule compileForm compileLine compileLines compileHead compileText compileBook outcome cardOf restrict encode marks live liveRound liveNext loadTest contentsTest insideTest rowInside marksTest numberedTest reducedTest judge lettersOf marksOf movesOf machineOf unless alphabetTest rowNumbered seen across
+unfolding explore exploreFrom listing turn addTo add classes settle rounds refine firsts smallest smallestBy tabulated smallestOf subset gains pair-test stage keep pairStage concatStage starStage eraseStage lineTest formOf readHead readLine checkForm evaluate markedStages minusContexts eraseAndExclude evaluateRule compileForm compileLine compileLines compileHead compileText compileBook outcome cardOf restrict encode marks live liveRound liveNext loadTest contentsTest insideTest rowInside marksTest numberedTest reducedTest judge asked distance lettersOf marksOf movesOf machineOf unless alphabetTest rowNumbered seen across
 cases-hold =
     first-card and first-judged and refl and refl and nothing-card and always-hopeless and refl and refl and
     two-judged and five-sets and refl and refl and two-card and refl and refl and refl and refl and refl and refl and refl and refl and refl and refl and refl and refl and refl and refl and refl and refl and

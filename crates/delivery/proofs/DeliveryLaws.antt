@@ -11,7 +11,8 @@ use Rattle.card.specs.LayoutLaws.{encode-letterCount, encode-stateCount}
 use Rattle.card.specs.Loads.{card-fits, load-loaded}
 use Rattle.card.specs.Answer.{holds, load, load-holds}
 use Rattle.card.specs.Verdict.{allowed, unfinished, hopeless}
-use Rattle.card.specs.Judge.{judge, unknown-letter}
+use Rattle.card.specs.Reply.{unknown-letter}
+use Rattle.card.specs.Judge.{judge}
 use Rattle.card.specs.JudgeLaws.{replies-only}
 use Rattle.card.specs.Demand.{Demand3}
 use Rattle.compiler.specs.Outcome.{Outcome, card, stop, answer, outcome, card-stands}
@@ -25,7 +26,7 @@ use Rattle.handing.specs.Answers.{boardSays, delivery}
 use Rattle.handing.specs.Answers as A
 use Rattle.handing.specs.Handing.{Within, handed}
 use Rattle.delivery.specs.Delivers.{lettersIn, Accepted, Delivers}
-use Rattle.delivery.proofs.VerdictLaws.{verdict-means}
+use Rattle.delivery.proofs.VerdictLaws.{verdict-means, other-means}
 
 -- ---- an accepted book
 
@@ -80,10 +81,11 @@ module _ (text plan lent old new : List ℕ) where
       replied = refl;
       laid-out = demand .laid-out .2;
       numbered = demand .laid-out .1;
-      judges = λ k. (demand .verdicts plan k .answer, demand .verdicts plan k .answered);
+      judges = λ k. (demand .verdicts plan k .answer, demand .verdicts plan k .replied);
       allows = λ k. verdict-means text plan c (demand .verdicts plan k) allowed;
       hopeless-after = λ k j. verdict-means text plan c (demand .verdicts plan k) (hopeless j);
-      other = λ k. verdict-means text plan c (demand .verdicts plan k) unfinished;
+      other = λ k. other-means text plan c (demand .verdicts plan k);
+      owed = λ k j. verdict-means text plan c (demand .verdicts plan k) (unfinished j);
       obeys = λ k.
           let a = verdict-means text plan c (demand .verdicts plan k) allowed in
           let o = rules-obeyed documented text lent (length old) c peak e plan k in

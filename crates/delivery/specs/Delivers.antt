@@ -15,8 +15,9 @@ use Rattle.card.specs.Layout.{encode}
 use Rattle.card.specs.Loads as Loads
 use Rattle.card.specs.Answer.{load, holds}
 use Rattle.card.specs.Verdict.{Verdict, allowed, unfinished, hopeless}
-use Rattle.card.specs.Judge.{Reply, verdict, judge}
-use Rattle.card.specs.Judge as Judge
+use Rattle.card.specs.Reply.{Reply, answered}
+use Rattle.card.specs.Reply as Reply
+use Rattle.card.specs.Judge.{judge}
 use Rattle.card.specs.Demand.{Demand3}
 use Rattle.book.specs.Text.{linesOf}
 use Rattle.compiler.specs.Allows.{bookLetters, bookRules}
@@ -41,6 +42,12 @@ pub record HopelessAfter (text plan : List ℕ) (k : ℕ) : Type 0 where
   pub none : NoneBegins text plan k
   pub least : (j : ℕ) → j < k → ¬ NoneBegins text plan j
 
+-- "the fewest further letters after which the plan is allowed" are k: "the least over all continuations and one of that length exists"
+pub record OwedAfter (text plan : List ℕ) (k : ℕ) : Type 0 where
+  pub not-yet : ¬ (bookAllows text plan ≡ true)
+  pub reached : (rest : List ℕ) × (length rest ≡ k) × (bookAllows text (plan ++ rest) ≡ true)
+  pub least : (more : List ℕ) → bookAllows text (plan ++ more) ≡ true → k ≤ length more
+
 -- j letters of the book "precede the first foreign one"
 pub record ForeignAfter (text plan : List ℕ) (j : ℕ) : Type 0 where
   pub within : j < length plan
@@ -51,7 +58,7 @@ pub record ForeignAfter (text plan : List ℕ) (j : ℕ) : Type 0 where
 pub record Accepted (text plan c : List ℕ) (peak : ℕ) (old new : List ℕ) (r : Delivered) : Type 0 where
   -- the machine on the card, and what judging replied
   pub machine : Machine
-  pub reply : Reply
+  pub reply : Reply Verdict
   -- "Success returns the card's length and the peak"; the board loads the card, with the book's letters and the machine's states, and replies
   pub answer : delivery r ≡ card (length c) peak (judged (length (lettersIn text)) (size machine) reply)
   -- "its card is then the card buffer's bytes up to that length"; "bytes past that length are unchanged"
@@ -63,18 +70,20 @@ pub record Accepted (text plan c : List ℕ) (peak : ℕ) (old new : List ℕ) (
   pub laid-out : c ≡ encode narrow (lettersIn text) machine
   pub numbered : Loads.Card narrow (lettersIn text) machine
   -- "For every plan of the book's letters that one slice can hold, judging answers with a verdict and no refusal:
-  pub judges : Known (lettersIn text) plan → (v : Verdict) × (reply ≡ verdict v)
+  pub judges : Known (lettersIn text) plan → (v : Verdict) × (reply ≡ answered v)
   -- allowed exactly when the book allows the plan;
-  pub allows : Known (lettersIn text) plan → (reply ≡ verdict allowed) ↔ (bookAllows text plan ≡ true)
+  pub allows : Known (lettersIn text) plan → (reply ≡ answered allowed) ↔ (bookAllows text plan ≡ true)
   -- hopeless after k letters exactly when no plan that the book allows begins with the plan's first k letters and k is the least such number;
-  pub hopeless-after : Known (lettersIn text) plan → (k : ℕ) → (reply ≡ verdict (hopeless k)) ↔ HopelessAfter text plan k
+  pub hopeless-after : Known (lettersIn text) plan → (k : ℕ) → (reply ≡ answered (hopeless k)) ↔ HopelessAfter text plan k
   -- unfinished in every other case."
-  pub other : Known (lettersIn text) plan → (reply ≡ verdict unfinished) ↔ ((¬ (bookAllows text plan ≡ true)) × ((k : ℕ) → ¬ HopelessAfter text plan k))
+  pub other : Known (lettersIn text) plan → ((k : ℕ) × (reply ≡ answered (unfinished k))) ↔ ((¬ (bookAllows text plan ≡ true)) × ((k : ℕ) → ¬ HopelessAfter text plan k))
+  -- "The verdict now carries the fewest further letters after which the plan is allowed."
+  pub owed : Known (lettersIn text) plan → (k : ℕ) → (reply ≡ answered (unfinished k)) ↔ OwedAfter text plan k
   -- demand 2 of this plan: "exactly when, for every rule in the book and every cut of the plan into left, middle and right with the middle in the
   -- rule's pattern, one listed context has both that left and that right"
-  pub obeys : Known (lettersIn text) plan → (reply ≡ verdict allowed) ↔ Obeys (bookRules (linesOf text)) (columns (lettersIn text) plan)
+  pub obeys : Known (lettersIn text) plan → (reply ≡ answered allowed) ↔ Obeys (bookRules (linesOf text)) (columns (lettersIn text) plan)
   -- of any other plan: "27 in judging adds how many letters precede the first foreign one"
-  pub foreign : (j : ℕ) → ForeignAfter text plan j → reply ≡ Judge.refused 27 j
+  pub foreign : (j : ℕ) → ForeignAfter text plan j → reply ≡ Reply.refused 27 j
   -- "Every other complete deterministic machine over those letters that allows the same plans as the book, of every length, has at least as many
   -- states as the card."
   pub least : (B : Automaton ℕ) (m : ℕ) → Complete (length (lettersIn text)) m B

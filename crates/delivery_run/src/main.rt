@@ -16,8 +16,8 @@ fn say_verdict(verdict: Verdict) {
         Verdict::Allowed => {
             io::write_all(STDOUT_FILENO, b"allowed");
         }
-        Verdict::Unfinished => {
-            io::write_all(STDOUT_FILENO, b"unfinished");
+        Verdict::Unfinished(owed) => {
+            say(b"unfinished ", owed);
         }
         Verdict::Hopeless(k) => {
             say(b"hopeless ", k);

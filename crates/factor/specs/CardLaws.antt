@@ -1,32 +1,31 @@
 -- On a card that loads the test of a factor is exact; so the reply is right, for every row of bytes as card and every plan, and one reply only is.
 use mathlib.Core.Path.{_≡_, refl, sym, ap, _∙_}
 use mathlib.Core.Bool.{true, false, not}
-use mathlib.Core.Logic.{_⊎_, inl, inr, _↔_, _≢_}
+use mathlib.Core.Logic.{_↔_, _≢_}
 use mathlib.Core.List.{List, [], _++_, append-nil, append-assoc}
 use Prim.Native.Nat.{ℕ, zero, _<_}
-use native.Mathlib.Omega.{arith}
 use lib.ListN.{length, take, drop, take-append-drop}
 use lib.Dec.{eqb}
-use Rattle.automata.specs.Booleans.{bool-cases, not-true}
-use Rattle.automata.specs.Basics.{LtCases, lt-cases, nat-test}
+use Rattle.automata.specs.Booleans.{not-true}
+use Rattle.automata.specs.Basics.{nat-test}
 use Rattle.automata.specs.Automaton.{Over, run, run-append, Reachable}
 use Rattle.automata.specs.Machine.{Machine, automaton, access, run-inside}
-use Rattle.automata.specs.Decide.{unless, unless-elim, contradict, any-below, below-any}
+use Rattle.automata.specs.Decide.{contradict, any-below, below-any}
 use Rattle.automata.specs.Format.{Format}
 use Rattle.card.specs.Mark.{Mark, is-accepting, is-dead, is-live}
 use Rattle.card.specs.Layout.{letterCount, stateCount, markAt, lettersOf, machineOf}
 use Rattle.card.specs.LayoutLaws.{letters-length, size-is}
-use Rattle.card.specs.Alphabet.{columns, columns-append, columns-spell, spell, Known, known-left, known-append, known-at, knownCount, Counted, counted, all-known, first-unknown}
+use Rattle.card.specs.Alphabet.{columns, columns-append, columns-spell, spell, Known, known-left, known-append}
 use Rattle.card.specs.Load.{loadTest}
-use Rattle.card.specs.LoadLaws.{tested, tested-only}
 use Rattle.card.specs.Loads.{Loaded, load-loaded, loaded-formed}
-use Rattle.card.specs.Allowed.{count-known, allows-iff, allows-word, known-right}
+use Rattle.card.specs.Allowed.{allows-iff, allows-word, known-right}
 use Rattle.card.specs.Verdict.{Verdict, hopeless, Says, is-allowed, is-unfinished, is-hopeless}
-use Rattle.card.specs.Judge.{stateAfter, cardAllows, judge, verdict, refused as refused′}
+use Rattle.card.specs.Reply.{Reply, answered, refused, is-answered, asked-replies, replies-one, reply-right, refused-alike}
+use Rattle.card.specs.Judge.{stateAfter, planVerdict, cardAllows, judge}
 use Rattle.card.specs.JudgeLaws.{judge-iff}
 use Rattle.card.specs.RunLaws.{state-machine}
 use Rattle.factor.specs.Factor.{factor, Inside, Shortest, none, at, Blames, blames-one, blames-none, nothing-empty}
-use Rattle.factor.specs.Shortest.{liesInside, shortestBy, Reply, found, refused, shortest, Replies, no-card, unknown-letter, blamed}
+use Rattle.factor.specs.Shortest.{liesInside, shortestBy, shortest, Searches}
 use Rattle.factor.specs.ShortestLaws.{failed, shortest-blames}
 
 -- A factor of known letters has known letters.
@@ -156,88 +155,47 @@ module _ (fmt : Format) (c : List ℕ) (l : Loaded fmt c) where
 -- ---- every reply
 
 -- THE SEARCH replies so,
-pub replies : (fmt : Format) (c plan : List ℕ) → Replies fmt c plan (shortest fmt c plan)
+pub replies : (fmt : Format) (c plan : List ℕ) → Searches fmt c plan (shortest fmt c plan)
 unfolding shortest
-replies fmt c plan =
-    unless-elim (Replies fmt c plan) (refused (loadTest fmt c) 0) (eqb (loadTest fmt c) 0) _
-    (λ e. no-card (loadTest fmt c) (λ z. contradict (rw z (nat-test .whole 0)) e) (tested fmt c)) λ e₁.
-    let z : loadTest fmt c ≡ 0 = nat-test .sound (loadTest fmt c) 0 e₁ in
-    unless-elim (Replies fmt c plan) (refused 27 (knownCount (lettersOf fmt c) plan)) (eqb (knownCount (lettersOf fmt c) plan) (length plan)) _
-    (λ e. unknown-at z (knownCount (lettersOf fmt c) plan) e (counted (lettersOf fmt c) plan)) λ e₂.
-    let o : Known (lettersOf fmt c) plan = count-known (lettersOf fmt c) plan (nat-test .sound (knownCount (lettersOf fmt c) plan) (length plan) e₂) in
-    blamed z o (shortestBy (liesInside fmt c) plan) (loaded-blames fmt c (load-loaded fmt c z) plan o)
-  where
-    unknown-at : loadTest fmt c ≡ 0 → (n : ℕ) → eqb n (length plan) ≡ false → Counted (lettersOf fmt c) plan n → Replies fmt c plan (refused 27 n)
-    unknown-at z n e (all-known o) = contradict (nat-test .whole (length plan)) e
-    unknown-at z n e (first-unknown j b f x) = unknown-letter z j b f x
+replies fmt c plan = asked-replies fmt c plan (Blames (cardAllows fmt c) plan) (shortestBy (liesInside fmt c) plan) (λ z o. loaded-blames fmt c (load-loaded fmt c z) plan o)
 
 -- and one reply only is right.
-pub replies-only : (fmt : Format) (c plan : List ℕ) (r : Reply) → Replies fmt c plan r → shortest fmt c plan ≡ r
-replies-only fmt c plan r a = go (shortest fmt c plan) r (replies fmt c plan) a
-  where
-    go : (r r′ : Reply) → Replies fmt c plan r → Replies fmt c plan r′ → r ≡ r′
-    go r r′ (no-card v n t) (no-card v′ n′ t′) = ap (λ v. refused v 0) (sym (tested-only fmt c v t) ∙ tested-only fmt c v′ t′)
-    go r r′ (no-card v n t) (unknown-letter z j b f x) = absurd (n (sym (tested-only fmt c v t) ∙ z))
-    go r r′ (no-card v n t) (blamed z o s y) = absurd (n (sym (tested-only fmt c v t) ∙ z))
-    go r r′ (unknown-letter z j b f x) (no-card v n t) = absurd (n (sym (tested-only fmt c v t) ∙ z))
-    go r r′ (unknown-letter z j b f x) (unknown-letter z′ j′ b′ f′ x′) = ap (refused 27) (at (lt-cases j j′) (lt-cases j′ j))
-      where
-        at : LtCases j j′ → LtCases j′ j → j ≡ j′
-        at (inl p) q = let y = f′ j (p .0) in absurd (omega arith)
-        at (inr p) (inl q) = let y = f j′ (q .0) in absurd (omega arith)
-        at (inr p) (inr q) = omega arith
-    go r r′ (unknown-letter z j b f x) (blamed z′ o s y) = let y = known-at (lettersOf fmt c) plan o j b in absurd (omega arith)
-    go r r′ (blamed z o s y) (no-card v′ n t) = absurd (n (sym (tested-only fmt c v′ t) ∙ z))
-    go r r′ (blamed z o s y) (unknown-letter z′ j b f x) = let y = known-at (lettersOf fmt c) plan o j b in absurd (omega arith)
-    go r r′ (blamed z o s y) (blamed z′ o′ s′ y′) = ap found (blames-one (cardAllows fmt c) plan s s′ y y′)
+pub replies-only : (fmt : Format) (c plan : List ℕ) (r : Reply Shortest) → Searches fmt c plan r → shortest fmt c plan ≡ r
+replies-only fmt c plan r a =
+    replies-one fmt c plan (Blames (cardAllows fmt c) plan) (blames-one (cardAllows fmt c) plan) (shortest fmt c plan) r (replies fmt c plan) a
 
 -- A REFUSAL comes exactly where judging has it, with the same numbers.
-pub refused-as-judging : (fmt : Format) (c plan : List ℕ) (number before : ℕ) → (shortest fmt c plan ≡ refused number before) ↔ (judge fmt c plan ≡ refused′ number before)
-unfolding shortest judge unless
-refused-as-judging fmt c plan number before = go (bool-cases (eqb (loadTest fmt c) 0)) (bool-cases (eqb (knownCount (lettersOf fmt c) plan) (length plan)))
-  where
-    alike : (r k : ℕ) → (refused r k ≡ refused number before) ↔ (refused′ r k ≡ refused′ number before)
-    alike r k = (
-      λ e. let y : r ≡ number = cc e in let z : k ≡ before = cc e in λ t. refused′ (y t) (z t),
-      λ e. let y : r ≡ number = cc e in let z : k ≡ before = cc e in λ t. refused (y t) (z t),
-    )
-
-    go : (eqb (loadTest fmt c) 0 ≡ true) ⊎ (eqb (loadTest fmt c) 0 ≡ false)
-        → (eqb (knownCount (lettersOf fmt c) plan) (length plan) ≡ true) ⊎ (eqb (knownCount (lettersOf fmt c) plan) (length plan) ≡ false)
-        → (shortest fmt c plan ≡ refused number before) ↔ (judge fmt c plan ≡ refused′ number before)
-    go (inr e) k = rw e (alike (loadTest fmt c) 0)
-    go (inl e) (inr k) = rw (e, k) (alike 27 (knownCount (lettersOf fmt c) plan))
-    go (inl e) (inl k) = rw (e, k) (
-      λ t. absurd (let y : _≡_ {A = ℕ} 0 1 = cc t in omega arith),
-      λ t. absurd (let y : _≡_ {A = ℕ} 0 1 = cc t in omega arith),
-    )
+pub refused-as-judging : (fmt : Format) (c plan : List ℕ) (number before : ℕ) → (shortest fmt c plan ≡ refused number before) ↔ (judge fmt c plan ≡ refused number before)
+unfolding shortest judge
+refused-as-judging fmt c plan number before = (
+  refused-alike fmt c plan (shortestBy (liesInside fmt c) plan) (planVerdict fmt c plan) number before,
+  refused-alike fmt c plan (planVerdict fmt c plan) (shortestBy (liesInside fmt c) plan) number before,
+)
 
 module _ (fmt : Format) (c plan : List ℕ) (z : loadTest fmt c ≡ 0) (o : Known (lettersOf fmt c) plan) where
   -- On a loaded card and a plan of its letters the reply is r just when r is the right answer,
-  pub shortest-iff : (r : Shortest) → (shortest fmt c plan ≡ found r) ↔ Blames (cardAllows fmt c) plan r
-  shortest-iff r = (λ e. go (shortest fmt c plan) e (replies fmt c plan), λ s. replies-only fmt c plan (found r) (blamed z o r s))
-    where
-      go : (a : Reply) → a ≡ found r → Replies fmt c plan a → Blames (cardAllows fmt c) plan r
-      go a e (no-card w n t) = absurd (n (sym (tested-only fmt c w t) ∙ z))
-      go a e (unknown-letter y j b f x) = let k = known-at (lettersOf fmt c) plan o j b in absurd (omega arith)
-      go a e (blamed y k s t) = let q : s ≡ r = cc in rw q at t
+  pub shortest-iff : (r : Shortest) → (shortest fmt c plan ≡ answered r) ↔ Blames (cardAllows fmt c) plan r
+  shortest-iff r = (
+    λ e. reply-right fmt c plan (Blames (cardAllows fmt c) plan) z o r (shortest fmt c plan) e (replies fmt c plan),
+    λ s. replies-only fmt c plan (answered r) (is-answered z o r s),
+  )
 
   -- NONE EXACTLY WHEN the whole plan lies inside some allowed plan,
-  pub none-iff : (shortest fmt c plan ≡ found none) ↔ Inside (cardAllows fmt c) plan
+  pub none-iff : (shortest fmt c plan ≡ answered none) ↔ Inside (cardAllows fmt c) plan
   none-iff = (
     λ e. blames-none (cardAllows fmt c) plan .0 (shortest-iff none .0 e),
     λ s. shortest-iff none .1 (blames-none (cardAllows fmt c) plan .1 s),
   )
 
   -- so where judging says allowed or unfinished: the plan then begins an allowed one,
-  pub judged-none : (v : Verdict) → judge fmt c plan ≡ verdict v → ((k : ℕ) → v ≢ hopeless k) → shortest fmt c plan ≡ found none
+  pub judged-none : (v : Verdict) → judge fmt c plan ≡ answered v → ((k : ℕ) → v ≢ hopeless k) → shortest fmt c plan ≡ answered none
   judged-none v e f = none-iff .1 (go v f (judge-iff fmt c plan v z o .0 e))
     where
       go : (v : Verdict) → ((k : ℕ) → v ≢ hopeless k) → Says (cardAllows fmt c) plan v → Inside (cardAllows fmt c) plan
       go v f (is-allowed t) = ([], [], ap (cardAllows fmt c) (append-nil plan) ∙ t)
-      go v f (is-unfinished n rest t) = ([], rest, t)
+      go v f (is-unfinished n rest t l) = ([], rest, t)
       go v f (is-hopeless k h n g) = absurd (f k refl)
 
   -- and on a card that allows nothing THE EMPTY STRETCH AT PLACE 0.
-  pub nothing-allowed : ((w : List ℕ) → cardAllows fmt c w ≡ false) → shortest fmt c plan ≡ found (at 0 0)
+  pub nothing-allowed : ((w : List ℕ) → cardAllows fmt c w ≡ false) → shortest fmt c plan ≡ answered (at 0 0)
   nothing-allowed f = shortest-iff (at 0 0) .1 (nothing-empty (cardAllows fmt c) plan f)

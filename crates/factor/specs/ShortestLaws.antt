@@ -1,38 +1,17 @@
 -- The search gives the right answer for any test of factors that is exact.
 use mathlib.Core.Path.{_≡_, refl, sym, subst}
 use mathlib.Core.Bool.{Bool, true, false, not}
-use mathlib.Core.Logic.{_⊎_, inl, inr, _↔_}
+use mathlib.Core.Logic.{inl, inr, _↔_}
 use mathlib.Core.List.{List}
-use Prim.Native.Nat.{ℕ, zero, suc, _+_, _≤_, _<_}
+use Prim.Native.Nat.{ℕ, suc, _+_, _≤_, _<_}
 use native.Mathlib.Omega.{arith}
 use lib.ListN.{length}
 use lib.Seq.{take-length}
 use lib.Dec.{ltb}
-use Rattle.automata.specs.Booleans.{bool-cases}
 use Rattle.automata.specs.Basics.{LtCases, lt-cases, ltb-lt}
-use Rattle.automata.specs.Decide.{contradict}
+use Rattle.automata.specs.Decide.{contradict, First, first-from}
 use Rattle.factor.specs.Factor.{factor, Inside, Blames, is-none, is-at}
-use Rattle.factor.specs.Shortest.{firstFrom, places, leftmost, least, shortestBy}
-
--- ---- the first that passes
-
--- r is the first of the n numbers from i on that passes, or one past them.
-pub record First (f : ℕ → Bool) (i n r : ℕ) : Type 0 where
-  pub most : r ≤ i + n
-  pub before : (j : ℕ) → i ≤ j → j < r → f j ≡ false
-  pub passes : r < i + n → f r ≡ true
-
-pub first-from : (f : ℕ → Bool) (i n : ℕ) → First f i n (firstFrom f i n)
-first-from f i zero = record { most = omega arith; before = λ j a b. absurd (omega arith); passes = λ h. absurd (omega arith) }
-first-from f i (suc n) = go (bool-cases (f i)) (first-from f (suc i) n)
-  where
-    go : (f i ≡ true) ⊎ (f i ≡ false) → First f (suc i) n (firstFrom f (suc i) n) → First f i (suc n) (firstFrom f i (suc n))
-    go (inl e) r = rw e record { most = omega arith; before = λ j a b. absurd (omega arith); passes = λ h. e }
-    go (inr e) r = rw e record { most = omega (arith, r .most); before = λ j a b. at j a b (lt-cases i j); passes = λ h. r .passes (omega arith) }
-      where
-        at : (j : ℕ) → i ≤ j → j < firstFrom f (suc i) n → LtCases i j → f j ≡ false
-        at j a b (inl p) = r .before j (p .0) b
-        at j a b (inr p) = let z : j ≡ i = omega arith in rw z e
+use Rattle.factor.specs.Shortest.{places, leftmost, least, shortestBy}
 
 -- ---- by an exact test
 

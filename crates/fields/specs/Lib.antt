@@ -1,2 +1,3 @@
 -- What code reads of a card.
 pub mod Counts
+pub mod CardTable

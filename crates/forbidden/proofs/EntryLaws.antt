@@ -1,39 +1,28 @@
 -- From what the parts leave to the reply of the definitions.
 use mathlib.Core.Path.{_≡_, sym, _∙_, subst}
-use mathlib.Core.Bool.{true, false}
-use mathlib.Core.Logic.{_⊎_, inl, inr}
 use mathlib.Core.List.{List}
 use Prim.Native.Nat.{ℕ, _+_, _≤_, _<_}
 use native.Mathlib.Omega.{arith}
 use lib.ListN.{length}
-use lib.Dec.{eqb}
-use Rattle.automata.specs.Booleans.{bool-cases}
 use Rattle.automata.specs.Format.{narrow}
-use Rattle.card.specs.Layout.{letterCount, stateCount, lettersOf}
+use Rattle.card.specs.Layout.{lettersOf}
 use Rattle.card.specs.Alphabet.{at-known}
-use Rattle.card.specs.Load.{loadTest, Tested}
+use Rattle.card.specs.Load.{Tested}
 use Rattle.card.specs.LoadLaws.{tested}
 use Rattle.card.specs.Loads.{load-loaded}
-use Rattle.card.specs.Answer.{holds, load, rejected}
-use Rattle.factor.specs.Shortest.{refused, found, shortest, no-card, unknown-letter, blamed}
+use Rattle.card.specs.Answer.{load, rejected}
+use Rattle.card.specs.Reply.{answered, refused, no-card, unknown-letter, is-answered}
+use Rattle.factor.specs.Shortest.{shortest}
 use Rattle.factor.specs.CardLaws.{replies-only}
 use Rattle.run.specs.Walk.{Ready, ColumnTable, KnownTo}
-use Rattle.board.proofs.EntryLaws.{rejected-some}
+use Rattle.board.proofs.EntryLaws.{rejected-test, rejected-some}
 use Rattle.forbidden.specs.declared.Answer.{Answer}
 use Rattle.forbidden.specs.Reading.{answerOf}
 use Rattle.forbidden.specs.Pass.{mostPlaces, Searchable, Searched}
 
 -- a card that does not load
 pub refused-card : (c plan : List ℕ) (k : ℕ) → rejected k ≡ load narrow c → refused k 0 ≡ shortest narrow c plan
-unfolding load
-refused-card c plan k e = go (bool-cases (eqb (loadTest narrow c) 0))
-  where
-    go : (eqb (loadTest narrow c) 0 ≡ true) ⊎ (eqb (loadTest narrow c) 0 ≡ false) → refused k 0 ≡ shortest narrow c plan
-    go (inl t) = let f : rejected k ≡ holds (letterCount narrow c) (stateCount narrow c) = rw t at e in absurd (let z : _≡_ {A = ℕ} 0 1 = cc in omega arith)
-    go (inr t) =
-        let f : rejected k ≡ rejected (loadTest narrow c) = rw t at e in
-        let z : loadTest narrow c ≡ k = cc in
-        sym (replies-only narrow c plan (refused k 0) (no-card k (rejected-some c k e) (subst (Tested narrow c) z (tested narrow c))))
+refused-card c plan k e = sym (replies-only narrow c plan (refused k 0) (no-card k (rejected-some c k e) (subst (Tested narrow c) (rejected-test c k e .0) (tested narrow c))))
 
 module _ (c : List ℕ) (m n : ℕ) (R : Ready c m n) (plan : List ℕ) where
   -- a letter that is not on the card
@@ -50,4 +39,4 @@ module _ (c : List ℕ) (m n : ℕ) (R : Ready c m n) (plan : List ℕ) where
 
   -- and its answer is the reply.
   pub searched-reply : (table : List ℕ) (a : Answer) → Searchable c m n table plan → Searched c plan a → answerOf a ≡ shortest narrow c plan
-  searched-reply table a S A = A .is ∙ sym (replies-only narrow c plan (found (A .answer)) (blamed (R .loads) (S .known) (A .answer) (A .right)))
+  searched-reply table a S A = A .is ∙ sym (replies-only narrow c plan (answered (A .answer)) (is-answered (R .loads) (S .known) (A .answer) (A .right)))

@@ -6,9 +6,9 @@ use lib.ListN.{length}
 use Rattle.automata.specs.Format.{narrow}
 use Rattle.card.specs.Layout.{lettersOf}
 use Rattle.card.specs.Alphabet.{Known}
+use Rattle.card.specs.Reply.{answered}
 use Rattle.card.specs.Judge.{cardAllows}
 use Rattle.factor.specs.Factor.{Shortest, Blames}
-use Rattle.factor.specs.Shortest.{found as replied}
 use Rattle.run.specs.Walk.{Ready, ColumnTable}
 use Rattle.forbidden.specs.declared.Answer.{Answer}
 use Rattle.forbidden.specs.declared.Best.{Best}
@@ -27,7 +27,7 @@ pub record Searchable (c : List ℕ) (m n : ℕ) (table plan : List ℕ) : Type 
 -- The answer is the right one for the plans that the card allows.
 pub record Searched (c plan : List ℕ) (a : Answer) : Type 0 where
   pub answer : Shortest
-  pub is : answerOf a ≡ replied answer
+  pub is : answerOf a ≡ answered answer
   pub right : Blames (cardAllows narrow c) plan answer
 
 -- The stretch from i to `last`, where there is one and it is not longer than the best; else the best.

@@ -1,7 +1,8 @@
 -- The answers of the whole way, each read with the paper's numbers and values for each case.
 use Prim.Native.Nat.{ℕ}
 use Rattle.card.specs.Answer.{Loading, holds, rejected}
-use Rattle.card.specs.Judge.{Reply}
+use Rattle.card.specs.Verdict.{Verdict}
+use Rattle.card.specs.Reply.{Reply}
 use Rattle.run.specs.Reading.{replyOf}
 use Rattle.handing.specs.declared.BoardAnswer.{BoardAnswer}
 use Rattle.handing.specs.declared.BoardAnswer.the-variants.{Judged, NotLoaded}
@@ -10,7 +11,7 @@ use Rattle.handing.specs.declared.Delivered.the-variants.{Card, Refused}
 
 -- What a board answers: the card's letters and states with judging's reply, or loading's refusal, 21 to 26.
 pub data OnBoard : Type 0 where
-  judged : (letters states : ℕ) (reply : Reply) → OnBoard
+  judged : (letters states : ℕ) (reply : Reply Verdict) → OnBoard
   not-loaded : (number : ℕ) → OnBoard
 
 abbrev pub onBoard : BoardAnswer → OnBoard
@@ -18,7 +19,7 @@ onBoard (Judged m n answer) = judged m n (replyOf answer)
 onBoard (NotLoaded number) = not-loaded number
 
 -- the answer of loading, and the reply of judging where the card loads
-abbrev pub boardSays : Loading → Reply → OnBoard
+abbrev pub boardSays : Loading → Reply Verdict → OnBoard
 boardSays (holds m n) reply = judged m n reply
 boardSays (rejected number) reply = not-loaded number
 

@@ -1,7 +1,7 @@
 // Read after read: the bytes are taken in, and the lines of the plans that ended in them are written.
 ghost use Prim.Native.Nat.{_≤_};
 ghost use lib.ListN.{length};
-ghost use Rattle.judging.specs.Plan.{Columns};
+ghost use Rattle.judging.specs.Plan.{Columns, Owed};
 ghost use Rattle.reply.specs.Text.{longest};
 ghost use Rattle.judging.specs.Lines.{Counted};
 ghost use Rattle.judge.specs.Lines.{Wrote};
@@ -26,17 +26,18 @@ pub struct Answered {
 fn answer_all(
     card: &[u8],
     columns: &[u8; 256],
+    owed: &[u16; 120],
     state: State,
     bytes: &[u8],
     out: &mut [u8],
 ) -> Answered
-    requires { ⌜ Columns (now card) (now columns) × Counted (now card) state (length (now bytes)) × (longest ≤ length (now out)) ⌝ }
+    requires { ⌜ Columns (now card) (now columns) × Counted (now card) state (length (now bytes)) × (longest ≤ length (now out)) × Owed (now card) (now owed) ⌝ }
     ensures { λ r. ⌜ Wrote (now (card .entry)) state (now (bytes .entry)) r ⌝ }
 {
     let mut state = state;
     let mut from = 0;
     while from < bytes.len() {
-        let fed = feed(card, columns, state, &bytes[from..], out);
+        let fed = feed(card, columns, owed, state, &bytes[from..], out);
         state = fed.state;
         let used = fed.used;
         let at = fed.at;
@@ -68,6 +69,7 @@ pub fn judge_all(input: i32, card: &[u8]) {
     let mut out = io::large_buffer();
     let mut state = start(card);
     let columns = plan::columns(card, state.judging);
+    let owed = plan::owed(card, state.judging);
     let mut reads = READS;
     while reads > 0 {
         let got = libc::read(input, &mut bytes);
@@ -77,13 +79,13 @@ pub fn judge_all(input: i32, card: &[u8]) {
         }
         let n = io::count(got, &bytes);
         if n == 0 {
-            let last = finish(card, state, &mut out);
+            let last = finish(card, &owed, state, &mut out);
             if !io::write_all(STDOUT_FILENO, &out[..last]) {
                 tell_write();
             }
             return;
         }
-        let answered = answer_all(card, &columns, state, &bytes[..n], &mut out);
+        let answered = answer_all(card, &columns, &owed, state, &bytes[..n], &mut out);
         let written = answered.written;
         if !written {
             tell_write();

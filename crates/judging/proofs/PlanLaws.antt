@@ -2,31 +2,31 @@
 use mathlib.Core.Path.{_≡_, refl, sym, ap, _∙_}
 use mathlib.Core.Bool.{true, false}
 use mathlib.Core.Logic.{_⊎_, inl, inr, _≢_}
-use mathlib.Core.List.{List, [], _∷_, _++_}
+use mathlib.Core.List.{List, [], _∷_}
 use Prim.Native.Nat.{ℕ, suc, _+_, _≤_}
 use native.Mathlib.Omega.{arith}
 use lib.ListN.{length}
 use lib.Dec.{ltb}
 use Rattle.automata.specs.Booleans.{bool-cases}
 use Rattle.automata.specs.Format.{narrow}
-use Rattle.card.specs.Layout.{letterCount, stateCount, lettersOf}
+use Rattle.card.specs.Layout.{lettersOf}
 use Rattle.card.specs.Load.{loadTest}
 use Rattle.card.specs.Alphabet.{column}
-use Rattle.card.specs.Answer.{rejected, holds, load, load-holds}
-use Rattle.card.specs.Judge.{Place, none, found, refused, judge}
+use Rattle.card.specs.Answer.{rejected, load}
+use Rattle.card.specs.Judge.{Place, none, found}
 use Rattle.card.specs.Run.{Run, runStart, runLetter, runOn, runReply}
 use Rattle.run.specs.declared.Run.{Run as Run′}
 use Rattle.run.specs.declared.Answer.{Answer}
 use Rattle.run.specs.declared.Answer.the-variants.{Refused}
 use Rattle.run.specs.Reading.{runOf, replyOf}
-use Rattle.run.specs.Walk.{Ready, Underway, Runs}
-use Rattle.run.specs.Pieces.{After, after-piece, after-reply}
-use Rattle.board.proofs.EntryLaws.{loaded-ready, refused-judge, rejected-some}
+use Rattle.run.specs.Walk.{Ready, Underway, OwedTable, Runs}
+use Rattle.run.specs.Pieces.{after-piece, after-reply}
+use Rattle.board.proofs.EntryLaws.{refused-judge, rejected-test, rejected-some}
 use Rattle.judging.specs.declared.plan.Judging.{Judging}
-use Rattle.judging.specs.Plan.{Tests, Columns, Judges, More, Answers}
+use Rattle.judging.specs.Plan.{Tests, Columns, Owed, Judges, More, Answers}
 
 rejected-loads : (c : List ℕ) (k : ℕ) → rejected k ≡ load narrow c → loadTest narrow c ≡ 0 → ⊥
-rejected-loads c k e z = let f : rejected k ≡ holds (letterCount narrow c) (stateCount narrow c) = e ∙ load-holds narrow c z in let y : _≡_ {A = ℕ} 0 1 = cc in omega arith
+rejected-loads c k e z = rejected-some c k e (sym (rejected-test c k e .0) ∙ z)
 
 module _ (c : List ℕ) where
   abbrev of : ℕ → ℕ → ℕ → Run′ → Judging
@@ -67,6 +67,16 @@ module _ (c : List ℕ) where
 -- a refused card has no columns
 pub columns-none : (c t : List ℕ) (j : Judging) → Tests c j → j .number ≢ 0 → Columns c t
 columns-none c t j w d = record { table = λ e. absurd (rejected-loads c (j .number) (w .refused d) e) }
+
+-- the letters owed, on a card that loads and on one that does not
+pub owed-table : (c : List ℕ) (m n : ℕ) (t : List ℕ) → Ready c m n → OwedTable c n t → Owed c t
+owed-table c m n t y o = record { table = λ _. rw (y .states) o }
+
+pub owed-none : (c t : List ℕ) (j : Judging) → Tests c j → j .number ≢ 0 → Owed c t
+owed-none c t j w d = record { table = λ e. absurd (rejected-loads c (j .number) (w .refused d) e) }
+
+pub owed-ready : (c : List ℕ) (m n : ℕ) (t : List ℕ) → Ready c m n → Owed c t → OwedTable c n t
+owed-ready c m n t y o = rw (← y .states) (o .table (y .loads))
 
 -- ---- letters
 

@@ -4,13 +4,13 @@ use mathlib.Core.Logic.{_≢_}
 use mathlib.Core.List.{List, _++_}
 use Prim.Native.Nat.{ℕ}
 use Rattle.automata.specs.Format.{narrow}
-use Rattle.card.specs.Layout.{lettersOf}
+use Rattle.card.specs.Layout.{stateCount, lettersOf}
 use Rattle.card.specs.Load.{loadTest}
 use Rattle.card.specs.Answer.{rejected, load}
 use Rattle.card.specs.Judge.{judge}
 use Rattle.run.specs.declared.Answer.{Answer}
 use Rattle.run.specs.Reading.{replyOf}
-use Rattle.run.specs.Walk.{Ready, Underway, ColumnTable}
+use Rattle.run.specs.Walk.{Ready, Underway, ColumnTable, OwedTable}
 use Rattle.run.specs.Pieces.{After}
 use Rattle.judging.specs.declared.plan.Judging.{Judging}
 
@@ -23,6 +23,10 @@ pub record Tests (c : List ℕ) (j : Judging) : Type 0 where
 -- Where the card loads, the table has its columns.
 pub record Columns (c t : List ℕ) : Type 0 where
   pub table : loadTest narrow c ≡ 0 → ColumnTable (lettersOf narrow c) t
+
+-- Where the card loads, the table has the letters owed from each of its states.
+pub record Owed (c t : List ℕ) : Type 0 where
+  pub table : loadTest narrow c ≡ 0 → OwedTable c (stateCount narrow c) t
 
 -- Of the plan the letters u have come.
 pub record Judges (c u : List ℕ) (j : Judging) : Type 0 where

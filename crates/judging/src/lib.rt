@@ -5,7 +5,7 @@ pub mod plan;
 ghost use mathlib.Core.List.{[]};
 ghost use Prim.Native.Nat.{_≤_};
 ghost use lib.ListN.{length};
-ghost use Rattle.judging.specs.Plan.{Columns};
+ghost use Rattle.judging.specs.Plan.{Columns, Owed};
 ghost use Rattle.reply.specs.Text.{longest};
 ghost use Rattle.judging.specs.Lines.{Since, Counted, Feeds, Finishes};
 use plan::Judging;
@@ -36,8 +36,15 @@ pub fn start(card: &[u8]) -> State
 }
 
 // Takes in bytes while there is room for one answer more.
-pub fn feed(card: &[u8], columns: &[u8; 256], state: State, bytes: &[u8], out: &mut [u8]) -> Fed
-    requires { ⌜ Columns (now card) (now columns) × Counted (now card) state (length (now bytes)) × (longest ≤ length (now out)) ⌝ }
+pub fn feed(
+    card: &[u8],
+    columns: &[u8; 256],
+    owed: &[u16; 120],
+    state: State,
+    bytes: &[u8],
+    out: &mut [u8],
+) -> Fed
+    requires { ⌜ Columns (now card) (now columns) × Counted (now card) state (length (now bytes)) × (longest ≤ length (now out)) × Owed (now card) (now owed) ⌝ }
     ensures { λ r. ⌜ Feeds (now (card .entry)) state (now (bytes .entry)) (now (out .exit)) r ⌝ }
 {
     let mut judging = state.judging;
@@ -65,7 +72,7 @@ pub fn feed(card: &[u8], columns: &[u8; 256], state: State, bytes: &[u8], out: &
                 at,
             };
         }
-        at = reply::line(out, at, plan::answer(card, judging));
+        at = reply::line(out, at, plan::answer(card, owed, judging));
         judging = plan::next(card, judging);
         open = false;
         from = end + 1;
@@ -78,14 +85,14 @@ pub fn feed(card: &[u8], columns: &[u8; 256], state: State, bytes: &[u8], out: &
 }
 
 // Bytes after the last line end are one more plan.
-pub fn finish(card: &[u8], state: State, out: &mut [u8]) -> usize
-    requires { ⌜ Counted (now card) state 0 × (longest ≤ length (now out)) ⌝ }
+pub fn finish(card: &[u8], owed: &[u16; 120], state: State, out: &mut [u8]) -> usize
+    requires { ⌜ Counted (now card) state 0 × (longest ≤ length (now out)) × Owed (now card) (now owed) ⌝ }
     ensures { λ r. ⌜ Finishes (now (card .entry)) state (now (out .exit)) r ⌝ }
 {
     let judging = state.judging;
     let open = state.open;
     if open {
-        return reply::line(out, 0, plan::answer(card, judging));
+        return reply::line(out, 0, plan::answer(card, owed, judging));
     }
     0
 }

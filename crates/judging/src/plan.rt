@@ -3,7 +3,7 @@ ghost use mathlib.Core.Path.{_≡_};
 ghost use mathlib.Core.List.{[]};
 ghost use Prim.Native.Nat.{_+_, _<_, _^_};
 ghost use lib.ListN.{length};
-ghost use Rattle.judging.specs.Plan.{Tests, Columns, Judges, More, Answers};
+ghost use Rattle.judging.specs.Plan.{Tests, Columns, Owed, Judges, More, Answers};
 
 // The number of the card's refusal, or 0 and its counts; and the run of the plan so far.
 pub struct Judging {
@@ -55,6 +55,20 @@ pub fn columns(card: &[u8], j: Judging) -> [u8; 256]
     [0u8; 256]
 }
 
+// The table of the letters owed, made once; a refused card needs none.
+pub fn owed(card: &[u8], j: Judging) -> [u16; 120]
+    requires { ⌜ Tests (now card) j ⌝ }
+    ensures { λ r. ⌜ Owed (now (card .entry)) r ⌝ }
+{
+    let number = j.number;
+    let m = j.m;
+    let n = j.n;
+    if number == 0 {
+        return run::owed::owed_table(card, m, n);
+    }
+    [0u16; 120]
+}
+
 // Begins the next plan.
 pub fn next(card: &[u8], j: Judging) -> Judging
     requires { ⌜ Tests (now card) j ⌝ }
@@ -97,8 +111,8 @@ pub fn more(card: &[u8], columns: &[u8; 256], j: Judging, piece: &[u8]) -> Judgi
 }
 
 // The answer to the plan.
-pub fn answer(card: &[u8], j: Judging) -> run::Answer
-    requires { ⌜ Tests (now card) j ⌝ }
+pub fn answer(card: &[u8], owed: &[u16; 120], j: Judging) -> run::Answer
+    requires { ⌜ Tests (now card) j × Owed (now card) (now owed) ⌝ }
     ensures { λ r. ⌜ Answers (now (card .entry)) j r ⌝ }
 {
     let number = j.number;
@@ -106,7 +120,7 @@ pub fn answer(card: &[u8], j: Judging) -> run::Answer
     let n = j.n;
     let r = j.run;
     if number == 0 {
-        return run::reply(card, m, n, r);
+        return run::reply_by(card, m, n, owed, r);
     }
     run::Answer::Refused(number, 0)
 }

@@ -4,12 +4,11 @@ use mathlib.Core.Bool.{Bool, true, false, not, true≢false, false≢true}
 use mathlib.Core.Logic.{inl, inr}
 use mathlib.Core.List.{List, _∷_}
 use Prim.Native.Nat.{ℕ, _+_, _*_, _/_, _%_, _≤_, _<_}
-use native.Mathlib.Nat.{not-suc-le-zero, mod-lt, div-add-mod', div-lt-iff-lt-mul, mul-zero}
+use native.Mathlib.Nat.{not-suc-le-zero}
 use native.Mathlib.Numerals.{add-one}
 use native.Mathlib.Omega.{arith}
 use lib.ListN.{length, getD, drop, drop-of-length-le}
 use lib.Seq.{drop-cons}
-use lib.Dec.{eqb}
 use borrow.Author.Tests.{lt-ltb, le-ltb}
 use Rattle.automata.specs.Booleans.{not-true}
 use Rattle.automata.specs.Basics.{LtCases, lt-cases}
@@ -18,14 +17,15 @@ use Rattle.automata.specs.Format.{Format, narrow}
 use Rattle.automata.specs.Rows.{cell-below}
 use Rattle.automata.specs.NumberingTest.{numbered-whole}
 use Rattle.automata.specs.ReducedTest.{reducedTest}
-use Rattle.card.specs.Layout.{letterCount, stateCount, markAt, moveAt, lettersOf, marksOf, movesOf, machineOf, Contents}
-use Rattle.card.specs.LayoutLaws.{contents-whole, marksOf-length, marks-at, size-is, accepting-at, moves-length, moves-at, step-at, machine-formed}
+use Rattle.card.specs.Layout.{letterCount, stateCount, markAt, lettersOf, marksOf, movesOf, machineOf, Contents}
+use Rattle.card.specs.LayoutLaws.{contents-whole}
 use Rattle.card.specs.Mark.{Mark}
 use Rattle.card.specs.Alphabet.{Alphabet, risingFrom, alphabetTest, alphabet-sound, alphabet-whole}
 use Rattle.fields.specs.Counts.{Counted}
 use Rattle.card.specs.Load.{loadTest, CardInside, CardMarked, CardNumbered, CardReduced, marksTest, bad-contents, bad-alphabet, transition-out-of-range, not-numbered, loaded}
 use Rattle.card.specs.Answer.{holds, rejected, load, load-holds, load-rejected}
 use Rattle.card.specs.LoadLaws.{tested-only, inside-true, marks-hold, marks-true, reduced-holds}
+use Rattle.fields.specs.CardTable.{Cell, cell-of, cells, cell, states-many, mark-at, card-holds, card-table}
 use Rattle.moves.specs.Holds.{Table, Holds}
 use Rattle.loading.specs.Inside.{InsideExactly}
 use Rattle.loading.specs.Rows.{NumberedExactly}
@@ -111,13 +111,6 @@ isset : (b : Bool) → not b ≡ false → b ≡ true
 isset true e = refl
 isset false e = absurd (true≢false e)
 
-positive : (n m q : ℕ) → q < n * m → 0 < m
-positive n m q h = go (lt-cases 0 m)
-  where
-    go : LtCases 0 m → 0 < m
-    go (inl x) = x .0
-    go (inr x) = let z : m ≡ 0 = omega arith in let y : q < n * 0 = rw z at h in absurd (omega (arith, mul-zero n))
-
 module _ (c : List ℕ) (m n : ℕ) (r : Counted narrow c m n) where
   module _ (ls : List ℕ) (b : Bool) (e : ls ≡ lettersOf narrow c) (t : b ≡ alphabetTest ls) where
     pub load-22 : not b ≡ true → 22 ≡ loadTest narrow c
@@ -127,55 +120,28 @@ module _ (c : List ℕ) (m n : ℕ) (r : Counted narrow c m n) where
     alphabet-right x = alphabet-sound (lettersOf narrow c) (rw (← e) (sym t ∙ isset b x))
 
   module _ (a : Alphabet (lettersOf narrow c)) (bs : List ℕ) (e : bs ≡ movesOf narrow c) where
-    cells : length bs ≡ stateCount narrow c * letterCount narrow c
-    cells = ap length e ∙ moves-length narrow c
-
-    cell : (p i : ℕ) → p < stateCount narrow c → i < letterCount narrow c → getD bs (p * letterCount narrow c + i) 0 ≡ moveAt narrow c p i
-    cell p i h b = ap (λ l. getD l (p * letterCount narrow c + i) 0) e ∙ moves-at narrow c p i h b
-
     pub load-23 : (b : Bool) → InsideExactly n bs b → not b ≡ true → 23 ≡ loadTest narrow c
     load-23 b t x =
         let (q, h, v) = t .past (unset b x) in
-        let h′ : q < stateCount narrow c * letterCount narrow c = rw cells at h in
-        let w : 0 < letterCount narrow c = positive (stateCount narrow c) (letterCount narrow c) q h′ in
-        let hp : q / letterCount narrow c < stateCount narrow c = div-lt-iff-lt-mul w .1 h′ in
-        let hi : q % letterCount narrow c < letterCount narrow c = mod-lt q w in
-        let d : q / letterCount narrow c * letterCount narrow c + q % letterCount narrow c ≡ q = div-add-mod' q (letterCount narrow c) in
-        sym (tested-only narrow c 23 (transition-out-of-range (r .right) a (q / letterCount narrow c) (q % letterCount narrow c) hp hi
-        (rw (← cell (q / letterCount narrow c) (q % letterCount narrow c) hp hi, d, r .states) v)))
+        let k : Cell (stateCount narrow c) (letterCount narrow c) q = cell-of (stateCount narrow c) (letterCount narrow c) q (rw (cells c bs e) at h) in
+        sym (tested-only narrow c 23 (transition-out-of-range (r .right) a (q / letterCount narrow c) (q % letterCount narrow c) (k .row) (k .column)
+        (rw (← cell c bs e (q / letterCount narrow c) (q % letterCount narrow c) (k .row) (k .column), k .place, r .states) v)))
 
     pub inside-right : (b : Bool) → InsideExactly n bs b → not b ≡ false → CardInside narrow c
-    inside-right b t x p i h v = rw (← cell p i h v, r .states) (t .all (isset b x) (p * letterCount narrow c + i) (rw cells (cell-below (stateCount narrow c) (letterCount narrow c) p i h v)))
+    inside-right b t x p i h v = rw (← cell c bs e p i h v, r .states) (t .all (isset b x) (p * letterCount narrow c + i) (rw (cells c bs e) (cell-below (stateCount narrow c) (letterCount narrow c) p i h v)))
 
     module _ (i : CardInside narrow c) (ms : List ℕ) (f : ms ≡ marksOf narrow c) where
       states : length ms ≡ stateCount narrow c
-      states = ap length f ∙ marksOf-length narrow c (r .right)
+      states = states-many c m n r ms f
 
       mark : (p : ℕ) → p < stateCount narrow c → getD ms p 0 ≡ markAt narrow c p
-      mark p h = ap (λ l. getD l p 0) f ∙ marks-at narrow c (r .right) p h
+      mark p h = mark-at c m n r ms f p h
 
-      pub card-holds : Holds m ms bs (machineOf narrow c)
-      card-holds = rw (← r .letters) (record {
-        formed = machine-formed narrow c (r .right) i;
-        states = size-is narrow c (r .right) ∙ sym states;
-        accepting = λ p h. let h′ : p < stateCount narrow c = rw states at h in accepting-at narrow c (r .right) p h′ ∙ ap (eqb 1) (sym (mark p h′));
-        step = λ p j h v. let h′ : p < stateCount narrow c = rw states at h in step-at narrow c p j h′ v ∙ sym (cell p j h′ v);
-      })
+      holds-card : Holds m ms bs (machineOf narrow c)
+      holds-card = card-holds c m n r ms f bs e i
 
-      pub card-table : Table 120 m ms bs
-      card-table = rw (← r .letters) (record {
-        some = rw states (r .right .states-some);
-        states-most = rw states (r .right .states-most);
-        long = rw states cells;
-        inside = λ q h.
-            let h′ : q < stateCount narrow c * letterCount narrow c = rw cells at h in
-            let w : 0 < letterCount narrow c = positive (stateCount narrow c) (letterCount narrow c) q h′ in
-            let hp : q / letterCount narrow c < stateCount narrow c = div-lt-iff-lt-mul w .1 h′ in
-            let hi : q % letterCount narrow c < letterCount narrow c = mod-lt q w in
-            let d : q / letterCount narrow c * letterCount narrow c + q % letterCount narrow c ≡ q = div-add-mod' q (letterCount narrow c) in
-            let y : getD bs q 0 ≡ moveAt narrow c (q / letterCount narrow c) (q % letterCount narrow c) = ap (λ k. getD bs k 0) (sym d) ∙ cell (q / letterCount narrow c) (q % letterCount narrow c) hp hi in
-            rw (states, y) (i (q / letterCount narrow c) (q % letterCount narrow c) hp hi);
-      })
+      pub table-right : Table 120 m ms bs
+      table-right = card-table c m n r ms f bs e i
 
       pub letters-most : m ≤ 26
       letters-most = rw (r .letters) at (r .right .letters-most)
@@ -183,27 +149,27 @@ module _ (c : List ℕ) (m n : ℕ) (r : Counted narrow c m n) where
       module _ (b : Bool) (t : NumberedExactly m ms bs b) where
         pub load-24 : not b ≡ true → 24 ≡ loadTest narrow c
         load-24 x = sym (tested-only narrow c 24 (not-numbered (r .right) a i λ y.
-            contradict (t .exact (machineOf narrow c) card-holds .1 (rw (r .letters) at y)) (unset b x)))
+            contradict (t .exact (machineOf narrow c) holds-card .1 (rw (r .letters) at y)) (unset b x)))
 
         pub numbered-right : not b ≡ false → CardNumbered narrow c
-        numbered-right x = rw (r .letters) (t .exact (machineOf narrow c) card-holds .0 (isset b x))
+        numbered-right x = rw (r .letters) (t .exact (machineOf narrow c) holds-card .0 (isset b x))
 
       module _ (k : CardNumbered narrow c) (b : Bool) (t : MarksExactly m ms bs b) where
         pub marked-right : not b ≡ false → CardMarked narrow c
-        marked-right x p h = subst (λ k. Mark k (machineOf narrow c) p (markAt narrow c p)) (sym (r .letters)) (subst (λ v. Mark m (machineOf narrow c) p v) (mark p h) (t .exact (machineOf narrow c) card-holds .0 (isset b x) p (rw states h)))
+        marked-right x p h = subst (λ k. Mark k (machineOf narrow c) p (markAt narrow c p)) (sym (r .letters)) (subst (λ v. Mark m (machineOf narrow c) p v) (mark p h) (t .exact (machineOf narrow c) holds-card .0 (isset b x) p (rw states h)))
 
         -- 25 by the definition of the test
         pub load-25 : not b ≡ true → 25 ≡ loadTest narrow c
         load-25 x = sym (tested-marks narrow c (r .right) a i k λ y.
-            contradict (t .exact (machineOf narrow c) card-holds .1 λ p h. let h′ : p < stateCount narrow c = rw states at h in rw (mark p h′, ← r .letters) (y p h′)) (unset b x))
+            contradict (t .exact (machineOf narrow c) holds-card .1 λ p h. let h′ : p < stateCount narrow c = rw states at h in rw (mark p h′, ← r .letters) (y p h′)) (unset b x))
 
         module _ (l : CardMarked narrow c) (d : Bool) (v : ReducedExactly m ms bs d) where
           pub load-26 : not d ≡ true → 26 ≡ loadTest narrow c
           load-26 x = sym (tested-reduced narrow c (r .right) a i k l λ y.
-              contradict (v .exact (machineOf narrow c) card-holds .1 (rw (r .letters) at y)) (unset d x))
+              contradict (v .exact (machineOf narrow c) holds-card .1 (rw (r .letters) at y)) (unset d x))
 
           pub load-0 : not d ≡ false → 0 ≡ loadTest narrow c
-          load-0 x = sym (tested-only narrow c 0 (loaded (r .right) a i k l (rw (r .letters) (v .exact (machineOf narrow c) card-holds .0 (isset d x)))))
+          load-0 x = sym (tested-only narrow c 0 (loaded (r .right) a i k l (rw (r .letters) (v .exact (machineOf narrow c) holds-card .0 (isset d x)))))
 
 -- ---- the answer
 

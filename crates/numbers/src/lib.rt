@@ -7,7 +7,7 @@ ghost use Rattle.board.specs.Answers.{loading, stepping};
 ghost use Rattle.forbidden.specs.Reading.{answerOf};
 ghost use Rattle.plans.specs.Many.{manyOf};
 ghost use Rattle.compiler.specs.Reading.{reading};
-ghost use Rattle.numbers.specs.Handed.{handed, numbers, answerNumbers, shortestNumbers};
+ghost use Rattle.numbers.specs.Handed.{handed, numbers, stepHanded, answerNumbers, shortestNumbers};
 
 // The number handed back, and three numbers in `out`.
 fn put(out: &mut [u64; 3], number: u64, first: u64, second: u64, third: u64) -> u64
@@ -27,18 +27,19 @@ pub fn loaded(answer: board::Loaded, out: &mut [u64; 3]) -> u64
     }
 }
 
-// One step: 0, and the next state, its marks byte, 0; or 21, 27, 28 or 23.
+// One step: 0, and the next state, its marks byte, the letters owed where that is 0; or 21 to 28.
 pub fn stepped(answer: board::Stepped, out: &mut [u64; 3]) -> u64
-    ensures { λ r. ⌜ handed r (now (out .exit)) ≡ numbers (stepNumbers (stepping answer)) ⌝ }
+    ensures { λ r. ⌜ handed r (now (out .exit)) ≡ stepHanded (stepNumbers (stepping answer)) ⌝ }
 {
     match answer {
         board::Stepped::Moved(next, mark) => put(out, 0, next as u64, mark as u64, 0),
+        board::Stepped::Owing(next, owed) => put(out, 0, next as u64, 0, owed as u64),
         board::Stepped::Stopped(number) => put(out, number as u64, 0, 0, 0),
     }
 }
 
-// Judging: 0, and the verdict (1 allowed, 0 unfinished, 2 hopeless), the place of hopeless, 0; or 21 to 26; or 27, and 0, the letters before the first
-// unknown one, 0.
+// Judging: 0, and the verdict (1 allowed, 0 unfinished, 2 hopeless), the letters owed of unfinished or the place of hopeless, 0; or 21 to 26; or 27, and 0,
+// the letters before the first unknown one, 0.
 pub fn judged(answer: run::Answer, out: &mut [u64; 3]) -> u64
     ensures { λ r. ⌜ handed r (now (out .exit)) ≡ numbers (replyNumbers (replyOf answer)) ⌝ }
 {
@@ -46,7 +47,7 @@ pub fn judged(answer: run::Answer, out: &mut [u64; 3]) -> u64
         run::Answer::Refused(number, before) => put(out, number as u64, 0, before as u64, 0),
         run::Answer::Judged(verdict) => match verdict {
             run::Verdict::Allowed => put(out, 0, 1, 0, 0),
-            run::Verdict::Unfinished => put(out, 0, 0, 0, 0),
+            run::Verdict::Unfinished(owed) => put(out, 0, 0, owed as u64, 0),
             run::Verdict::Hopeless(k) => put(out, 0, 2, k as u64, 0),
         },
     }

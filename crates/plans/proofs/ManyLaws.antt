@@ -3,27 +3,28 @@ use mathlib.Core.Path.{_≡_, refl, sym, ap, _∙_}
 use mathlib.Core.Bool.{true, false}
 use mathlib.Core.Logic.{_⊎_, inl, inr}
 use mathlib.Core.List.{List, [], _∷_, _++_}
-use Prim.Native.Nat.{ℕ, zero, suc, _+_, _-_, _*_, _/_, _≤_, _<_, min}
+use Prim.Native.Nat.{ℕ, zero, suc, _+_, _-_, _*_, _≤_, _<_}
 use native.Mathlib.Numerals.{add-one}
 use native.Mathlib.Omega.{arith}
 use mir.Syntax.{w64}
 use mir.Val.{Fits}
 use lib.ListN.{length, take, drop, set, length-append, length-take, length-drop, drop-of-length-le}
-use lib.Seq.{sets, sets-eq, take-at, drop-at, drop-drop, length-take-le, take-all}
+use lib.Seq.{sets, sets-eq, take-at, drop-at, drop-drop, length-take-le}
 use lib.Dec.{eqb}
 use Rattle.automata.specs.Booleans.{bool-cases}
 use Rattle.automata.specs.Format.{narrow}
 use Rattle.card.specs.Load.{loadTest}
-use Rattle.card.specs.Judge.{Reply, judge}
+use Rattle.card.specs.Verdict.{Verdict}
+use Rattle.card.specs.Reply.{Reply}
+use Rattle.card.specs.Judge.{judge}
 use Rattle.card.specs.Layout.{letterCount, stateCount}
 use Rattle.card.specs.Answer.{replyNumbers, holds, rejected, load}
 use Rattle.run.specs.declared.Answer.{Answer}
 use Rattle.run.specs.Reading.{replyOf}
 use Rattle.plans.specs.Plans.{plansOf, consumed, lineOf, LineEnd}
-use Rattle.plans.specs.PlansLaws.{consumed-next, plans-rest, plans-line, plans-end, consumed-line, consumed-end}
-use Rattle.plans.specs.declared.Many.{Many}
+use Rattle.plans.specs.PlansLaws.{consumed-next, plans-line, plans-end, consumed-line, consumed-end}
 use Rattle.plans.specs.declared.Many.the-variants.{Judged, Refused}
-use Rattle.plans.specs.Many.{three, repliesTo, judgedCount, manyNumbers, manyReplies, manyOf, JudgesLines}
+use Rattle.plans.specs.Many.{three, repliesTo, judgedCount, manyNumbers, manyReplies, JudgesLines}
 
 -- ---- lists
 
@@ -53,7 +54,7 @@ pub three-sets : (l : List ℕ) (at x y z : ℕ) → set (set (set l at x) (at +
 three-sets l at x y z = let p : at + 1 ≡ suc at = omega arith in let q : at + 2 ≡ suc (suc at) = omega arith in rw (p, q)
 
 -- the answer a is read as r
-pub sets-as : (old new : List ℕ) (at : ℕ) (a : Answer) (r : Reply) → new ≡ sets old at (three (replyNumbers r)) → r ≡ replyOf a → new ≡ sets old at (three (replyNumbers (replyOf a)))
+pub sets-as : (old new : List ℕ) (at : ℕ) (a : Answer) (r : Reply Verdict) → new ≡ sets old at (three (replyNumbers r)) → r ≡ replyOf a → new ≡ sets old at (three (replyNumbers (replyOf a)))
 sets-as old new at a r p e = p ∙ ap (λ x. sets old at (three (replyNumbers x))) e
 
 -- a line is no longer than the whole

@@ -1,7 +1,7 @@
 -- Judging many plans on one card: the card is tested once, and each plan's answer is that of judging it alone.
 use mathlib.Core.Path.{_≡_}
 use mathlib.Core.List.{List, [], _∷_, _++_}
-use Prim.Native.Nat.{ℕ, _*_, _/_, _≤_, min}
+use Prim.Native.Nat.{ℕ, _*_, _/_, min}
 use lib.ListN.{length, take, drop}
 use lib.Dec.{eqb}
 use Rattle.automata.specs.Booleans.{choose}
@@ -16,7 +16,7 @@ use Rattle.plans.specs.declared.Many.the-variants.{Judged, Refused}
 abbrev pub three : Numbers → List ℕ
 three n = n .number ∷ n .first ∷ n .second ∷ []
 
--- The numbers of each plan's answer, three a plan: number, verdict, place.
+-- The numbers of each plan's answer, three a plan: number, verdict, letters owed or place.
 abbrev pub repliesTo : List ℕ → List (List ℕ) → List ℕ
 repliesTo c [] = []
 repliesTo c (p ∷ ps) = three (replyNumbers (judge narrow c p)) ++ repliesTo c ps

@@ -1,4 +1,5 @@
-// Many plans on one card: the lines of lent bytes, judged one after the other. The card is tested once, and its table of columns made once.
+// Many plans on one card: the lines of lent bytes, judged one after the other. The card is tested once, and its tables of columns and of letters owed are made
+// once.
 ghost use mathlib.Core.Path.{_≡_};
 ghost use mathlib.Core.List.{_∷_, []};
 ghost use Prim.Native.Nat.{_+_, _≤_};
@@ -9,7 +10,7 @@ ghost use Rattle.card.specs.Layout.{lettersOf};
 ghost use Rattle.card.specs.Answer.{replyNumbers};
 ghost use Rattle.card.specs.Judge.{judge};
 ghost use Rattle.run.specs.Reading.{replyOf};
-ghost use Rattle.run.specs.Walk.{Ready, ColumnTable};
+ghost use Rattle.run.specs.Walk.{Ready, ColumnTable, OwedTable};
 ghost use Rattle.plans.specs.Plans.{LineEnd, lineOf};
 ghost use Rattle.plans.specs.Many.{three, JudgesLines};
 
@@ -56,7 +57,7 @@ fn put_answer(replies: &mut [u64], at: usize, answer: run::Answer)
         run::Answer::Refused(number, before) => put(replies, at, number as u64, 0, before as u64),
         run::Answer::Judged(verdict) => match verdict {
             run::Verdict::Allowed => put(replies, at, 0, 1, 0),
-            run::Verdict::Unfinished => put(replies, at, 0, 0, 0),
+            run::Verdict::Unfinished(owed) => put(replies, at, 0, 0, owed as u64),
             run::Verdict::Hopeless(k) => put(replies, at, 0, 2, k as u64),
         },
     }
@@ -68,16 +69,17 @@ fn judge_line(
     m: usize,
     n: usize,
     table: &[u8; 256],
+    owed: &[u16; 120],
     plans: &[u8],
     from: usize,
     end: usize,
 ) -> run::Answer
-    requires { ⌜ Ready (now card) m n × ColumnTable (lettersOf narrow (now card)) (now table) × (from ≤ end) × (end ≤ length (now plans)) ⌝ }
+    requires { ⌜ Ready (now card) m n × ColumnTable (lettersOf narrow (now card)) (now table) × (from ≤ end) × (end ≤ length (now plans)) × OwedTable (now card) n (now owed) ⌝ }
     ensures { λ r. ⌜ replyOf r ≡ judge narrow (now (card .entry)) (lineOf (now (plans .entry)) from end) ⌝ }
 {
     let start = run::start(card, m, n);
     let last = run::piece_by(card, m, n, table, start, &plans[from..end]);
-    run::reply(card, m, n, last)
+    run::reply_by(card, m, n, owed, last)
 }
 
 // The plans on a card that was tested.
@@ -86,10 +88,11 @@ fn judge_each(
     m: usize,
     n: usize,
     table: &[u8; 256],
+    owed: &[u16; 120],
     plans: &[u8],
     replies: &mut [u64],
 ) -> Many
-    requires { ⌜ Ready (now card) m n × ColumnTable (lettersOf narrow (now card)) (now table) ⌝ }
+    requires { ⌜ Ready (now card) m n × ColumnTable (lettersOf narrow (now card)) (now table) × OwedTable (now card) n (now owed) ⌝ }
     ensures { λ r. ⌜ JudgesLines (now (card .entry)) (now (plans .entry)) (now (replies .entry)) (now (replies .exit)) r ⌝ }
 {
     let mut count = 0;
@@ -101,7 +104,11 @@ fn judge_each(
             return Many::Judged(count, from);
         }
         let end = line_end(plans, from);
-        put_answer(replies, at, judge_line(card, m, n, table, plans, from, end));
+        put_answer(
+            replies,
+            at,
+            judge_line(card, m, n, table, owed, plans, from, end),
+        );
         count += 1;
         at += 3;
         from = end;
@@ -120,7 +127,8 @@ pub fn judge_lines(card: &[u8], plans: &[u8], replies: &mut [u64]) -> Many
         board::Loaded::Refused(number) => Many::Refused(number),
         board::Loaded::Accepted(m, n) => {
             let table = run::table(card, m, n);
-            judge_each(card, m, n, &table, plans, replies)
+            let owed = run::owed::owed_table(card, m, n);
+            judge_each(card, m, n, &table, &owed, plans, replies)
         }
     }
 }

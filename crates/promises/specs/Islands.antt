@@ -23,10 +23,12 @@ use Rattle.card.specs.Mark.{marks}
 use Rattle.card.specs.Layout.{Sound, narrow-sound, encode}
 use Rattle.card.specs.Alphabet.{columns, Known}
 use Rattle.card.specs.Answer.{load, holds, rejected}
-use Rattle.card.specs.Judge.{judge, verdict}
+use Rattle.card.specs.Reply.{answered}
+use Rattle.card.specs.Judge.{judge}
 use Rattle.card.specs.Verdict.{allowed, is-allowed}
 use Rattle.card.specs.Same.{cardOf}
 use Rattle.card.specs.Demand.{Demand3, Compiled, demand-3, card-bytes}
+use Rattle.card.specs.MountedVerdict.{MountedDemand3, mounted-demand}
 use Rattle.card.specs.Mounted.{mounted, mounted-sound, mounted-rejects}
 use Rattle.card.specs.NoLetters.{noLetters, no-letters-load, no-letters-bytes}
 use Rattle.book.specs.Text.{linesOf}
@@ -100,10 +102,10 @@ module _ (fmt : Format) (s : Sound fmt) (two : 2 ≤ fmt .mostStates) (needs tex
       (λ plan. W .plans plan ∙ sym (all-allowed plan))
 
   -- by which every plan of its letters is allowed.
-  pub no-rules-allowed : (plan : List ℕ) → Known (bookLetters (linesOf text)) plan → judge fmt c plan ≡ verdict allowed
+  pub no-rules-allowed : (plan : List ℕ) → Known (bookLetters (linesOf text)) plan → judge fmt c plan ≡ answered allowed
   no-rules-allowed plan k =
       let J = D .verdicts plan k in
-      J .answered ∙ ap verdict (sym (J .only allowed (is-allowed (all-allowed plan ∙ allWords-whole (length ls) (columns ls plan) k))))
+      J .replied ∙ ap answered (sym (J .only allowed (is-allowed (all-allowed plan ∙ allWords-whole (length ls) (columns ls plan) k))))
 
 -- "with the peak of its definitions, 0 if they made no set": the peak is that of the book's stages (`peak-of-stages`), which are those of its lines.
 pub no-stage-peak : (fmt : Format) (needs text lent : List ℕ) (room : ℕ) (c : List ℕ) (peak : ℕ) → outcome fmt needs text lent room ≡ card c peak
@@ -119,17 +121,17 @@ module _ (needs text lent : List ℕ) (room : ℕ) (c : List ℕ) (peak : ℕ) (
   pub no-rules-card-today : c ≡ cardOf narrow (bookLetters (linesOf text)) (allMachine (length (bookLetters (linesOf text))))
   no-rules-card-today = no-rules-card narrow narrow-sound (omega arith) needs text lent room c peak e (omega arith) none
 
-  pub no-rules-allowed-today : (plan : List ℕ) → Known (bookLetters (linesOf text)) plan → judge narrow c plan ≡ verdict allowed
+  pub no-rules-allowed-today : (plan : List ℕ) → Known (bookLetters (linesOf text)) plan → judge narrow c plan ≡ answered allowed
   no-rules-allowed-today = no-rules-allowed narrow narrow-sound (omega arith) needs text lent room c peak e (omega arith) none
 
 -- ---- mounted boards
 
 module _ (needs text lent : List ℕ) (room : ℕ) (c : List ℕ) (peak : ℕ) (e : outcome narrow needs text lent room ≡ card c peak) where
-  -- "mounted ones refuse m = 0 by 21, so for such a card the third demand means a board from this year": every accepted text with a byte keeps demand 3 on
-  -- mounted boards too.
-  pub mounted-keeps-demand : 1 ≤ length text → Demand3 mounted (bookLetters (linesOf text)) (bookAllows text) c
-  mounted-keeps-demand h = subst (Demand3 mounted ls (bookAllows text)) (same ∙ sym (accepted narrow needs text lent room c peak e .bytes))
-      (demand-3 mounted mounted-sound ls (allows text) (accepted narrow needs text lent room c peak e .draft .kept) as-before)
+  -- "mounted ones refuse m = 0 by 21, so for such a card the third demand means a board from this year": every accepted text with a byte keeps demand 3 on the
+  -- boards that were mounted before W2 too, whose verdicts have no number. Those mounted after them take every accepted text (Owed.antt, `mounted-since`).
+  pub mounted-keeps-demand : 1 ≤ length text → MountedDemand3 mounted (bookLetters (linesOf text)) (bookAllows text) c
+  mounted-keeps-demand h = mounted-demand mounted ls (bookAllows text) c (subst (Demand3 mounted ls (bookAllows text)) (same ∙ sym (accepted narrow needs text lent room c peak e .bytes))
+      (demand-3 mounted mounted-sound ls (allows text) (accepted narrow needs text lent room c peak e .draft .kept) as-before))
     where
       ls : List ℕ
       ls = bookLetters (linesOf text)

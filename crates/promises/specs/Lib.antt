@@ -6,3 +6,4 @@ pub mod Demands
 pub mod Today
 pub mod Factor
 pub mod Islands
+pub mod Owed

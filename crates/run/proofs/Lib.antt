@@ -2,3 +2,4 @@
 pub mod ColumnLaws
 pub mod WalkLaws
 pub mod PieceLaws
+pub mod OwedLaws

@@ -1,26 +1,29 @@
 -- Runs: past a dead state, the start, one piece more, and the answer at the end.
-use mathlib.Core.Path.{_≡_, refl, sym, ap, _∙_}
+use mathlib.Core.Path.{_≡_, sym, ap, _∙_}
 use mathlib.Core.Logic.{_≢_}
-use mathlib.Core.List.{List, [], _∷_}
+use mathlib.Core.List.{List, []}
 use Prim.Native.Nat.{ℕ, zero, suc, _+_, _-_, _≤_, _<_}
 use native.Mathlib.Omega.{arith}
 use lib.ListN.{length, getD, drop, drop-of-length-le}
-use lib.Dec.{eqb}
 use borrow.Author.Tests.{eq-eqb, ne-eqb}
 use Rattle.automata.specs.Format.{narrow}
-use Rattle.card.specs.Layout.{markAt, moveAt, lettersOf}
+use Rattle.card.specs.Layout.{markAt, lettersOf}
 use Rattle.card.specs.Alphabet.{column}
-use Rattle.card.specs.Verdict.{allowed, unfinished, hopeless}
-use Rattle.card.specs.Judge.{Place, none, found, deadAt, verdict, refused}
-use Rattle.card.specs.Run.{Run, going, halted, runStart, runOn, runReply}
+use Rattle.card.specs.Verdict.{allowed, hopeless}
+use Rattle.card.specs.Reply.{answered, refused}
+use Rattle.card.specs.Judge.{none, found}
+use Rattle.card.specs.Run.{going, halted, runStart, runOn, runReply}
 use Rattle.card.specs.RunLaws.{letter-known, letter-unknown, run-halted}
 use Rattle.run.specs.declared.Place.the-variants.{None, At}
 use Rattle.run.specs.declared.Run.{Run as Run′}
 use Rattle.run.specs.declared.Walk.{Walk}
 use Rattle.run.specs.declared.Walk.the-variants.{Done, Dead, Unknown}
-use Rattle.run.specs.Reading.{placeOf, runOf}
-use Rattle.run.specs.Walk.{Ready, Underway, KnownTo, Walked, rest, Runs}
-use Rattle.run.proofs.WalkLaws.{front, letters-many, dead-same}
+use Rattle.run.specs.declared.Answer.{Answer}
+use Rattle.run.specs.declared.End.{End}
+use Rattle.run.specs.declared.End.the-variants.{Told, Owing}
+use Rattle.run.specs.Reading.{placeOf, runOf, replyOf}
+use Rattle.run.specs.Walk.{Ready, Underway, KnownTo, Walked, rest, Runs, Tells}
+use Rattle.run.proofs.WalkLaws.{front, letters-many, on-the-way, dead-same}
 
 -- ---- past a dead state
 
@@ -60,6 +63,9 @@ start-live c d = rw (ne-eqb (markAt narrow c 0) 2 d)
 pub never : {A : Type 0} (k : ℕ) → None ≡ At k → A
 never k e = absurd (let z : _≡_ {A = ℕ} 0 1 = cc in omega arith)
 
+pub placed : {A : Type 0} (k : ℕ) → At k ≡ None → A
+placed k e = never k (sym e)
+
 -- ---- one piece more
 
 module _ (c plan : List ℕ) (r : Run′) where
@@ -82,14 +88,22 @@ module _ (c : List ℕ) (r : Run′) where
   pub reply-unknown : (k : ℕ) → r .unknown ≡ At k → refused 27 k ≡ runReply narrow c (runOf r)
   reply-unknown k e = rw e
 
-  pub reply-dead : (k : ℕ) → r .unknown ≡ None → r .dead ≡ At k → verdict (hopeless k) ≡ runReply narrow c (runOf r)
+  pub reply-dead : (k : ℕ) → r .unknown ≡ None → r .dead ≡ At k → answered (hopeless k) ≡ runReply narrow c (runOf r)
   reply-dead k e f = rw (e, f)
 
-  pub reply-allowed : r .unknown ≡ None → r .dead ≡ None → markAt narrow c (r .state) ≡ 1 → verdict allowed ≡ runReply narrow c (runOf r)
+  pub reply-allowed : r .unknown ≡ None → r .dead ≡ None → markAt narrow c (r .state) ≡ 1 → answered allowed ≡ runReply narrow c (runOf r)
   reply-allowed e f g = rw (e, f, eq-eqb (markAt narrow c (r .state)) 1 g)
 
-  pub reply-unfinished : r .unknown ≡ None → r .dead ≡ None → markAt narrow c (r .state) ≢ 1 → verdict unfinished ≡ runReply narrow c (runOf r)
-  reply-unfinished e f g = rw (e, f, ne-eqb (markAt narrow c (r .state)) 1 g)
+  pub reply-owing : (m n : ℕ) → Ready c m n → Underway c n r → r .unknown ≡ None → r .dead ≡ None → markAt narrow c (r .state) ≢ 1 → Tells c n r (Owing (r .state))
+  reply-owing m n y u e f g = (u .inside, on-the-way c m n y (r .state) (u .inside) g (u .alive f), (rw (e, f, ne-eqb (markAt narrow c (r .state)) 1 g)))
+
+-- what the end says, case by case
+module _ (c : List ℕ) (n : ℕ) (r : Run′) (e : End) (u : Tells c n r e) where
+  pub end-told : (a : Answer) → e ≡ Told a → replyOf a ≡ runReply narrow c (runOf r)
+  end-told a z = let v : Tells c n r (Told a) = rw z at u in v
+
+  pub end-owing : (q : ℕ) → e ≡ Owing q → Tells c n r (Owing q)
+  end-owing q z = let v : Tells c n r (Owing q) = rw z at u in v
 
 -- ---- the cases of a piece
 
@@ -103,11 +117,11 @@ module _ (c : List ℕ) (m n : ℕ) (plan : List ℕ) (r : Run′) where
   module _ (w : Walk) (e : r .unknown ≡ None) (f : r .dead ≡ None) (u : Walked c n plan (r .state) w) where
     pub runs-done : (q : ℕ) → w ≡ Done q → Runs c n (runOn narrow c (runOf r) plan) (record { state = q; letters = r .letters + length plan; dead = None; unknown = None })
     runs-done q z = let u′ : Walked c n plan (r .state) (Done q) = rw z at u in
-        record { is = piece-walk c plan r n (Done q) e f u′; underway = record { inside = u′ .end; dead = λ k x. never k x } }
+        record { is = piece-walk c plan r n (Done q) e f u′; underway = record { inside = u′ .end .0; dead = λ k x. never k x; alive = λ _. u′ .end .1 } }
 
     pub runs-unknown : (q a : ℕ) → w ≡ Unknown q a → Runs c n (runOn narrow c (runOf r) plan) (record { state = q; letters = r .letters + a; dead = None; unknown = At (r .letters + a) })
     runs-unknown q a z = let u′ : Walked c n plan (r .state) (Unknown q a) = rw z at u in
-        record { is = piece-walk c plan r n (Unknown q a) e f u′; underway = record { inside = u′ .end .0; dead = λ k x. never k x } }
+        record { is = piece-walk c plan r n (Unknown q a) e f u′; underway = record { inside = u′ .end .0; dead = λ k x. never k x; alive = λ _. u′ .end .1 } }
 
     pub runs-past : (q a : ℕ) (s : Run′) → w ≡ Dead q a → Runs c n (runOn narrow c (going q (r .letters + a) (found (r .letters + a))) (drop a plan)) s → Runs c n (runOn narrow c (runOf r) plan) s
     runs-past q a s z x = let u′ : Walked c n plan (r .state) (Dead q a) = rw z at u in
@@ -117,4 +131,4 @@ module _ (c : List ℕ) (m n : ℕ) (plan : List ℕ) (r : Run′) where
     ends-dead q a z = let u′ : Walked c n plan (r .state) (Dead q a) = rw z at u in u′ .end
 
     pub ends-unknown : (q a : ℕ) → w ≡ Unknown q a → a ≤ length plan
-    ends-unknown q a z = let u′ : Walked c n plan (r .state) (Unknown q a) = rw z at u in u′ .end .1
+    ends-unknown q a z = let u′ : Walked c n plan (r .state) (Unknown q a) = rw z at u in u′ .end .2

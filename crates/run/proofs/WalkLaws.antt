@@ -1,15 +1,13 @@
 -- The walk over a card that loads: letter by letter, and past a dead state.
 use mathlib.Core.Path.{_≡_, refl, sym, ap, subst, _∙_}
-use mathlib.Core.Bool.{true, false}
-use mathlib.Core.Logic.{_⊎_, inl, inr, _≢_}
+use mathlib.Core.Logic.{inl, inr, _≢_}
 use mathlib.Core.List.{List, [], _∷_}
-use Prim.Native.Nat.{ℕ, zero, suc, _+_, _*_, _-_, _≤_, _<_}
+use Prim.Native.Nat.{ℕ, suc, _+_, _*_, _-_, _≤_, _<_}
 use native.Mathlib.Nat.{le-refl, add-comm}
 use native.Mathlib.Numerals.{add-one}
 use native.Mathlib.Omega.{arith}
 use lib.ListN.{length, getD, take, drop, drop-of-length-le}
 use lib.Seq.{drop-cons, getD-take, getD-drop}
-use lib.Dec.{eqb}
 use mir.Syntax.{w8, w64}
 use mir.Val.{Fits}
 use borrow.Author.Tests.{eq-eqb, ne-eqb}
@@ -22,11 +20,10 @@ use Rattle.card.specs.Layout.{letterCount, stateCount, markAt, moveAt, lettersO
 use Rattle.card.specs.LayoutLaws.{letters-length, marksOf-length, marks-at, moves-length, moves-at, size-is}
 use Rattle.card.specs.Alphabet.{column}
 use Rattle.fields.specs.Counts.{Counted}
-use Rattle.card.specs.Load.{loadTest}
 use Rattle.card.specs.Loads.{Loaded, load-loaded, loaded-card}
 use Rattle.card.specs.Mark.{Mark, is-accepting, is-dead, is-live}
-use Rattle.card.specs.Judge.{Place, none, found, byPlace, deadAt}
-use Rattle.card.specs.Run.{Run, going, halted, runOn}
+use Rattle.card.specs.Judge.{none, found, deadAt}
+use Rattle.card.specs.Run.{going, halted, runOn}
 use Rattle.card.specs.RunLaws.{letter-known, letter-unknown, run-halted, dead-stays}
 use Rattle.run.specs.declared.Walk.the-variants.{Dead as Stopped, Unknown}
 use Rattle.run.specs.Walk.{Ready, ColumnTable, KnownTo, Walked}
@@ -51,6 +48,9 @@ module _ (c : List ℕ) (m n : ℕ) (r : Ready c m n) where
 
   pub letters-few : m ≤ 26
   letters-few = rw (r .letters) at (right .letters-most)
+
+  pub states-few : n ≤ 120
+  states-few = rw (r .states) at (right .states-most)
 
   low : (p : ℕ) → p < n → p < stateCount narrow c
   low p h = rw (r .states) h
@@ -79,6 +79,15 @@ module _ (c : List ℕ) (m n : ℕ) (r : Ready c m n) where
 
   pub mark-is : (p : ℕ) (ms : List ℕ) → ms ≡ marksOf narrow c → p < n → getD ms p 0 ≡ markAt narrow c p
   mark-is p ms e h = ap (λ l. getD l p 0) e ∙ marks-at narrow c right p (low p h)
+
+  -- a state that neither accepts nor is dead is on the way
+  pub on-the-way : (p : ℕ) → p < n → markAt narrow c p ≢ 1 → markAt narrow c p ≢ 2 → markAt narrow c p ≡ 0
+  on-the-way p h a d = go (markAt narrow c p) refl (on-card .marked p (low p h))
+    where
+      go : (v : ℕ) → markAt narrow c p ≡ v → Mark (letterCount narrow c) (machineOf narrow c) p v → markAt narrow c p ≡ 0
+      go v e (is-accepting x) = absurd (a e)
+      go v e (is-dead x) = absurd (d e)
+      go v e (is-live x w o t) = e
 
   pub some-state : 0 < n
   some-state = rw (r .states) at (right .states-some)
@@ -111,10 +120,11 @@ module _ (c plan : List ℕ) where
 
   -- After k letters of the piece the walk from p is in s, and no state on the way is dead.
   pub record WalkUpto (p s k : ℕ) : Type 0 where
+    pub alive : markAt narrow c s ≢ 2
     pub is : (j : ℕ) → runOn narrow c (going p j none) plan ≡ runOn narrow c (going s (j + k) none) (drop k plan)
 
-  pub walk-start : (p : ℕ) → WalkUpto p p 0
-  walk-start p = record { is = λ j. let z : j + 0 ≡ j = omega arith in rw z }
+  pub walk-start : (p : ℕ) → markAt narrow c p ≢ 2 → WalkUpto p p 0
+  walk-start p d = record { alive = d; is = λ j. let z : j + 0 ≡ j = omega arith in rw z }
 
   module _ (p s k : ℕ) (h : k < length plan) (u : WalkUpto p s k) where
     one-more : (j : ℕ) → column ks (getD plan k 0) < length ks
@@ -125,7 +135,7 @@ module _ (c plan : List ℕ) where
         ∙ ap (λ r. runOn narrow c r (drop (k + 1) plan)) (letter-known narrow c s (j + k) none (getD plan k 0) v ∙ ap (λ x. going (moveAt narrow c s (column ks (getD plan k 0))) x (deadAt narrow c (moveAt narrow c s (column ks (getD plan k 0))) x)) z)
 
     pub walk-next : (q : ℕ) → q ≡ moveAt narrow c s (column ks (getD plan k 0)) → column ks (getD plan k 0) < length ks → markAt narrow c q ≢ 2 → WalkUpto p q (k + 1)
-    walk-next q e v d = record { is = λ j. one-more j v ∙ (rw (← e) (rw (ne-eqb (markAt narrow c q) 2 d))) }
+    walk-next q e v d = record { alive = d; is = λ j. one-more j v ∙ (rw (← e) (rw (ne-eqb (markAt narrow c q) 2 d))) }
 
     pub walk-dead : (q : ℕ) → q ≡ moveAt narrow c s (column ks (getD plan k 0)) → column ks (getD plan k 0) < length ks → markAt narrow c q ≡ 2
         → (j : ℕ) → runOn narrow c (going p j none) plan ≡ runOn narrow c (going q (j + (k + 1)) (found (j + (k + 1)))) (drop (k + 1) plan)
@@ -161,7 +171,7 @@ turn-most k l h = omega arith
 module _ (c : List ℕ) (m n : ℕ) (r : Ready c m n) (t : List ℕ) (T : ColumnTable (lettersOf narrow c) t) (plan : List ℕ) (p s k : ℕ) (h : k < length plan) (a : s < n) (u : WalkUpto c plan p s k)
     (f : Fits w8 (getD plan k 0)) where
   pub turn-unknown : m ≤ getD t (getD plan k 0) 0 → Walked c n plan p (Unknown s k)
-  turn-unknown v = record { is = walk-unknown c plan p s k h u (column-unknown c m n r t T (getD plan k 0) f v); end = (a, omega arith) }
+  turn-unknown v = record { is = walk-unknown c plan p s k h u (column-unknown c m n r t T (getD plan k 0) f v); end = (a, u .alive, omega arith) }
 
   module _ (v : getD t (getD plan k 0) 0 < m) (moves : List ℕ) (me : moves ≡ movesOf narrow c) (marks : List ℕ) (ke : marks ≡ marksOf narrow c) (q : ℕ)
       (e : q ≡ getD moves (s * m + getD t (getD plan k 0) 0) 0) where

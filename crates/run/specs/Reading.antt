@@ -1,6 +1,7 @@
 -- The walk's values, each read as that of the card's definitions; and for each case of the answer the paper's number and values (card, Answer.antt).
 use Rattle.card.specs.Verdict.{Verdict, allowed, unfinished, hopeless}
-use Rattle.card.specs.Judge.{Place, none, found, Reply, verdict, refused}
+use Rattle.card.specs.Reply.{Reply, answered, refused}
+use Rattle.card.specs.Judge.{Place, none, found}
 use Rattle.card.specs.Run.{Run}
 use Rattle.run.specs.declared.Place.{Place as Place′}
 use Rattle.run.specs.declared.Place.the-variants.{None, At}
@@ -19,9 +20,9 @@ runOf r = record { state = r .state; letters = r .letters; dead = placeOf (r .de
 
 abbrev pub verdictOf : Verdict′ → Verdict
 verdictOf Allowed = allowed
-verdictOf Unfinished = unfinished
+verdictOf (Unfinished k) = unfinished k
 verdictOf (Hopeless k) = hopeless k
 
-abbrev pub replyOf : Answer → Reply
-replyOf (Judged v) = verdict (verdictOf v)
+abbrev pub replyOf : Answer → Reply Verdict
+replyOf (Judged v) = answered (verdictOf v)
 replyOf (Refused number before) = refused number before

@@ -1,8 +1,10 @@
-// The walk over a card that was tested, whole or in pieces. These are parts: what they require, one load establishes. So a plan has no longest length,
-// while the letters so far fit in 64 bits.
+// The walk over a card that was tested, whole or in pieces, and the answer at its end. These are parts: what they require, one load establishes. So a plan has no
+// longest length, while the letters so far fit in 64 bits.
 mod columns;
+pub mod owed;
 
 ghost use mathlib.Core.Path.{_≡_};
+ghost use mathlib.Core.Logic.{_≢_};
 ghost use Prim.Native.Nat.{_+_, _*_, _-_, _≤_, _<_, _^_};
 ghost use lib.ListN.{length, getD, drop};
 ghost use Rattle.automata.specs.Format.{narrow};
@@ -10,7 +12,7 @@ ghost use Rattle.card.specs.Layout.{lettersOf, markAt};
 ghost use Rattle.card.specs.Judge.{found};
 ghost use Rattle.card.specs.Run.{going, runStart, runOn, runReply};
 ghost use Rattle.run.specs.Reading.{runOf, replyOf};
-ghost use Rattle.run.specs.Walk.{Ready, Underway, ColumnTable, KnownTo, Walked, Runs};
+ghost use Rattle.run.specs.Walk.{Ready, Underway, ColumnTable, OwedTable, KnownTo, Walked, Runs, Tells};
 
 // A place in a plan, or none.
 pub enum Place {
@@ -27,10 +29,10 @@ pub struct Run {
     pub unknown: Place,
 }
 
-// "allowed, unfinished, or hopeless with a place"
+// "allowed, unfinished, or hopeless with a place"; unfinished with the fewest further letters after which the plan is allowed
 pub enum Verdict {
     Allowed,
-    Unfinished,
+    Unfinished(usize),
     Hopeless(usize),
 }
 
@@ -47,8 +49,14 @@ pub enum Walk {
     Unknown(usize, usize),
 }
 
+// What a run says at the plan's end: the answer, or, of an unfinished plan, its last state.
+pub enum End {
+    Told(Answer),
+    Owing(usize),
+}
+
 // Where the state s leads by the column i. The column's first place comes before the product, since only the product waits for the state before.
-fn next(moves: &[u8], m: usize, s: usize, i: usize) -> usize
+pub fn next(moves: &[u8], m: usize, s: usize, i: usize) -> usize
     requires { ⌜ s * m + i < length (now moves) ⌝ }
     ensures { λ r. ⌜ (r ≡ getD (now (moves .entry)) (s * m + i) 0) × (r < 256) ⌝ }
 {
@@ -58,7 +66,7 @@ fn next(moves: &[u8], m: usize, s: usize, i: usize) -> usize
 
 // Letter by letter from a state, until one is dead.
 fn walk_on(card: &[u8], m: usize, n: usize, table: &[u8; 256], plan: &[u8], state: usize) -> Walk
-    requires { ⌜ Ready (now card) m n × ColumnTable (lettersOf narrow (now card)) (now table) × (state < n) ⌝ }
+    requires { ⌜ Ready (now card) m n × ColumnTable (lettersOf narrow (now card)) (now table) × (state < n) × (markAt narrow (now card) state ≢ 2) ⌝ }
     ensures { λ r. ⌜ Walked (now (card .entry)) n (now (plan .entry)) state r ⌝ }
 {
     let marks = fields::marks(card, m, n);
@@ -203,23 +211,45 @@ pub fn piece(card: &[u8], m: usize, n: usize, run: Run, plan: &[u8]) -> Run
     piece_by(card, m, n, &columns, run, plan)
 }
 
-// The answer of a run at the plan's end.
-pub fn reply(card: &[u8], m: usize, n: usize, run: Run) -> Answer
+// What a run says at the plan's end.
+fn ended(card: &[u8], m: usize, n: usize, run: Run) -> End
     requires { ⌜ Ready (now card) m n × Underway (now card) n run ⌝ }
-    ensures { λ r. ⌜ replyOf r ≡ runReply narrow (now (card .entry)) (runOf run) ⌝ }
+    ensures { λ r. ⌜ Tells (now (card .entry)) n run r ⌝ }
 {
     let unknown = run.unknown;
     let dead = run.dead;
     let state = run.state;
     if let Place::At(k) = unknown {
-        return Answer::Refused(27, k);
+        return End::Told(Answer::Refused(27, k));
     }
     if let Place::At(k) = dead {
-        return Answer::Judged(Verdict::Hopeless(k));
+        return End::Told(Answer::Judged(Verdict::Hopeless(k)));
     }
     let marks = fields::marks(card, m, n);
     if marks[state] == 1 {
-        return Answer::Judged(Verdict::Allowed);
+        return End::Told(Answer::Judged(Verdict::Allowed));
     }
-    Answer::Judged(Verdict::Unfinished)
+    End::Owing(state)
+}
+
+// The answer of a run at the plan's end. Where the plan is unfinished the letters owed are searched for.
+pub fn reply(card: &[u8], m: usize, n: usize, run: Run) -> Answer
+    requires { ⌜ Ready (now card) m n × Underway (now card) n run ⌝ }
+    ensures { λ r. ⌜ replyOf r ≡ runReply narrow (now (card .entry)) (runOf run) ⌝ }
+{
+    match ended(card, m, n, run) {
+        End::Told(answer) => answer,
+        End::Owing(last) => Answer::Judged(Verdict::Unfinished(owed::owed(card, m, n, last))),
+    }
+}
+
+// The same by the card's table of letters owed.
+pub fn reply_by(card: &[u8], m: usize, n: usize, owed: &[u16; 120], run: Run) -> Answer
+    requires { ⌜ Ready (now card) m n × OwedTable (now card) n (now owed) × Underway (now card) n run ⌝ }
+    ensures { λ r. ⌜ replyOf r ≡ runReply narrow (now (card .entry)) (runOf run) ⌝ }
+{
+    match ended(card, m, n, run) {
+        End::Told(answer) => answer,
+        End::Owing(last) => Answer::Judged(Verdict::Unfinished(owed[last] as usize)),
+    }
 }

@@ -7,11 +7,19 @@ use native.Mathlib.Omega.{arith}
 use lib.ListN.{length, getD, set, take}
 use lib.Seq.{take-suc, take-suc-set, take-all, length-take-le}
 use Rattle.io.specs.Counts.{Counts}
-use Rattle.stream.specs.Text.{Put}
+use Rattle.stream.specs.Text.{Put, decimal}
+use Rattle.stream.specs.TextLaws.{one-digit}
 
 -- a number of the buffer's first bytes
 pub counts-le : (n : ℕ) (l : List ℕ) → n ≤ length l → Counts n l
 counts-le n l h = (h, sym (length-take-le n l h))
+
+-- one digit
+pub digit-put : (out : List ℕ) (at n : ℕ) → at < length out → n < 10 → Put out at (decimal n) (set out at (48 + n)) (at + 1)
+digit-put out at n h b = record {
+  place = omega (arith, ap length (one-digit n b));
+  is = rw (add-one at) (take-suc-set out at (48 + n) h ∙ ap (λ l. take at out ++ l) (sym (one-digit n b)));
+}
 
 -- The first i bytes of the text are put.
 pub record PutUpto (out : List ℕ) (at : ℕ) (text out′ : List ℕ) (i : ℕ) : Type 0 where

@@ -1,14 +1,14 @@
 -- Text behind text, and how many digits a number has.
 use mathlib.Core.Path.{_≡_, ap, _∙_}
 use mathlib.Core.Logic.{inl, inr}
-use mathlib.Core.List.{List, _++_, append-assoc}
+use mathlib.Core.List.{List, [], _∷_, _++_, append-assoc}
 use Prim.Native.Nat.{ℕ, zero, suc, _+_, _-_, _*_, _^_, _≤_, _<_}
-use native.Mathlib.Nat.{pow-le-pow-right, zero-lt-suc}
+use native.Mathlib.Nat.{pow-le-pow-right, zero-lt-suc, mod-eq-of-lt}
 use native.Mathlib.Omega.{arith}
-use lib.ListN.{length, take, length-append}
+use lib.ListN.{take, length-append}
 use Rattle.io.specs.Digits.{Fewest}
-use Rattle.automata.specs.Basics.{LtCases, lt-cases}
-use Rattle.stream.specs.Text.{Put, places}
+use Rattle.automata.specs.Basics.{LtCases, lt-cases, lt-ltb}
+use Rattle.stream.specs.Text.{Put, places, decimal}
 
 -- one text behind another
 pub put-put : (a : List ℕ) (at : ℕ) (t b : List ℕ) (q : ℕ) (u c : List ℕ) (r : ℕ) → Put a at t b q → Put b q u c r → Put a at (t ++ u) c r
@@ -60,3 +60,9 @@ module _ (n k : ℕ) (w : Fewest 10 1 n k) where
 
   pub fewest-places : places n n 1 ≡ k
   fewest-places = from n 1 (omega arith) (w .0) (few (lt-cases 1 k))
+
+-- a number below 10 is its digit
+pub one-digit : (n : ℕ) → n < 10 → decimal n ≡ (48 + n) ∷ []
+one-digit n h =
+    let z : places n n 1 ≡ 1 = fewest-places n 1 (omega arith, omega arith, λ x. absurd (omega arith)) in
+    rw (z, mod-eq-of-lt h, lt-ltb n 10 h)

@@ -1,9 +1,11 @@
 // What the programs share: a whole input in a lent buffer, and text in one.
-ghost use mathlib.Core.Path.{_≡_};
-ghost use Prim.Native.Nat.{_+_, _≤_};
+ghost use Prim.Native.Nat.{_+_, _≤_, _<_};
 ghost use lib.ListN.{length};
-ghost use Rattle.stream.specs.Text.{Put, PutNumber};
+ghost use Rattle.stream.specs.Text.{Put, PutNumber, decimal};
 ghost use Rattle.stream.specs.Input.{Within};
+
+// The byte of the digit 0.
+const ZERO: u8 = 48;
 
 // An input's bytes, as many as were read up to its end or the buffer's; or that a read failed, which is not the input's end.
 pub enum Input {
@@ -43,11 +45,23 @@ pub fn put(out: &mut [u8], at: usize, text: &[u8]) -> usize
     at + i
 }
 
-// A number in decimal digits.
+// A number below 10 as its digit.
+fn put_digit(out: &mut [u8], at: usize, digit: u8) -> usize
+    requires { ⌜ (at < length (now out)) × (digit < 10) ⌝ }
+    ensures { λ r. ⌜ Put (now (out .entry)) at (decimal digit) (now (out .exit)) r ⌝ }
+{
+    out[at] = ZERO + digit;
+    at + 1
+}
+
+// A number in decimal digits. Most have one.
 pub fn put_number(out: &mut [u8], at: usize, number: usize) -> usize
     requires { ⌜ at + 20 ≤ length (now out) ⌝ }
     ensures { λ r. ⌜ PutNumber (now (out .entry)) at number (now (out .exit)) r ⌝ }
 {
+    if number < 10 {
+        return put_digit(out, at, number as u8);
+    }
     let mut digits = [0u8; 20];
     let k = io::decimal(number as u64, &mut digits);
     put(out, at, &digits[..k])

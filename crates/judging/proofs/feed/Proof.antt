@@ -9,10 +9,10 @@ use Rattle.judging.proofs.feed.Statement.{statement}
 use Rattle.judging.proofs.feed.Tie as tie
 
 abbrev Inv-loop : tie.InvT-loop
-Inv-loop card columns bytes out₀ judging₀ open₀ at₀ from₀ out judging «open» at from = (length out ≡ length out₀) × Upto card bytes judging₀ open₀ from judging «open» out at
+Inv-loop card columns owed bytes out₀ judging₀ open₀ at₀ from₀ out judging «open» at from = (length out ≡ length out₀) × Upto card bytes judging₀ open₀ from judging «open» out at
 
 abbrev μ-loop : tie.MeasureT-loop
-μ-loop card columns bytes out₀ judging₀ open₀ at₀ from₀ out judging «open» at from = length bytes - from
+μ-loop card columns owed bytes out₀ judging₀ open₀ at₀ from₀ out judging «open» at from = length bytes - from
 
 loop-holds : tie.Need-loop-holds Inv-loop μ-loop
 loop-holds c = (search needs, upto-none _ _ _ _ _)
@@ -48,7 +48,7 @@ returns-2 : tie.Need-returns-2 Inv-loop μ-loop
 returns-2 c = feeds-last _ _ _ _ _ _ _ _ _ (c .before .before .before .before .before .before .loop .inv .1) _ (c .before .before .before .line-end .ensures) _ (c .before .more .ensures) (c .before .before .before .before .before .loop-test .taken) (omega (arith, c .if2 .taken))
 
 answer-requires : tie.Need-answer-requires Inv-loop μ-loop
-answer-requires c κs = c .before .before .more .ensures .tests
+answer-requires c κs = (c .before .before .more .ensures .tests, c .before .before .before .before .before .before .before .before .before .before .before .before .pre .3)
 
 line-requires : tie.Need-line-requires Inv-loop μ-loop
 line-requires c κs = omega (arith, (c .before .before .before .before .before .before .before .before .loop .inv .1) .within, c .before .before .before .before .before .before .if1 .left)

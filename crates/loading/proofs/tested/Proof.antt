@@ -1,6 +1,6 @@
 -- `tested` meets its contract, test by test.
 use borrow.Author.Needs.{needs}
-use Rattle.loading.proofs.LoadLaws.{load-22, alphabet-right, load-23, inside-right, card-table, letters-most, load-24, numbered-right, marked-right, load-25, load-26, load-0}
+use Rattle.loading.proofs.LoadLaws.{load-22, alphabet-right, load-23, inside-right, table-right, letters-most, load-24, numbered-right, marked-right, load-25, load-26, load-0}
 use Rattle.loading.proofs.tested.Statement.{statement}
 use Rattle.loading.proofs.tested.Tie as tie
 
@@ -20,22 +20,34 @@ returns-2 : tie.Need-returns-2
 returns-2 c = load-23 _ _ _ (c .before .before .before .before .before .before .before .before .pre) (alphabet-right _ _ _ (c .before .before .before .before .before .before .before .before .pre) _ _ (c .before .before .before .before .before .before .letters .ensures) (c .before .before .before .before .before .alphabet .ensures) (c .before .before .before .before .if1 .left)) _ (c .before .before .moves .ensures) _ (c .before .inside .ensures) (c .if2 .taken)
 
 numbered-requires : tie.Need-numbered-requires
-numbered-requires c κs = card-table _ _ _ (c .before .before .before .before .before .before .before .before .pre) (alphabet-right _ _ _ (c .before .before .before .before .before .before .before .before .pre) _ _ (c .before .before .before .before .before .before .letters .ensures) (c .before .before .before .before .before .alphabet .ensures) (c .before .before .before .before .if1 .left)) _ (c .before .before .moves .ensures) (inside-right _ _ _ (c .before .before .before .before .before .before .before .before .pre) (alphabet-right _ _ _ (c .before .before .before .before .before .before .before .before .pre) _ _ (c .before .before .before .before .before .before .letters .ensures) (c .before .before .before .before .before .alphabet .ensures) (c .before .before .before .before .if1 .left)) _ (c .before .before .moves .ensures) _ (c .before .inside .ensures) (c .if2 .left)) _ (c .before .before .before .marks .ensures)
+numbered-requires c κs =
+    let c8 = c .before .before .before .before .before .before .before .before in
+    let a = alphabet-right _ _ _ (c8 .pre) _ _ (c .before .before .before .before .before .before .letters .ensures) (c .before .before .before .before .before .alphabet .ensures) (c .before .before .before .before .if1 .left) in
+    let m = c .before .before .moves .ensures in
+    table-right _ _ _ (c8 .pre) a _ m (inside-right _ _ _ (c8 .pre) a _ m _ (c .before .inside .ensures) (c .if2 .left)) _ (c .before .before .before .marks .ensures)
 
 returns-3 : tie.Need-returns-3
 returns-3 c = load-24 _ _ _ (c .before .before .before .before .before .before .before .before .before .before .pre) (alphabet-right _ _ _ (c .before .before .before .before .before .before .before .before .before .before .pre) _ _ (c .before .before .before .before .before .before .before .before .letters .ensures) (c .before .before .before .before .before .before .before .alphabet .ensures) (c .before .before .before .before .before .before .if1 .left)) _ (c .before .before .before .before .moves .ensures) (inside-right _ _ _ (c .before .before .before .before .before .before .before .before .before .before .pre) (alphabet-right _ _ _ (c .before .before .before .before .before .before .before .before .before .before .pre) _ _ (c .before .before .before .before .before .before .before .before .letters .ensures) (c .before .before .before .before .before .before .before .alphabet .ensures) (c .before .before .before .before .before .before .if1 .left)) _ (c .before .before .before .before .moves .ensures) _ (c .before .before .before .inside .ensures) (c .before .before .if2 .left)) _ (c .before .before .before .before .before .marks .ensures) _ (c .before .numbered .ensures) (c .if3 .taken)
 
 marked-requires : tie.Need-marked-requires
-marked-requires c κs = card-table _ _ _ (c .before .before .before .before .before .before .before .before .before .before .pre) (alphabet-right _ _ _ (c .before .before .before .before .before .before .before .before .before .before .pre) _ _ (c .before .before .before .before .before .before .before .before .letters .ensures) (c .before .before .before .before .before .before .before .alphabet .ensures) (c .before .before .before .before .before .before .if1 .left)) _ (c .before .before .before .before .moves .ensures) (inside-right _ _ _ (c .before .before .before .before .before .before .before .before .before .before .pre) (alphabet-right _ _ _ (c .before .before .before .before .before .before .before .before .before .before .pre) _ _ (c .before .before .before .before .before .before .before .before .letters .ensures) (c .before .before .before .before .before .before .before .alphabet .ensures) (c .before .before .before .before .before .before .if1 .left)) _ (c .before .before .before .before .moves .ensures) _ (c .before .before .before .inside .ensures) (c .before .before .if2 .left)) _ (c .before .before .before .before .before .marks .ensures)
+marked-requires c κs =
+    let c4 = c .before .before .before .before in
+    let c6 = c4 .before .before in
+    let c10 = c6 .before .before .before .before in
+    let a = alphabet-right _ _ _ (c10 .pre) _ _ (c6 .before .before .letters .ensures) (c6 .before .alphabet .ensures) (c6 .if1 .left) in
+    table-right _ _ _ (c10 .pre) a _ (c4 .moves .ensures) (inside-right _ _ _ (c10 .pre) a _ (c4 .moves .ensures) _ (c .before .before .before .inside .ensures) (c .before .before .if2 .left)) _ (c4 .before .marks .ensures)
 
 returns-4 : tie.Need-returns-4
 returns-4 c = load-25 _ _ _ (c .before .before .before .before .before .before .before .before .before .before .before .before .pre) (alphabet-right _ _ _ (c .before .before .before .before .before .before .before .before .before .before .before .before .pre) _ _ (c .before .before .before .before .before .before .before .before .before .before .letters .ensures) (c .before .before .before .before .before .before .before .before .before .alphabet .ensures) (c .before .before .before .before .before .before .before .before .if1 .left)) _ (c .before .before .before .before .before .before .moves .ensures) (inside-right _ _ _ (c .before .before .before .before .before .before .before .before .before .before .before .before .pre) (alphabet-right _ _ _ (c .before .before .before .before .before .before .before .before .before .before .before .before .pre) _ _ (c .before .before .before .before .before .before .before .before .before .before .letters .ensures) (c .before .before .before .before .before .before .before .before .before .alphabet .ensures) (c .before .before .before .before .before .before .before .before .if1 .left)) _ (c .before .before .before .before .before .before .moves .ensures) _ (c .before .before .before .before .before .inside .ensures) (c .before .before .before .before .if2 .left)) _ (c .before .before .before .before .before .before .before .marks .ensures) (numbered-right _ _ _ (c .before .before .before .before .before .before .before .before .before .before .before .before .pre) (alphabet-right _ _ _ (c .before .before .before .before .before .before .before .before .before .before .before .before .pre) _ _ (c .before .before .before .before .before .before .before .before .before .before .letters .ensures) (c .before .before .before .before .before .before .before .before .before .alphabet .ensures) (c .before .before .before .before .before .before .before .before .if1 .left)) _ (c .before .before .before .before .before .before .moves .ensures) (inside-right _ _ _ (c .before .before .before .before .before .before .before .before .before .before .before .before .pre) (alphabet-right _ _ _ (c .before .before .before .before .before .before .before .before .before .before .before .before .pre) _ _ (c .before .before .before .before .before .before .before .before .before .before .letters .ensures) (c .before .before .before .before .before .before .before .before .before .alphabet .ensures) (c .before .before .before .before .before .before .before .before .if1 .left)) _ (c .before .before .before .before .before .before .moves .ensures) _ (c .before .before .before .before .before .inside .ensures) (c .before .before .before .before .if2 .left)) _ (c .before .before .before .before .before .before .before .marks .ensures) _ (c .before .before .before .numbered .ensures) (c .before .before .if3 .left)) _ (c .before .marked .ensures) (c .if4 .taken)
 
 reduced-requires : tie.Need-reduced-requires
-reduced-requires c κs = (
-  card-table _ _ _ (c .before .before .before .before .before .before .before .before .before .before .before .before .pre) (alphabet-right _ _ _ (c .before .before .before .before .before .before .before .before .before .before .before .before .pre) _ _ (c .before .before .before .before .before .before .before .before .before .before .letters .ensures) (c .before .before .before .before .before .before .before .before .before .alphabet .ensures) (c .before .before .before .before .before .before .before .before .if1 .left)) _ (c .before .before .before .before .before .before .moves .ensures) (inside-right _ _ _ (c .before .before .before .before .before .before .before .before .before .before .before .before .pre) (alphabet-right _ _ _ (c .before .before .before .before .before .before .before .before .before .before .before .before .pre) _ _ (c .before .before .before .before .before .before .before .before .before .before .letters .ensures) (c .before .before .before .before .before .before .before .before .before .alphabet .ensures) (c .before .before .before .before .before .before .before .before .if1 .left)) _ (c .before .before .before .before .before .before .moves .ensures) _ (c .before .before .before .before .before .inside .ensures) (c .before .before .before .before .if2 .left)) _ (c .before .before .before .before .before .before .before .marks .ensures),
-  letters-most _ _ _ (c .before .before .before .before .before .before .before .before .before .before .before .before .pre) (alphabet-right _ _ _ (c .before .before .before .before .before .before .before .before .before .before .before .before .pre) _ _ (c .before .before .before .before .before .before .before .before .before .before .letters .ensures) (c .before .before .before .before .before .before .before .before .before .alphabet .ensures) (c .before .before .before .before .before .before .before .before .if1 .left)) _ (c .before .before .before .before .before .before .moves .ensures) (inside-right _ _ _ (c .before .before .before .before .before .before .before .before .before .before .before .before .pre) (alphabet-right _ _ _ (c .before .before .before .before .before .before .before .before .before .before .before .before .pre) _ _ (c .before .before .before .before .before .before .before .before .before .before .letters .ensures) (c .before .before .before .before .before .before .before .before .before .alphabet .ensures) (c .before .before .before .before .before .before .before .before .if1 .left)) _ (c .before .before .before .before .before .before .moves .ensures) _ (c .before .before .before .before .before .inside .ensures) (c .before .before .before .before .if2 .left)) _ (c .before .before .before .before .before .before .before .marks .ensures),
-)
+reduced-requires c κs =
+    let c6 = c .before .before .before .before .before .before in
+    let c8 = c6 .before .before in
+    let c12 = c8 .before .before .before .before in
+    let a = alphabet-right _ _ _ (c12 .pre) _ _ (c8 .before .before .letters .ensures) (c8 .before .alphabet .ensures) (c8 .if1 .left) in
+    let i = inside-right _ _ _ (c12 .pre) a _ (c6 .moves .ensures) _ (c .before .before .before .before .before .inside .ensures) (c .before .before .before .before .if2 .left) in
+    (table-right _ _ _ (c12 .pre) a _ (c6 .moves .ensures) i _ (c6 .before .marks .ensures), letters-most _ _ _ (c12 .pre) a _ (c6 .moves .ensures) i _ (c6 .before .marks .ensures))
 
 returns-5 : tie.Need-returns-5
 returns-5 c =

@@ -16,10 +16,14 @@ returns-2 : tie.Need-returns-2
 returns-2 c = handed-as (λ a. numbers (replyNumbers (replyOf a))) _ _ _ (c .put2 .ensures) (sym (c .before .before .before .before .before .answer2 .given .1 ∙ ap Judged (c .before .before .enum-told .given .1)))
 
 returns-3 : tie.Need-returns-3
-returns-3 c = handed-as (λ a. numbers (replyNumbers (replyOf a))) _ _ _ (c .put3 .ensures) (sym (c .before .before .before .before .before .answer2 .given .1 ∙ ap Judged (c .before .before .enum-told2 .given .1)))
+returns-3 c =
+    let c3 = c .before .before .before in
+    handed-as (λ a. numbers (replyNumbers (replyOf a))) _ _ _ (c .put3 .ensures) (sym (c3 .before .before .before .answer2 .given .1 ∙ ap Judged (c3 .verdict .given .1)))
 
 returns-4 : tie.Need-returns-4
-returns-4 c = handed-as (λ a. numbers (replyNumbers (replyOf a))) _ _ _ (c .put4 .ensures) (sym (c .before .before .before .before .before .before .answer2 .given .1 ∙ ap Judged (c .before .before .before .verdict .given .1)))
+returns-4 c =
+    let c3 = c .before .before .before in
+    handed-as (λ a. numbers (replyNumbers (replyOf a))) _ _ _ (c .put4 .ensures) (sym (c3 .before .before .before .answer2 .given .1 ∙ ap Judged (c3 .verdict2 .given .1)))
 
 pub judged-spec : {M : Type 1} → statement M
 judged-spec =

@@ -7,10 +7,10 @@ use Rattle.plans.proofs.judge_each.Statement.{statement}
 use Rattle.plans.proofs.judge_each.Tie as tie
 
 abbrev Inv-loop : tie.InvT-loop
-Inv-loop card m n table plans replies₀ count₀ at₀ from₀ replies count at from = Upto card plans replies₀ count at from replies
+Inv-loop card m n table owed plans replies₀ count₀ at₀ from₀ replies count at from = Upto card plans replies₀ count at from replies
 
 abbrev μ-loop : tie.MeasureT-loop
-μ-loop card m n table plans replies₀ count₀ at₀ from₀ replies count at from = length plans - from
+μ-loop card m n table owed plans replies₀ count₀ at₀ from₀ replies count at from = length plans - from
 
 loop-holds : tie.Need-loop-holds Inv-loop μ-loop
 loop-holds c = upto-none _ _ _
@@ -28,7 +28,9 @@ line-end-requires : tie.Need-line-end-requires Inv-loop μ-loop
 line-end-requires c κs = c .before .before .loop .inv .inside
 
 judge-line-requires : tie.Need-judge-line-requires Inv-loop μ-loop
-judge-line-requires c κs = (c .before .before .before .before .before .before .before .before .pre .0, c .before .before .before .before .before .before .before .before .pre .1, c .before .line-end .ensures .low, c .before .line-end .ensures .most)
+judge-line-requires c κs =
+    let p = c .before .before .before .before .before .before .before .before .pre in
+    (p .0, p .1, c .before .line-end .ensures .low, c .before .line-end .ensures .most, p .2)
 
 put-answer-requires : tie.Need-put-answer-requires Inv-loop μ-loop
 put-answer-requires c κs = upto-fits _ _ _ _ _ _ _ (c .before .before .before .before .before .loop .inv) (c .before .before .before .if1 .left)

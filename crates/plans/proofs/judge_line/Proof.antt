@@ -9,10 +9,18 @@ use Rattle.plans.proofs.judge_line.Statement.{statement}
 use Rattle.plans.proofs.judge_line.Tie as tie
 
 piece-by-requires : tie.Need-piece-by-requires
-piece-by-requires c κs = (c .before .before .before .before .pre .0, c .before .before .before .before .pre .1, c .before .start .ensures .underway, start-fits _ _ _ (lineOf (c .before .before .before .before .args .plans .now) (c .before .before .before .before .args .from) (c .before .before .before .before .args .end)) (c .before .start .ensures) (omega (arith, line-small (c .before .before .before .before .args .plans .now) (c .before .before .before .before .args .from) (c .before .before .before .before .args .end))))
+piece-by-requires c κs =
+    let a = c .before .before .before .before in
+    let line = lineOf (a .args .plans .now) (a .args .from) (a .args .end) in
+    (a .pre .0, a .pre .1, c .before .start .ensures .underway, start-fits _ _ _ line (c .before .start .ensures) (omega (arith, line-small (a .args .plans .now) (a .args .from) (a .args .end))))
 
 returns : tie.Need-returns
-returns c = after-reply _ _ _ (c .before .before .before .before .before .before .pre .0) (lineOf (c .before .before .before .before .before .before .args .plans .now) (c .before .before .before .before .before .before .args .from) (c .before .before .before .before .before .before .args .end)) (c .before .piece-by .result) (c .reply .result) (after-start _ _ (lineOf (c .before .before .before .before .before .before .args .plans .now) (c .before .before .before .before .before .before .args .from) (c .before .before .before .before .before .before .args .end)) (c .before .before .before .start .result) (c .before .piece-by .result) (c .before .before .before .start .ensures) (c .before .piece-by .ensures)) (c .reply .ensures)
+returns c =
+    let a = c .before .before .before .before .before .before in
+    let s = c .before .before .before .start in
+    let q = c .before .piece-by in
+    let line = lineOf (a .args .plans .now) (a .args .from) (a .args .end) in
+    after-reply _ _ _ (a .pre .0) line (q .result) (c .reply-by .result) (after-start _ _ line (s .result) (q .result) (s .ensures) (q .ensures)) (c .reply-by .ensures)
 
 pub judge-line-spec : {M : Type 1} → statement M
 judge-line-spec =

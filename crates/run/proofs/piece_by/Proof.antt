@@ -1,12 +1,6 @@
 -- `piece_by` meets its contract, case by case.
-use mathlib.Core.Path.{ap}
 use native.Mathlib.Omega.{arith}
-use lib.ListN.{length}
 use borrow.Author.Needs.{needs}
-use Rattle.automata.specs.Format.{narrow}
-use Rattle.card.specs.Layout.{lettersOf}
-use Rattle.run.specs.Walk.{ColumnTable}
-use Rattle.run.proofs.WalkLaws.{ready-counted, letters-many, letters-few}
 use Rattle.run.proofs.PieceLaws.{runs-halted, runs-dead, runs-done, runs-unknown, runs-past, ends-dead, ends-unknown}
 use Rattle.run.proofs.piece_by.Statement.{statement}
 use Rattle.run.proofs.piece_by.Tie as tie
@@ -21,7 +15,7 @@ returns-2 : tie.Need-returns-2
 returns-2 c = runs-dead (c .before .before .before .before .before .before .before .before .args .card .now) (c .before .before .before .before .before .before .before .before .args .m) _ (c .before .before .before .before .before .before .before .before .args .plan .now) (c .before .before .before .before .before .before .before .before .args .run) _ _ (c .before .before .before .before .enum-told2 .given .1) (c .before .before .dead .given .1) (c .past-dead .ensures)
 
 walk-on-requires : tie.Need-walk-on-requires
-walk-on-requires c κs = (c .before .before .before .before .before .before .pre .0, c .before .before .before .before .before .before .pre .1, c .before .before .before .before .before .before .pre .2 .inside)
+walk-on-requires c κs = let c6 = c .before .before .before .before .before .before in (c6 .pre .0, c6 .pre .1, c6 .pre .2 .inside, c6 .pre .2 .alive (c .enum-told3 .given .1))
 
 add-t20 : tie.Need-add-t20
 add-t20 c = omega (arith, c .before .before .before .before .before .before .before .before .before .before .pre .3)

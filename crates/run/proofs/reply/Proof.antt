@@ -1,40 +1,28 @@
--- `reply` meets its contract.
-use mathlib.Core.Path.{sym, _∙_}
+-- `reply` meets its contract: the answer that is told, or the number that is searched for.
+use mathlib.Core.Path.{sym, ap, _∙_}
 use borrow.Author.Needs.{needs}
-use Rattle.run.proofs.WalkLaws.{ready-counted, mark-room, mark-is}
-use Rattle.run.proofs.PieceLaws.{reply-unknown, reply-dead, reply-allowed, reply-unfinished}
+use Rattle.card.specs.Verdict.{unfinished}
+use Rattle.card.specs.Reply.{answered}
+use Rattle.run.proofs.PieceLaws.{end-told, end-owing}
 use Rattle.run.proofs.reply.Statement.{statement}
 use Rattle.run.proofs.reply.Tie as tie
 
+ended-requires : tie.Need-ended-requires
+ended-requires c κs = c .before .pre
+
+owed-requires : tie.Need-owed-requires
+owed-requires c κs =
+    let c5 = c .before .before .before .before .before in
+    let o = end-owing _ _ (c5 .args .run) _ (c .before .before .before .ended .ensures) _ (c .before .last .given .1) in
+    (c5 .pre .0, o .0, o .1)
+
 returns : tie.Need-returns
-returns c = reply-unknown (c .before .before .before .before .args .card .now) (c .before .before .before .before .args .run) _ (c .before .unknown .given .1)
+returns c = end-told _ _ (c .before .before .before .before .before .args .run) _ (c .before .before .before .ended .ensures) _ (c .before .answer .given .1)
 
 returns-2 : tie.Need-returns-2
-returns-2 c = reply-dead (c .before .before .before .before .before .before .args .card .now) (c .before .before .before .before .before .before .args .run) _ (c .before .before .before .enum-told .given .1) (c .before .dead .given .1)
-
-marks-requires : tie.Need-marks-requires
-marks-requires c κs = ready-counted _ _ _ (c .before .before .before .before .before .pre .0)
-
-shared-slice-read-if1 : tie.Need-shared-slice-read-if1
-shared-slice-read-if1 c = mark-room _ _ _ (c .before .before .before .before .before .before .before .pre .0) _ _ (c .before .marks .ensures) (c .before .before .before .before .before .before .before .pre .1 .inside)
-
-returns-3 : tie.Need-returns-3
-returns-3 c = reply-allowed (c .before .before .before .before .before .before .before .before .args .card .now) (c .before .before .before .before .before .before .before .before .args .run) (c .before .before .before .before .before .enum-told .given .1) (c .before .before .before .enum-told2 .given .1) (sym (mark-is _ _ _ (c .before .before .before .before .before .before .before .before .pre .0) _ _ (c .before .before .marks .ensures) (c .before .before .before .before .before .before .before .before .pre .1 .inside)) ∙ c .if1 .taken)
-
-returns-4 : tie.Need-returns-4
-returns-4 c = reply-unfinished (c .before .before .before .before .before .before .before .before .args .card .now) (c .before .before .before .before .before .before .before .before .args .run) (c .before .before .before .before .before .enum-told .given .1) (c .before .before .before .enum-told2 .given .1) (λ e. c .if1 .left (mark-is _ _ _ (c .before .before .before .before .before .before .before .before .pre .0) _ _ (c .before .before .marks .ensures) (c .before .before .before .before .before .before .before .before .pre .1 .inside) ∙ e))
+returns-2 c =
+    let o = end-owing _ _ (c .before .before .before .before .before .before .args .run) _ (c .before .before .before .before .ended .ensures) _ (c .before .before .last .given .1) in
+    ap (λ k. answered (unfinished k)) (c .owed .ensures) ∙ sym (o .2)
 
 pub reply-spec : {M : Type 1} → statement M
-reply-spec =
-    tie.close
-    (tie.spec
-    (λ c. search needs)
-    returns
-    (λ c. search needs)
-    (λ c. search needs)
-    returns-2
-    (λ c. search needs)
-    marks-requires
-    shared-slice-read-if1
-    returns-3
-    returns-4)
+reply-spec = tie.close (tie.spec ended-requires (λ c. search needs) (λ c. search needs) owed-requires returns returns-2)

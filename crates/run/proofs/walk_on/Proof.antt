@@ -20,7 +20,7 @@ moves-requires : tie.Need-moves-requires Inv-loop μ-loop
 moves-requires c κs = ready-counted _ _ _ (c .before .before .before .pre .0)
 
 loop-holds : tie.Need-loop-holds Inv-loop μ-loop
-loop-holds c = (search needs, c .before .before .before .before .pre .2, walk-start _ _ _)
+loop-holds c = (search needs, c .before .before .before .before .pre .2, walk-start _ _ _ (c .before .before .before .before .pre .3))
 
 cast-b : tie.Need-cast-b Inv-loop μ-loop
 cast-b c = byte-wide _ (c .shared-slice-known3 .given (c .before .before .loop .k))
@@ -84,7 +84,7 @@ loop-again c = (
 )
 
 returns-3 : tie.Need-returns-3 Inv-loop μ-loop
-returns-3 c = record { is = walk-done _ _ _ _ _ (c .before .loop .inv .2) (omega arith); end = c .before .loop .inv .1 }
+returns-3 c = record { is = walk-done _ _ _ _ _ (c .before .loop .inv .2) (omega arith); end = (c .before .loop .inv .1, c .before .loop .inv .2 .alive) }
 
 pub walk-on-spec : {M : Type 1} → statement M
 walk-on-spec =

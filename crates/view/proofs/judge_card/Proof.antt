@@ -39,7 +39,9 @@ use denote.Exit.{yes}
 use denote.Triple.Clauses.{ensured, lasts}
 use Rattle.automata.specs.Format.{narrow}
 use Rattle.card.specs.Answer.{load as loadOf, loadNumbers}
-use Rattle.card.specs.Judge.{Reply, judge as judgeOf}
+use Rattle.card.specs.Verdict.{Verdict}
+use Rattle.card.specs.Reply.{Reply}
+use Rattle.card.specs.Judge.{judge as judgeOf}
 use Rattle.run.specs.Reading.{replyOf}
 use Rattle.run.specs.declared.Answer.{Answer}
 use Rattle.run.proofs.Answer as S
@@ -87,7 +89,7 @@ module _ {M : Type 1} (𝓤 : URA M) (H : Heap 𝓤) (A : Atoms 𝓤) (W : Given
   abbrev vp : Val
   vp = sliceVal (p .ptr) (length (p .now))
 
-  abbrev found : Reply
+  abbrev found : Reply Verdict
   found = judgeOf narrow (now s) (now p)
 
   -- the struct's type as a local of a body has it

@@ -1,0 +1,2 @@
+-- Definitions that the contracts of the search cite.
+pub mod Levels
