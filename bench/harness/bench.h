@@ -10,6 +10,9 @@
 Compiled second_compile(const uint8_t *text, size_t length, uint8_t *card, size_t room);
 void second_load(const uint8_t *card, size_t length, uint64_t out[3]);
 void second_judge(const uint8_t *card, size_t length, const uint8_t *plan, size_t letters, uint64_t out[3]);
+void second_step(const uint8_t *card, size_t length, size_t state, uint8_t letter, uint64_t out[4]);
+void second_owed(const uint8_t *card, uint8_t owed[MOST_STATES]);
+void second_walk(const uint8_t *card, const uint8_t *owed, const uint8_t *plan, size_t letters, uint64_t out[3]);
 void second_shortest(const uint8_t *card, size_t length, const uint8_t *plan, size_t letters, uint64_t out[4]);
 
 enum { CARD = 3278 };
@@ -63,13 +66,15 @@ typedef struct {
 Times time_both(Action product, Action twin, Action second, void *with, double seconds, int most);
 double now(void);
 
-// A card, a plan, and the answer: a number and three values.
+// A card, a plan, or a state and a letter, and the answer: a number and three values.
 typedef struct {
     const char *name;
     size_t length;
     uint8_t card[CARD];
     const uint8_t *plan;
     size_t letters;
+    size_t state;
+    uint8_t letter;
     uint64_t out[4];
 } Judging;
 
@@ -79,6 +84,8 @@ int below(int n);
 int seeded_cards(void); // how many there are
 void seeded_card(int i, Judging *j);
 void trap_card(int letters, int states, Judging *j); // the smallest card of a random machine, one of its states dead
+void far_card(int letters, int states, Judging *j);     // one letter leads on, the others back to the start; a plan may end in the last state only
+void one_end_card(int letters, int states, Judging *j); // the smallest card of a random machine, of so many states, in one of which a plan may end
 void bare_card(int states, int marks, Judging *j);   // no letters; every state has these marks. It loads with one state, marks 1 or 2
 
 enum { BOARD_CARDS = 9 };
@@ -89,6 +96,7 @@ int same_answer(Judging *j, Action product, Action twin); // by each way to refi
 
 Times time_load(Judging *j, double seconds, int most);
 Times time_judge(Judging *j, double seconds, int most);
+int same_judge(Judging *j); // by each compiler; likewise
 
 int same_cards(const Texts *texts); // how many books differ; prints each
 Times time_compile(Text *text, double seconds, int most);
@@ -97,6 +105,8 @@ int board_both(const char *folder, double seconds, int *compared); // how many a
 int same_ruleless(int *compared);                                  // likewise, on cards of texts without rules and on cards without letters
 int same_factors(const char *folder, int *compared);               // likewise
 int factor_times(const char *folder, double seconds);              // how many answers differ
+int same_owed(const char *folder, int *compared);                  // likewise, of judging, of steps and of many plans at once
+int owed_times(const char *folder, double seconds);                // how many answers differ
 
 // One stage: its sets, and nanoseconds by each.
 typedef struct {

@@ -12,6 +12,7 @@ static void load_product(void *v) {
 static void load_twin(void *v) {
     Judging *j = v;
     plain_load(j->card, j->length, j->out);
+    j->out[3] = 0;
 }
 static void judge_product(void *v) {
     Judging *j = v;
@@ -20,15 +21,18 @@ static void judge_product(void *v) {
 static void judge_twin(void *v) {
     Judging *j = v;
     plain_judge(j->card, j->length, j->plan, j->letters, j->out);
+    j->out[3] = 0;
 }
 #ifdef WITH_SECOND
 static void load_second(void *v) {
     Judging *j = v;
     second_load(j->card, j->length, j->out);
+    j->out[3] = 0;
 }
 static void judge_second(void *v) {
     Judging *j = v;
     second_judge(j->card, j->length, j->plan, j->letters, j->out);
+    j->out[3] = 0;
 }
 #endif
 
@@ -70,6 +74,14 @@ static int same_by(Judging *j, Action product, Action twin, int method) {
 }
 
 int same_answer(Judging *j, Action product, Action twin) { return same_by(j, product, twin, ROUNDS) && same_by(j, product, twin, HOPCROFT); }
+
+int same_judge(Judging *j) {
+    int same = same_answer(j, judge_product, judge_twin);
+#ifdef WITH_SECOND
+    same = same_answer(j, judge_product, judge_second) && same;
+#endif
+    return same;
+}
 
 // Loading alone.
 static int load_only(Judging *j, double seconds) {

@@ -192,6 +192,29 @@ void seeded_card(int i, Judging *j) {
     }
 }
 
+void far_card(int letters, int states, Judging *j) {
+    static Table t;
+    t.m = letters;
+    t.n = states;
+    for (int p = 0; p < states; p++) {
+        t.accepting[p] = p == states - 1;
+        for (int c = 0; c < letters; c++) t.next[p * letters + c] = (uint16_t)(c == 0 && p + 1 < states ? p + 1 : 0);
+    }
+    j->name = "a row";
+    card_of(&t, 1, j);
+}
+
+void one_end_card(int letters, int states, Judging *j) {
+    static Table t;
+    t.m = letters;
+    j->name = "random, one end";
+    do {
+        random_table(&t, states);
+        memset(t.accepting, 0, sizeof t.accepting);
+        t.accepting[states - 1] = 1;
+    } while (card_of(&t, 1, j) != states);
+}
+
 void bare_card(int states, int marks, Judging *j) {
     const uint8_t contents[] = {12, 0, 0, 0, 12, 0, (uint8_t)states, 0, (uint8_t)(12 + states), 0, 0, 0};
     memcpy(j->card, contents, sizeof contents);

@@ -1,4 +1,5 @@
-// The board in plain C: a card's tests, 21 to 26 in order, and the walk of a plan. No work buffer is lent.
+// The board in plain C: a card's tests, 21 to 26 in order, the walk of a plan, one step, and the fewest letters that a state is away from where a plan may end:
+// by a breadth-first search from that state, or for all states at once by one from the ends. No work buffer is lent.
 #include "plain.h"
 #include <string.h>
 
@@ -136,7 +137,49 @@ void plain_load(const uint8_t *card, size_t length, uint64_t out[3]) {
     else answer(out, 0, get16(card + 2), get16(card + 6));
 }
 
-void plain_walk(const uint8_t *card, const uint8_t *plan, size_t letters, uint64_t out[3]) {
+// Forward, level by level, until the first state where a plan may end. The state has marks 0, so there is one.
+static uint64_t fewest(const Card *c, int state) {
+    uint8_t queue[MOST_STATES], seen[MOST_STATES] = {0};
+    int head = 0, tail = 1;
+    queue[0] = (uint8_t)state;
+    seen[state] = 1;
+    for (uint64_t k = 1; head < tail; k++)
+        for (int end = tail; head < end; head++) {
+            const uint8_t *row = &c->moves[queue[head] * c->m];
+            for (int i = 0; i < c->m; i++) {
+                const int q = row[i];
+                if (seen[q]) continue;
+                if (c->marks[q] == 1) return k;
+                seen[q] = 1;
+                queue[tail++] = (uint8_t)q;
+            }
+        }
+    return 0;
+}
+
+// Backward, from all states where a plan may end at once. The states that lead to one stand together in `from`, those of state q between at[q] and at[q + 1].
+void plain_owed(const uint8_t *card, uint8_t owed[MOST_STATES]) {
+    const Card c = view(card);
+    uint16_t at[MOST_STATES + 2] = {0};
+    uint8_t from[MOST_STATES * 26], queue[MOST_STATES];
+    int head = 0, tail = 0;
+    for (int i = 0; i < c.n * c.m; i++) at[c.moves[i] + 2]++;
+    for (int q = 2; q <= c.n; q++) at[q] = (uint16_t)(at[q] + at[q - 1]);
+    for (int p = 0, i = 0; p < c.n; p++)
+        for (int column = 0; column < c.m; column++, i++) from[at[c.moves[i] + 1]++] = (uint8_t)p;
+    for (int p = 0; p < c.n; p++) {
+        owed[p] = c.marks[p] == 1 ? 0 : 255;
+        if (c.marks[p] == 1) queue[tail++] = (uint8_t)p;
+    }
+    for (; head < tail; head++)
+        for (int q = queue[head], i = at[q]; i < at[q + 1]; i++)
+            if (owed[from[i]] == 255) {
+                owed[from[i]] = (uint8_t)(owed[q] + 1);
+                queue[tail++] = from[i];
+            }
+}
+
+void plain_walk(const uint8_t *card, const uint8_t *owed, const uint8_t *plan, size_t letters, uint64_t out[3]) {
     Card c = view(card);
     uint8_t column[256];
     memset(column, c.m, sizeof column);
@@ -163,11 +206,25 @@ void plain_walk(const uint8_t *card, const uint8_t *plan, size_t letters, uint64
             return;
         }
     if (hopeless) answer(out, 0, 2, dead);
-    else answer(out, 0, c.marks[s] == 1, 0);
+    else if (c.marks[s] == 1) answer(out, 0, 1, 0);
+    else answer(out, 0, 0, owed ? owed[s] : fewest(&c, (int)s));
 }
 
 void plain_judge(const uint8_t *card, size_t length, const uint8_t *plan, size_t letters, uint64_t out[3]) {
     int number = tested(card, length);
     if (number) answer(out, (uint64_t)number, 0, 0);
-    else plain_walk(card, plan, letters, out);
+    else plain_walk(card, 0, plan, letters, out);
+}
+
+void plain_step(const uint8_t *card, size_t length, size_t state, uint8_t letter, uint64_t out[4]) {
+    int number = tested(card, length), i = 0;
+    answer(out + 1, 0, 0, 0);
+    out[0] = (uint64_t)number;
+    if (number) return;
+    Card c = view(card);
+    while (i < c.m && c.letters[i] != letter) i++;
+    out[0] = i == c.m ? 27 : state >= (size_t)c.n ? 28 : 0;
+    if (out[0]) return;
+    const int q = c.moves[(int)state * c.m + i];
+    answer(out + 1, (uint64_t)q, c.marks[q], c.marks[q] ? 0 : fewest(&c, q));
 }

@@ -14,6 +14,8 @@
 #define plain_read second_read
 #define plain_load second_load
 #define plain_judge second_judge
+#define plain_owed second_owed
+#define plain_step second_step
 #define plain_walk second_walk
 #define plain_shortest second_shortest
 #define plain_hopcroft second_hopcroft
@@ -73,12 +75,16 @@ typedef struct {
 
 void plain_read(const uint8_t *line, size_t length, int ended, const uint8_t *letters, int m, const uint8_t *defined, Line *out);
 
-// Loading: 0, letters, states; or 21 to 26. Judging: 0, 1 allowed, 0 unfinished or 2 hopeless, the place; or 21 to 26; or 27, 0, the place.
+// Loading: 0, letters, states; or 21 to 26. Judging: 0, 1 allowed, 0 unfinished or 2 hopeless, the fewest letters that are owed or the place; or 21 to 26; or
+// 27, 0, the place. A step: 0, the next state, its marks byte, the fewest letters that are owed there where that byte is 0, else 0; or 21 to 28 and zeros.
 void plain_load(const uint8_t *card, size_t length, uint64_t out[3]);
 void plain_judge(const uint8_t *card, size_t length, const uint8_t *plan, size_t letters, uint64_t out[3]);
+void plain_step(const uint8_t *card, size_t length, size_t state, uint8_t letter, uint64_t out[4]);
 
-// The walk alone, on a card that was tested.
-void plain_walk(const uint8_t *card, const uint8_t *plan, size_t letters, uint64_t out[3]);
+// On a card that was tested: the fewest letters that are owed in each state, 0 where a plan may end, 255 where none will; and the walk alone, with that table,
+// or, where it is 0, with a search.
+void plain_owed(const uint8_t *card, uint8_t owed[MOST_STATES]);
+void plain_walk(const uint8_t *card, const uint8_t *owed, const uint8_t *plan, size_t letters, uint64_t out[3]);
 
 // The shortest stretch of the plan that lies inside no allowed plan, of equal ones the leftmost: 0, 1, its start, its length; 0, 0, 0, 0 where the whole plan
 // lies inside one; or 21 to 26; or 27, 0, the letters before the first unknown one, 0.

@@ -1,6 +1,7 @@
-//! The board by document 01: the card's tests, one step, judging.
+//! The board by document 01 and W3: the card's tests, one step, judging.
 
 use crate::card::{marks_byte, CONTENTS_LENGTH, MOST_LETTERS, MOST_STATES};
+use crate::distance::fewest;
 use crate::machine::Machine;
 use crate::minimise::representatives;
 use crate::refusal::*;
@@ -24,11 +25,22 @@ impl Bodies<'_> {
     }
 }
 
+/// Unfinished carries what is owed: the plan isn't allowed, some continuation
+/// of so many letters is, and none of fewer. So it is at least 1.
 #[derive(Clone, Copy, PartialEq, Eq, Debug)]
-pub enum Verdict {
+pub enum Verdict<Owed = usize> {
     Allowed,
-    Unfinished,
+    Unfinished(Owed),
     Hopeless(usize),
+}
+
+/// Where a step lands: the state, its marks byte, and what is owed there, 0
+/// where that byte isn't 0.
+#[derive(Clone, Copy, PartialEq, Eq, Debug)]
+pub struct Landing<Owed = usize> {
+    pub state: usize,
+    pub marks: u8,
+    pub owed: Owed,
 }
 
 /// Judging's refusal; 27 carries the letters before the first foreign one.
@@ -94,18 +106,18 @@ pub fn machine(bodies: &Bodies<'_>) -> Machine {
     }
 }
 
-/// One step on any bytes: the next state and its marks byte.
-pub fn step(card: &[u8], state: usize, letter: u8) -> Result<(usize, u8), u8> {
-    let bodies = bodies(card)?;
+/// The card's tests, then the letter, then the state; then one step.
+pub fn step(card: &[u8], state: usize, letter: u8) -> Result<Landing, u8> {
+    let bodies = load(card)?;
     let column = bodies.letters.iter().position(|&known| known == letter).ok_or(FOREIGN_LETTER)?;
     if state >= bodies.states() {
         return Err(NO_STATE);
     }
     let target = bodies.target(state, column);
-    if target >= bodies.states() {
-        return Err(ASTRAY);
-    }
-    Ok((target, bodies.marks[target]))
+    let marks = bodies.marks[target];
+    let owed =
+        if marks == 0 { fewest(&machine(&bodies))[target].expect("marks 0 says that some letters do") } else { 0 };
+    Ok(Landing { state: target, marks, owed })
 }
 
 /// The card's tests, then all letters: the bodies and each letter's column.
@@ -125,15 +137,17 @@ pub fn tested<'c>(card: &'c [u8], plan: &[u8]) -> Result<(Bodies<'c>, Vec<usize>
 pub fn judge(card: &[u8], plan: &[u8]) -> Result<Verdict, Refused> {
     let (bodies, columns) = tested(card, plan)?;
     let machine = machine(&bodies);
-    let hopeful: Vec<bool> = (0..machine.states()).map(|state| machine.can_accept_from(state)).collect();
+    let fewest = fewest(&machine);
     let mut state = 0;
-    for place in 0..=columns.len() {
-        if !hopeful[state] {
+    for (place, &column) in columns.iter().enumerate() {
+        if fewest[state].is_none() {
             return Ok(Verdict::Hopeless(place));
         }
-        if let Some(&column) = columns.get(place) {
-            state = machine.next[state][column];
-        }
+        state = machine.next[state][column];
     }
-    Ok(if machine.accepting[state] { Verdict::Allowed } else { Verdict::Unfinished })
+    Ok(match fewest[state] {
+        Some(0) => Verdict::Allowed,
+        Some(owed) => Verdict::Unfinished(owed),
+        None => Verdict::Hopeless(columns.len()),
+    })
 }

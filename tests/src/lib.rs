@@ -7,7 +7,8 @@
 //! * `minimise` finds the smallest machine by table filling.
 //! * `compile` puts them in document 01's order and counts.
 //! * `card` writes the bytes, `board` tests, steps and judges them, `mounted`
-//!   is a board from before cards without letters.
+//!   has the boards mounted before W2 and before W3.
+//! * `distance` finds how much is still owed, from the end of a plan backwards.
 //! * `factor` finds the shortest stretch to blame by trying every one.
 //!
 //! Nothing here is made to be fast; everything is made to be compared with
@@ -17,6 +18,7 @@ pub mod board;
 pub mod card;
 pub mod compile;
 pub mod derivative;
+pub mod distance;
 pub mod factor;
 pub mod machine;
 pub mod minimise;

@@ -27,6 +27,12 @@ pub const JUDGING: &[&str] = &[
     "a failed write is not told",
     "a card without letters is refused",
     "an empty line is no plan without letters",
+    "unfinished without its number",
+    "one letter less owed",
+    "numbers of two digits",
+    "the first number for all",
+    "a number for all that isn't hopeless",
+    "the number in a line of its own",
 ];
 
 /// The faults of a compiling program; the first is none.
@@ -115,10 +121,27 @@ fn answers(fault: &str, mut card: Option<Vec<u8>>, mut input: Vec<u8>, whole: bo
         "no line end behind the last verdict" => {
             output.pop();
         }
+        "unfinished without its number" => output = with_numbers(&text, |_, _| "unfinished".into()),
+        "one letter less owed" => output = with_numbers(&text, |_, owed| format!("unfinished {}", owed - 1)),
+        "numbers of two digits" => output = with_numbers(&text, |_, owed| format!("unfinished {}", owed % 100)),
+        "the first number for all" => output = with_numbers(&text, |first, _| format!("unfinished {first}")),
+        "a number for all that isn't hopeless" => output = text.replace("allowed", "allowed 0").into_bytes(),
+        "the number in a line of its own" => output = text.replace("unfinished ", "unfinished\n").into_bytes(),
         "crashes on a foreign letter" if text.contains("refused 27") => std::process::abort(),
         _ => {}
     }
     output
+}
+
+/// The lines of unfinished plans made from what the first of them owes and
+/// what each does.
+fn with_numbers(text: &str, line: fn(usize, usize) -> String) -> Vec<u8> {
+    let mut first = None;
+    let changed = |found: &str| match found.strip_prefix("unfinished ").and_then(|owed| owed.parse().ok()) {
+        Some(owed) => line(*first.get_or_insert(owed), owed) + "\n",
+        None => format!("{found}\n"),
+    };
+    text.lines().map(changed).collect::<String>().into_bytes()
 }
 
 fn is_without_letters(card: &Option<Vec<u8>>) -> bool {

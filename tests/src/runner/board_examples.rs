@@ -4,6 +4,35 @@ use crate::entry::{Judged, Loaded, Stepped};
 use crate::examples::{EVERYTHING_CARD, FIRST_CARD, NOTHING_CARD, NO_A_CARD, NO_LETTERS_CARD, NO_LETTERS_NOTHING_CARD};
 use reference::card::lay_out;
 
+/// Counts up by its first letter, begins again by another; the last state is
+/// the only accepting one.
+pub fn chain(letters: &[u8], states: usize) -> Vec<u8> {
+    let mut marks = vec![0; states];
+    marks[states - 1] = 1;
+    let mut moves = Vec::new();
+    for state in 0..states {
+        moves.push((state + 1).min(states - 1) as u8);
+        moves.resize((state + 1) * letters.len(), 0);
+    }
+    lay_out(letters, &marks, &moves)
+}
+
+/// After an even number of letters one more is owed.
+pub fn even() -> Vec<u8> {
+    lay_out(b"a", &[0, 1], &[1, 0])
+}
+
+/// The card of `:ab`, `>a / .* _ .*b.*b.*`.
+fn two_bs() -> Vec<u8> {
+    lay_out(b"ab", &[1, 0, 0], &[1, 0, 1, 2, 1, 0])
+}
+
+/// Only a's, and before them b or aab. One letter is owed at the start, two
+/// behind a, one behind aa.
+pub fn near_and_far() -> Vec<u8> {
+    lay_out(b"ab", &[0, 0, 1, 0, 2], &[1, 2, 3, 4, 2, 4, 4, 2, 4, 4])
+}
+
 /// A card and what loading answers.
 pub fn loads() -> Vec<(&'static str, Vec<u8>, Loaded)> {
     let refused = Loaded::Refused;
@@ -14,17 +43,6 @@ pub fn loads() -> Vec<(&'static str, Vec<u8>, Loaded)> {
     };
     let all_letters: Vec<u8> = (b'a'..=b'z').collect();
     let beyond_z: Vec<u8> = (b'a'..=b'{').collect();
-    // Counts up by its first letter; the last state is the only accepting one.
-    let chain = |letters: &[u8], states: usize| {
-        let mut marks = vec![0; states];
-        marks[states - 1] = 1;
-        let mut moves = Vec::new();
-        for state in 0..states {
-            moves.push((state + 1).min(states - 1) as u8);
-            moves.resize((state + 1) * letters.len(), 0);
-        }
-        lay_out(letters, &marks, &moves)
-    };
     let mut list = vec![
         ("the first card", FIRST_CARD.to_vec(), Loaded::Card { letters: 2, states: 3 }),
         ("no a at all", NO_A_CARD.to_vec(), Loaded::Card { letters: 2, states: 2 }),
@@ -117,25 +135,79 @@ pub fn loads() -> Vec<(&'static str, Vec<u8>, Loaded)> {
 }
 
 /// A card, a state, a letter, and what one step answers.
-pub fn steps() -> Vec<(&'static str, Vec<u8>, usize, u8, Stepped)> {
-    let to = |state, marks| Stepped::To { state, marks };
+type Step<Owed = u64> = (&'static str, Vec<u8>, usize, u8, Stepped<Owed>);
+
+/// On the first card of "Ten days on paper", where a plan is allowed or hopeless: the same on all boards, with what they say where nothing is owed.
+fn first_card_steps<Owed: Copy>(none: Owed) -> Vec<Step<Owed>> {
+    let to = |state, marks| Stepped::To { state, marks, owed: none };
+    let list = [
+        ("a from the start", 0, b'a', to(1, 1)),
+        ("b from the start", 0, b'b', to(2, 2)),
+        ("a from 1", 1, b'a', to(1, 1)),
+        ("b from 1", 1, b'b', to(0, 1)),
+        ("a from the dead state", 2, b'a', to(2, 2)),
+        ("the letter before the state", 99, b'z', Stepped::Refused(27)),
+        ("the letter before state n", 3, b'c', Stepped::Refused(27)),
+        ("state n", 3, b'a', Stepped::Refused(28)),
+        ("the greatest state", usize::MAX, b'b', Stepped::Refused(28)),
+        ("state 256", 256, b'a', Stepped::Refused(28)),
+        ("a letter not on the card", 0, b'c', Stepped::Refused(27)),
+        ("byte 0", 0, 0, Stepped::Refused(27)),
+        ("byte 255", 0, 255, Stepped::Refused(27)),
+        ("a large letter", 0, b'A', Stepped::Refused(27)),
+    ];
+    list.into_iter().map(|(title, state, letter, due)| (title, FIRST_CARD.to_vec(), state, letter, due)).collect()
+}
+
+pub fn steps() -> Vec<Step> {
+    let to = |state, marks| Stepped::To { state, marks, owed: 0 };
+    let owing = |state, owed| Stepped::To { state, marks: 0, owed };
     let refused = Stepped::Refused;
-    let first = || FIRST_CARD.to_vec();
+    let (no_letters, all_letters): (_, Vec<u8>) = (|| NO_LETTERS_CARD.to_vec(), (b'a'..=b'z').collect());
+    let mut list = first_card_steps(0);
+    list.extend([
+        // The card of `:ab`, `>a / .* _ .*b.*`.
+        ("an a that wants a b", lay_out(b"ab", &[1, 0], &[1, 0, 1, 0]), 0, b'a', owing(1, 1)),
+        ("its b", lay_out(b"ab", &[1, 0], &[1, 0, 1, 0]), 1, b'b', to(0, 1)),
+        ("two are owed behind an a", two_bs(), 0, b'a', owing(1, 2)),
+        ("and one behind a b", two_bs(), 1, b'b', owing(2, 1)),
+        ("and none behind two", two_bs(), 2, b'b', to(0, 1)),
+        ("and two behind one and an a", two_bs(), 2, b'a', owing(1, 2)),
+        ("more owed than before", near_and_far(), 0, b'a', owing(1, 2)),
+        ("less owed than before", near_and_far(), 1, b'a', owing(3, 1)),
+        ("nothing owed any more", near_and_far(), 3, b'b', to(2, 1)),
+        ("a letter that leaves no hope", near_and_far(), 1, b'b', to(4, 2)),
+        ("a letter too many", near_and_far(), 2, b'b', to(4, 2)),
+        ("one or none", even(), 1, b'a', owing(0, 1)),
+        ("118 are owed", chain(b"a", 120), 0, b'a', owing(1, 118)),
+        ("119 are owed again", chain(b"ab", 120), 60, b'b', owing(0, 119)),
+        ("one is owed", chain(&all_letters, 120), 117, b'a', owing(118, 1)),
+        ("none of 119 is owed", chain(&all_letters, 120), 118, b'a', to(119, 1)),
+        ("no letters", no_letters(), 0, b'a', refused(27)),
+        ("no letters, byte 0", no_letters(), 0, 0, refused(27)),
+        ("no letters, state n", no_letters(), 1, b'a', refused(27)),
+        ("no letters, the greatest state", no_letters(), usize::MAX, b'z', refused(27)),
+        ("no letters, nothing", NO_LETTERS_NOTHING_CARD.to_vec(), 0, b'a', refused(27)),
+        ("no letters, marks 1 as a letter", no_letters(), 0, 1, refused(27)),
+    ]);
+    // The card goes before letter and state.
+    for (title, card, due) in loads() {
+        if let Loaded::Refused(number) = due {
+            for (state, letter) in [(0, b'a'), (1, b'b'), (0, b'?'), (999, b'a'), (usize::MAX, 0)] {
+                list.push((title, card.clone(), state, letter, refused(number)));
+            }
+        }
+    }
+    list
+}
+
+/// On boards that were mounted before steps had a number.
+pub fn mounted_steps() -> Vec<Step<()>> {
+    let to = |state, marks| Stepped::To { state, marks, owed: () };
+    let refused = Stepped::Refused;
     let bad_letters = || lay_out(b"AA", &[9, 255], &[1, 0, 0, 1]);
-    vec![
-        ("a from the start", first(), 0, b'a', to(1, 1)),
-        ("b from the start", first(), 0, b'b', to(2, 2)),
-        ("a from 1", first(), 1, b'a', to(1, 1)),
-        ("b from 1", first(), 1, b'b', to(0, 1)),
-        ("a from the dead state", first(), 2, b'a', to(2, 2)),
-        ("the letter before the state", first(), 99, b'z', refused(27)),
-        ("state n", first(), 3, b'a', refused(28)),
-        ("the greatest state", first(), usize::MAX, b'b', refused(28)),
-        ("state 256", first(), 256, b'a', refused(28)),
-        ("a letter not on the card", first(), 0, b'c', refused(27)),
-        ("byte 0", first(), 0, 0, refused(27)),
-        ("byte 255", first(), 0, 255, refused(27)),
-        ("a large letter", first(), 0, b'A', refused(27)),
+    let mut list = first_card_steps(());
+    list.extend([
         ("no card", Vec::new(), 0, b'a', refused(21)),
         ("the card before letter and state", FIRST_CARD[..22].to_vec(), 99, b'z', refused(21)),
         ("a byte too many", [FIRST_CARD, &[0]].concat(), 0, b'a', refused(21)),
@@ -162,7 +234,8 @@ pub fn steps() -> Vec<(&'static str, Vec<u8>, usize, u8, Stepped)> {
         ("no letters, wrong marks", lay_out(b"", &[9], &[]), 0, b'a', refused(27)),
         ("no letters, no states", lay_out(b"", &[], &[]), 0, b'a', refused(21)),
         ("no letters, a byte too many", [NO_LETTERS_CARD, &[0]].concat(), 0, b'a', refused(21)),
-    ]
+    ]);
+    list
 }
 
 /// A card, a plan, and what judging answers.
@@ -186,8 +259,19 @@ pub fn judgings() -> Vec<(&'static str, Vec<u8>, Vec<u8>, Judged)> {
         ("nothing is allowed, letters", NOTHING_CARD.to_vec(), b"ab", Judged::Hopeless(0)),
         ("nothing is allowed, foreign", NOTHING_CARD.to_vec(), b"abc", Judged::ForeignLetter { before: 2 }),
         ("everything is allowed", EVERYTHING_CARD.to_vec(), b"abba", Judged::Allowed),
-        ("unfinished", lay_out(b"a", &[0, 1], &[1, 0]), b"aa", Judged::Unfinished),
-        ("unfinished at once", lay_out(b"a", &[0, 1], &[1, 0]), b"", Judged::Unfinished),
+        ("unfinished", even(), b"aa", Judged::Unfinished(1)),
+        ("unfinished at once", even(), b"", Judged::Unfinished(1)),
+        ("one owed at the start", near_and_far(), b"", Judged::Unfinished(1)),
+        ("two owed behind one letter", near_and_far(), b"a", Judged::Unfinished(2)),
+        ("one owed behind two letters", near_and_far(), b"aa", Judged::Unfinished(1)),
+        ("none owed behind three", near_and_far(), b"aab", Judged::Allowed),
+        ("letters before what is owed", near_and_far(), b"aac", Judged::ForeignLetter { before: 2 }),
+        ("two owed", two_bs(), b"a", Judged::Unfinished(2)),
+        ("one owed", two_bs(), b"ab", Judged::Unfinished(1)),
+        ("two owed again", two_bs(), b"aba", Judged::Unfinished(2)),
+        ("119 owed", chain(b"ab", 120), b"", Judged::Unfinished(119)),
+        ("119 owed again", chain(b"ab", 120), b"aaab", Judged::Unfinished(119)),
+        ("117 owed", chain(b"ab", 120), b"baa", Judged::Unfinished(117)),
         ("the card before letters", FIRST_CARD[..22].to_vec(), b"z", Judged::Refused(21)),
         ("no card", Vec::new(), b"", Judged::Refused(21)),
         ("letters of the card", lay_out(b"ba", &[1], &[0, 0]), b"a", Judged::Refused(22)),

@@ -1,8 +1,9 @@
-//! A loader made from the words of docs/FORMAT.md alone, held against a board
-//! on every small card and on damaged ones. It shares no code with the product
-//! or with the reference.
+//! A loader and a step made from the words of docs/FORMAT.md alone, held against
+//! a board on every small card and on damaged ones. They share no code with the
+//! product or with the reference.
 
-use crate::entry::{BoardEntry, Loaded};
+use crate::compare_mounted::Kind;
+use crate::entry::{BoardEntry, Loaded, MountedEntry, Stepped};
 use crate::last_case;
 use crate::tally::{hex, Tally};
 
@@ -29,9 +30,10 @@ impl Card<'_> {
     }
 }
 
-/// The least m: of today's boards, and of those mounted before.
-const NEW: usize = 0;
-const MOUNTED: usize = 1;
+/// The least m: of today's boards, and of those mounted before there were
+/// cards without letters.
+pub const NO_LETTERS: usize = 0;
+pub const ONE_LETTER: usize = 1;
 
 /// "A board tests a card in this order and answers with the first number that
 /// applies."
@@ -50,6 +52,53 @@ fn load(bytes: &[u8], least: usize) -> Result<(usize, usize), u64> {
         Err(26)
     } else {
         Ok((card.m, card.n))
+    }
+}
+
+/// "21 to 26, the card is tested as in loading; 27, the letter is not among the
+/// card's letters; 28, the state is n or above. Otherwise it gives the next
+/// state, its marks byte and, where this byte is 0, how much is owed there".
+fn step(bytes: &[u8], state: usize, letter: u8) -> Stepped {
+    if let Err(number) = load(bytes, NO_LETTERS) {
+        return Stepped::Refused(number);
+    }
+    let card = contents(bytes, NO_LETTERS).expect("loaded");
+    let Some(c) = (0..card.m).find(|&c| card.letters[c] == letter) else { return Stepped::Refused(27) };
+    if state >= card.n {
+        return Stepped::Refused(28);
+    }
+    let to = card.next(state, c);
+    let owed = if card.marks[to] == 0 { owed(&card, to) } else { 0 };
+    Stepped::To { state: to as u64, marks: card.marks[to].into(), owed }
+}
+
+/// "some continuation of K letters is allowed, and none of fewer": all rows of 0
+/// letters, of 1, of 2 and so on are tried, until one leads to byte 1.
+fn owed(card: &Card, state: usize) -> u64 {
+    let mut led_to = vec![false; card.n];
+    led_to[state] = true;
+    for length in 0..card.n {
+        let states: Vec<usize> = (0..card.n).filter(|&s| led_to[s]).collect();
+        if states.iter().any(|&s| card.may_end(s)) {
+            return length as u64;
+        }
+        led_to = (0..card.n).map(|to| states.iter().any(|&s| (0..card.m).any(|c| card.next(s, c) == to))).collect();
+    }
+    unreachable!("marks 0, and no row of letters leads to byte 1")
+}
+
+/// A mounted board's, in this order: "21; 27; 28; 23, where this one move leads
+/// to n or above. On a card that does not load it takes the first column of a
+/// repeated letter, and hands the marks byte back as it stands".
+pub fn old_step(bytes: &[u8], least: usize, state: usize, letter: u8) -> Stepped<()> {
+    let Some(card) = contents(bytes, least) else { return Stepped::Refused(21) };
+    let Some(c) = (0..card.m).find(|&c| card.letters[c] == letter) else { return Stepped::Refused(27) };
+    if state >= card.n {
+        return Stepped::Refused(28);
+    }
+    match card.next(state, c) {
+        to if to < card.n => Stepped::To { state: to as u64, marks: card.marks[to].into(), owed: () },
+        _ => Stepped::Refused(23),
     }
 }
 
@@ -178,33 +227,37 @@ pub fn run(tally: &mut Tally, board: &dyn BoardEntry) {
             (card(&[1, 1], &[1, 0]), Err(26)),
         ];
         for (card, due) in cards {
-            tally.same(&hex(&card), &due, &load(&card, NEW));
-            compare(tally, board, NEW, &card);
+            tally.same(&hex(&card), &due, &load(&card, NO_LETTERS));
+            compare_both(tally, board, &card);
         }
         // "at least 13 and at most 3,278"
         let lengths = [no_letters(&[1]).len(), laid_out(&[b'a'; 26], &[1; 120], &[0; 26 * 120]).len()];
         tally.same("the lengths of the shortest card and the longest", &[13, 3278], &lengths);
     });
-    tally.group("board: the loader of FORMAT.md, every small card", |tally| {
-        small(tally, board, NEW, &[b"", b"a", b"ab"]);
+    tally.group("board: the loader and the step of FORMAT.md, every small card", |tally| {
+        small(&[b"", b"a", b"ab"], |card| compare_both(tally, board, card));
     });
-    tally.group("board: the loader of FORMAT.md, damaged cards", |tally| damaged(tally, board, NEW));
+    tally.group("board: the loader and the step of FORMAT.md, damaged cards", |tally| {
+        damaged(|card| compare_both(tally, board, card));
+    });
 }
 
 /// The same for a mounted board.
-pub fn mounted(tally: &mut Tally, board: &dyn BoardEntry) {
-    tally.group("reference: a mounted board by FORMAT.md, every small card", |tally| {
-        small(tally, board, MOUNTED, &[b"", b"a"]);
+pub fn mounted(tally: &mut Tally, board: &dyn MountedEntry, kind: Kind) {
+    tally.group(&format!("reference: a board {} by FORMAT.md, every small card", kind.name), |tally| {
+        small(&[b"", b"a"], |card| compare_mounted(tally, board, kind.least, card));
     });
-    tally.group("reference: a mounted board by FORMAT.md, damaged cards", |tally| damaged(tally, board, MOUNTED));
+    tally.group(&format!("reference: a board {} by FORMAT.md, damaged cards", kind.name), |tally| {
+        damaged(|card| compare_mounted(tally, board, kind.least, card));
+    });
 }
 
-fn small(tally: &mut Tally, board: &dyn BoardEntry, least: usize, rows: &[&[u8]]) {
+fn small(rows: &[&[u8]], mut each: impl FnMut(&[u8])) {
     for letters in rows {
         for n in 1..=3 {
             every(n, 4, |marks| {
                 last_case::note(|| format!("loading a card of {} letters with marks {marks:?}", letters.len()));
-                every(n * letters.len(), n + 1, |moves| compare(tally, board, least, &laid_out(letters, marks, moves)))
+                every(n * letters.len(), n + 1, |moves| each(&laid_out(letters, marks, moves)))
             });
         }
     }
@@ -221,7 +274,7 @@ fn every(length: usize, bound: usize, mut each: impl FnMut(&[u8])) {
     }
 }
 
-fn damaged(tally: &mut Tally, board: &dyn BoardEntry, least: usize) {
+fn damaged(mut each: impl FnMut(&[u8])) {
     let alphabet: Vec<u8> = (b'a'..=b'z').collect();
     // In state s every letter leads to s + 1, in the last to itself.
     let chain = |letters: &[u8], n: usize| {
@@ -235,14 +288,14 @@ fn damaged(tally: &mut Tally, board: &dyn BoardEntry, least: usize) {
             for byte in 0..=255 {
                 let mut card = card.clone();
                 card[place] = byte;
-                compare(tally, board, least, &card);
+                each(&card);
             }
         }
         for length in 0..card.len() {
-            compare(tally, board, least, &card[..length]);
+            each(&card[..length]);
         }
         for more in [1, 2, 12, card.len()] {
-            compare(tally, board, least, &[&card[..], &card[..more]].concat());
+            each(&[&card[..], &card[..more]].concat());
         }
         // The contents' numbers, two at a time.
         for (one, other) in (0..6).flat_map(|one| (0..one).map(move |other| (one, other))) {
@@ -250,7 +303,7 @@ fn damaged(tally: &mut Tally, board: &dyn BoardEntry, least: usize) {
                 let mut card = card.clone();
                 card[2 * one] = card[2 * one].wrapping_add(steps[0]).wrapping_sub(4);
                 card[2 * other] = card[2 * other].wrapping_add(steps[1]).wrapping_sub(4);
-                compare(tally, board, least, &card);
+                each(&card);
             });
         }
     }
@@ -259,9 +312,9 @@ fn damaged(tally: &mut Tally, board: &dyn BoardEntry, least: usize) {
     for m in [0, 1, 2, 25, 26, 27, 255, 256] {
         for n in [0, 1, 2, 119, 120, 121, 255, 256, 257] {
             let letters: Vec<u8> = (0..m).map(|c| b'a'.wrapping_add(c as u8)).collect();
-            compare(tally, board, least, &laid_out(&letters, &vec![1; n], &vec![0; n * m]));
+            each(&laid_out(&letters, &vec![1; n], &vec![0; n * m]));
             if n > 0 {
-                compare(tally, board, least, &chain(&letters, n));
+                each(&chain(&letters, n));
             }
         }
     }
@@ -269,16 +322,40 @@ fn damaged(tally: &mut Tally, board: &dyn BoardEntry, least: usize) {
     every(3, bytes.len(), |row| {
         let letters: Vec<u8> = row.iter().map(|&place| bytes[usize::from(place)]).collect();
         for count in 1..=3 {
-            compare(tally, board, least, &chain(&letters[..count], 2));
+            each(&chain(&letters[..count], 2));
         }
     });
 }
 
-fn compare(tally: &mut Tally, board: &dyn BoardEntry, least: usize, card: &[u8]) {
-    let due = match load(card, least) {
+fn compare_both(tally: &mut Tally, board: &dyn BoardEntry, card: &[u8]) {
+    compare(tally, || format!("loading {}", hex(card)), due(card, NO_LETTERS), board.load(card));
+    for (state, letter) in stepped_on(card) {
+        let call = || format!("a step from state {state} with letter {letter} on {}", hex(card));
+        compare(tally, call, step(card, state, letter), board.step(card, state, letter));
+    }
+}
+
+fn compare_mounted(tally: &mut Tally, board: &dyn MountedEntry, least: usize, card: &[u8]) {
+    compare(tally, || format!("loading {}", hex(card)), due(card, least), board.load(card));
+    for (state, letter) in stepped_on(card) {
+        let call = || format!("a step from state {state} with letter {letter} on {}", hex(card));
+        compare(tally, call, old_step(card, least, state, letter), board.step(card, state, letter));
+    }
+}
+
+/// Two steps for a card, from a state and by a letter that its bytes choose.
+fn stepped_on(card: &[u8]) -> [(usize, u8); 2] {
+    let sum: usize = card.iter().map(|&byte| usize::from(byte)).sum();
+    [(sum % 3, b'a' + (sum % 2) as u8), (sum / 3 % 5, b'a' + (sum / 15 % 4) as u8)]
+}
+
+fn due(card: &[u8], least: usize) -> Loaded {
+    match load(card, least) {
         Ok((m, n)) => Loaded::Card { letters: m as u64, states: n as u64 },
         Err(number) => Loaded::Refused(number),
-    };
-    let found = board.load(card);
-    tally.check(due == found, || format!("loading {}\n  by FORMAT.md: {due:?}\n  by the board: {found:?}", hex(card)));
+    }
+}
+
+fn compare<T: PartialEq + std::fmt::Debug>(tally: &mut Tally, call: impl Fn() -> String, due: T, found: T) {
+    tally.check(due == found, || format!("{}\n  by FORMAT.md: {due:?}\n  by the board: {found:?}", call()));
 }

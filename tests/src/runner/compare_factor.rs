@@ -212,7 +212,7 @@ impl<'p> Comparison<'p> {
     fn wrong_relation(&self, rng: &mut Rng, card: &[u8], plan: &[u8]) -> Option<String> {
         let found = self.found(card, plan, self.held());
         match (&found, self.judged(card, plan)) {
-            (Shortest::None, Judged::Hopeless(_) | Judged::Allowed | Judged::Unfinished) => {
+            (Shortest::None, Judged::Hopeless(_) | Judged::Allowed | Judged::Unfinished(_)) => {
                 let from = rng.below(plan.len() + 1);
                 let until = rng.between(from, plan.len());
                 self.differs(card, &plan[from..until], |part| *part == Shortest::None)

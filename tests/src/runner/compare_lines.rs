@@ -1,6 +1,7 @@
 //! Many plans at once: the product against the reference's plans, each judged
 //! by itself.
 
+use crate::board_examples::{chain, even};
 use crate::effort::Effort;
 use crate::examples::{FIRST_CARD, NO_LETTERS_CARD, NO_LETTERS_NOTHING_CARD};
 use crate::expected_output::plans;
@@ -15,9 +16,11 @@ const GUARD: usize = 4;
 pub fn run(tally: &mut Tally, product: JudgeLines, effort: Effort) {
     if effort.fixed {
         tally.group("lines: every room", |tally| {
+            let (chain, even) = (chain(b"ab", 120), even());
             for lines in [&b""[..], b"\n", b"\n\n", b"ab", b"ab\n", b"ab\nabb\n\nb", b"a\rb\nzz\n\n", b"\nab\n\n"] {
                 for room in 0..16 {
-                    for card in [FIRST_CARD, &FIRST_CARD[..22], NO_LETTERS_CARD, NO_LETTERS_NOTHING_CARD] {
+                    for card in [FIRST_CARD, &FIRST_CARD[..22], NO_LETTERS_CARD, NO_LETTERS_NOTHING_CARD, &chain, &even]
+                    {
                         compare(tally, product, card, lines, room);
                     }
                 }
@@ -27,7 +30,7 @@ pub fn run(tally: &mut Tally, product: JudgeLines, effort: Effort) {
     tally.group("lines: random cards and bytes", |tally| {
         let mut rng = tally.rng("lines: random cards and bytes");
         for _ in 0..effort.of(3000) {
-            let good = random_cards::good(&mut rng);
+            let good = if rng.once_in(4) { random_cards::far(&mut rng) } else { random_cards::good(&mut rng) };
             let card = if rng.once_in(4) { random_cards::damaged(&mut rng, &good) } else { good };
             let letters = bodies(&card).map(|bodies| bodies.letters.to_vec()).unwrap_or(b"ab".to_vec());
             let mut lines = Vec::new();
@@ -57,7 +60,7 @@ pub fn due(card: &[u8], lines: &[u8], room: usize, mut replies: Vec<u64>) -> ([u
     for (plan, reply) in judged.iter().zip(replies.chunks_exact_mut(3)) {
         reply.copy_from_slice(&match judge(card, plan) {
             Ok(Verdict::Allowed) => [0, 1, 0],
-            Ok(Verdict::Unfinished) => [0, 0, 0],
+            Ok(Verdict::Unfinished(owed)) => [0, 0, owed as u64],
             Ok(Verdict::Hopeless(place)) => [0, 2, place as u64],
             Err(Refused::ForeignLetter { before }) => [27, 0, before as u64],
             Err(Refused::Card(number)) => [number.into(), 0, 0],

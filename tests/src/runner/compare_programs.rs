@@ -1,5 +1,6 @@
 //! The product's two programs against the reference.
 
+use crate::board_examples::{chain, near_and_far};
 use crate::effort::Effort;
 use crate::examples;
 use crate::expected_output::{card_or_line, compiled_out, verdicts, written_out};
@@ -98,6 +99,7 @@ impl Judge<'_> {
             self.compare(tally, card, input, Handing::AtOnce);
             self.compare(tally, card, input, Handing::InPieces(1));
             self.compare(tally, Some(examples::NO_LETTERS_CARD), input, Handing::AtOnce);
+            self.compare(tally, Some(&near_and_far()), input, Handing::AtOnce);
         }
         let every_byte: Vec<u8> = (0..=255).flat_map(|byte| [b'a', byte, b'b', b'\n']).collect();
         self.compare(tally, card, &every_byte, Handing::AtOnce);
@@ -129,6 +131,7 @@ impl Judge<'_> {
             [&longest[..], &[0; 100_000]].concat(),
             vec![0x0C; 1_000_000],
             examples::FIRST_CARD.repeat(1000),
+            near_and_far(),
         ];
         cards.extend(crate::board_examples::loads().into_iter().map(|(_, card, _)| card));
         for card in cards {
@@ -136,6 +139,11 @@ impl Judge<'_> {
         }
         self.compare(tally, None, b"ab\nb", Handing::AtOnce);
         self.compare(tally, None, b"", Handing::AtOnce);
+        // Numbers of one digit, two and three: 119 letters are owed, then one less with each line.
+        let rising: Vec<u8> = (0..122).flat_map(|length| (examples::a(length) + "\n").into_bytes()).collect();
+        for letters in [&b"a"[..], b"ab"] {
+            self.compare(tally, Some(&chain(letters, 120)), &rising, Handing::AtOnce);
+        }
     }
 
     fn long_inputs(&self, tally: &mut Tally) {
@@ -166,17 +174,20 @@ impl Judge<'_> {
             many.push(b'\n');
         }
         self.compare(tally, card, &many, Handing::AtOnce);
+        self.compare(tally, Some(&near_and_far()), &many, Handing::AtOnce);
         many.pop();
         self.compare(tally, card, &many, Handing::AtOnce);
     }
 
     fn random(&self, tally: &mut Tally, rng: &mut Rng) {
-        let good = random_cards::good(rng);
+        let good = if rng.once_in(4) { random_cards::far(rng) } else { random_cards::good(rng) };
         let card = if rng.once_in(2) { good } else { random_cards::damaged(rng, &good) };
         let letters = board::bodies(&card).map(|bodies| bodies.letters.to_vec()).unwrap_or(b"ab".to_vec());
         let mut input = Vec::new();
         for _ in 0..rng.below(12) {
-            input.extend(random_cards::plan(rng, &letters));
+            let plan =
+                if rng.once_in(3) { random_cards::far_plan(rng, &card) } else { random_cards::plan(rng, &letters) };
+            input.extend(plan);
             if !rng.once_in(30) {
                 input.push(b'\n');
             }
@@ -319,7 +330,8 @@ pub fn both(tally: &mut Tally, compiler: &Program, judge: &Program, effort: Effo
         let mut rng = tally.rng("programs: compiled, then judged");
         let mut texts = Vec::new();
         if effort.fixed {
-            texts = examples::ruleless().into_iter().map(|example| example.text).collect();
+            let listed = [examples::ruleless(), examples::owing()].concat();
+            texts = listed.into_iter().map(|example| example.text).collect();
         }
         texts.extend((0..effort.of(100)).map(|_| random_books::book(&mut rng)));
         for (case, text) in texts.into_iter().enumerate() {

@@ -4,10 +4,10 @@
 //! fault that the comparisons have to find.
 
 use crate::rng::Rng;
-use reference::board::{self, Bodies, Refused, Verdict};
+use reference::board::{self, Bodies, Landing, Refused, Verdict};
 use reference::compile::{self, Accepted, Lent};
 use reference::factor;
-use reference::mounted;
+use reference::mounted::Mounted;
 use reference::refusal::Refusal;
 use std::cell::RefCell;
 use std::collections::HashMap;
@@ -25,12 +25,14 @@ pub enum Loaded {
     Unknown([u64; 4]),
 }
 
-/// What one step answers.
+/// What one step answers. A mounted board's answers, here and below, have
+/// nothing in place of what is owed.
 #[derive(Clone, PartialEq, Eq, Debug)]
-pub enum Stepped {
+pub enum Stepped<Owed = u64> {
     To {
         state: u64,
         marks: u64,
+        owed: Owed,
     },
     Refused(u64),
     #[allow(dead_code)]
@@ -39,9 +41,9 @@ pub enum Stepped {
 
 /// What judging answers.
 #[derive(Clone, PartialEq, Eq, Debug)]
-pub enum Judged {
+pub enum Judged<Owed = u64> {
     Allowed,
-    Unfinished,
+    Unfinished(Owed),
     Hopeless(u64),
     Refused(u64),
     ForeignLetter {
@@ -67,12 +69,43 @@ pub enum Shortest {
     Unknown([u64; 4]),
 }
 
+impl Stepped {
+    pub fn less_its_number(self) -> Stepped<()> {
+        match self {
+            Stepped::To { state, marks, .. } => Stepped::To { state, marks, owed: () },
+            Stepped::Refused(number) => Stepped::Refused(number),
+            Stepped::Unknown(numbers) => Stepped::Unknown(numbers),
+        }
+    }
+}
+
+impl Judged {
+    pub fn less_its_number(self) -> Judged<()> {
+        match self {
+            Judged::Allowed => Judged::Allowed,
+            Judged::Unfinished(_) => Judged::Unfinished(()),
+            Judged::Hopeless(place) => Judged::Hopeless(place),
+            Judged::Refused(number) => Judged::Refused(number),
+            Judged::ForeignLetter { before } => Judged::ForeignLetter { before },
+            Judged::Unknown(numbers) => Judged::Unknown(numbers),
+        }
+    }
+}
+
 pub trait BoardEntry {
     fn load(&self, card: &[u8]) -> Loaded;
     fn step(&self, card: &[u8], state: usize, letter: u8) -> Stepped;
     fn judge(&self, card: &[u8], plan: &[u8]) -> Judged;
     /// `held` is what `out` holds before the call.
     fn shortest(&self, card: &[u8], plan: &[u8], held: [u64; 3]) -> Shortest;
+}
+
+/// A mounted board.
+pub trait MountedEntry {
+    fn load(&self, card: &[u8]) -> Loaded;
+    fn step(&self, card: &[u8], state: usize, letter: u8) -> Stepped<()>;
+    fn judge(&self, card: &[u8], plan: &[u8]) -> Judged<()>;
+    fn shortest(&self, card: &[u8], plan: &[u8]) -> Shortest;
 }
 
 /// One work buffer: how many entries it needs, and the bytes of an entry.
@@ -127,11 +160,11 @@ impl BoardEntry for Reference {
     }
 
     fn step(&self, card: &[u8], state: usize, letter: u8) -> Stepped {
-        stepped(board::step(card, state, letter))
+        stepped(board::step(card, state, letter), |owed| owed as u64)
     }
 
     fn judge(&self, card: &[u8], plan: &[u8]) -> Judged {
-        judged(board::judge(card, plan))
+        judged(board::judge(card, plan), |owed| owed as u64)
     }
 
     fn shortest(&self, card: &[u8], plan: &[u8], _: [u64; 3]) -> Shortest {
@@ -139,24 +172,21 @@ impl BoardEntry for Reference {
     }
 }
 
-/// The reference's mounted board.
-pub struct Mounted;
-
-impl BoardEntry for Mounted {
+impl MountedEntry for Mounted {
     fn load(&self, card: &[u8]) -> Loaded {
-        loaded(mounted::load(card))
+        loaded(Mounted::load(*self, card))
     }
 
-    fn step(&self, card: &[u8], state: usize, letter: u8) -> Stepped {
-        stepped(mounted::step(card, state, letter))
+    fn step(&self, card: &[u8], state: usize, letter: u8) -> Stepped<()> {
+        stepped(Mounted::step(*self, card, state, letter), |owed| owed)
     }
 
-    fn judge(&self, card: &[u8], plan: &[u8]) -> Judged {
-        judged(mounted::judge(card, plan))
+    fn judge(&self, card: &[u8], plan: &[u8]) -> Judged<()> {
+        judged(Mounted::judge(*self, card, plan), |owed| owed)
     }
 
-    fn shortest(&self, card: &[u8], plan: &[u8], _: [u64; 3]) -> Shortest {
-        shortest(mounted::shortest(card, plan))
+    fn shortest(&self, card: &[u8], plan: &[u8]) -> Shortest {
+        shortest(Mounted::shortest(*self, card, plan))
     }
 }
 
@@ -167,17 +197,19 @@ fn loaded(result: Result<Bodies, u8>) -> Loaded {
     }
 }
 
-fn stepped(result: Result<(usize, u8), u8>) -> Stepped {
+fn stepped<Found, Owed>(result: Result<Landing<Found>, u8>, owed: impl Fn(Found) -> Owed) -> Stepped<Owed> {
     match result {
-        Ok((state, marks)) => Stepped::To { state: state as u64, marks: marks.into() },
+        Ok(landing) => {
+            Stepped::To { state: landing.state as u64, marks: landing.marks.into(), owed: owed(landing.owed) }
+        }
         Err(number) => Stepped::Refused(number.into()),
     }
 }
 
-fn judged(result: Result<Verdict, Refused>) -> Judged {
+fn judged<Found, Owed>(result: Result<Verdict<Found>, Refused>, owed: impl Fn(Found) -> Owed) -> Judged<Owed> {
     match result {
         Ok(Verdict::Allowed) => Judged::Allowed,
-        Ok(Verdict::Unfinished) => Judged::Unfinished,
+        Ok(Verdict::Unfinished(found)) => Judged::Unfinished(owed(found)),
         Ok(Verdict::Hopeless(place)) => Judged::Hopeless(place as u64),
         Err(Refused::Card(number)) => Judged::Refused(number.into()),
         Err(Refused::ForeignLetter { before }) => Judged::ForeignLetter { before: before as u64 },

@@ -111,10 +111,10 @@ pub fn paper() -> Vec<Example> {
             .verdict("a", Hopeless(0))
             .verdict("bab", Hopeless(0)),
         accepted("a anywhere", ":ab\n>a / .* _ .*\n").card(EVERYTHING_CARD).verdict("abba", Allowed),
-        accepted("a before a later b", ":ab\n>a / .* _ .*b.*\n").verdict("a", Unfinished).verdict("ab", Allowed),
+        accepted("a before a later b", ":ab\n>a / .* _ .*b.*\n").verdict("a", Unfinished(1)).verdict("ab", Allowed),
         accepted("both sides of the same context", ":abc\n>b / a _ a / c _ c\n")
             .verdict("aba", Allowed)
-            .verdict("ab", Unfinished)
+            .verdict("ab", Unfinished(1))
             .verdict("abc", Hopeless(3)),
         accepted("118 letters in a row", format!(":a\n=A{}\n>a\n", a(118))),
         refused("119 letters in a row", format!(":a\n=A{}\n>a\n", a(119)), 9, 2),
@@ -296,7 +296,7 @@ pub fn staging() -> Vec<Example> {
         accepted("a pattern without a plan", ":ab\n>a&b\n").card(EVERYTHING_CARD),
         accepted("a context at the very ends", ":ab\n>a / @ _ b\n")
             .verdict("ab", Allowed)
-            .verdict("a", Unfinished)
+            .verdict("a", Unfinished(1))
             .verdict("ba", Hopeless(2))
             .verdict("aba", Hopeless(3)),
         accepted("every rule counts", ":ab\n>a\n>b\n")
@@ -314,16 +314,63 @@ pub fn staging() -> Vec<Example> {
             .verdict("ded", Allowed)
             .verdict("aeb", Hopeless(3))
             .verdict("dea", Hopeless(3))
-            .verdict("de", Unfinished)
+            .verdict("de", Unfinished(1))
             .verdict("e", Hopeless(1)),
         accepted("a name inside a name", ":ab\n=Aa\n=BA\n=CB\n>C\n").card(NO_A_CARD),
         accepted("a rule above a definition", ":ab\n>b / .*a _ .*\n=Ab\n>A / .*a _ .*\n").card(FIRST_CARD),
     ]
 }
 
+/// Plans to which several letters are owed.
+pub fn owing() -> Vec<Example> {
+    vec![
+        accepted("three b's some time behind an a", ":ab\n>a / .* _ .*bbb.*\n")
+            .verdict("", Allowed)
+            .verdict("a", Unfinished(3))
+            .verdict("aa", Unfinished(3))
+            .verdict("ab", Unfinished(2))
+            .verdict("abb", Unfinished(1))
+            .verdict("abba", Unfinished(3))
+            .verdict("abbb", Allowed)
+            .verdict("abbba", Unfinished(3)),
+        accepted("one day alone, or none", ":ab\n>.+-aaaaa / .+ _ .* / .* _ .+\n")
+            .verdict("", Allowed)
+            .verdict("a", Unfinished(4))
+            .verdict("aa", Unfinished(3))
+            .verdict("aaaa", Unfinished(1))
+            .verdict("aaaaa", Allowed)
+            .verdict("aaaaaa", Hopeless(6))
+            .verdict("aab", Hopeless(3)),
+        accepted("the shorter of two ways counts", ":ab\n>.+-(aaaa|abb) / .+ _ .* / .* _ .+\n")
+            .verdict("", Allowed)
+            .verdict("a", Unfinished(2))
+            .verdict("aa", Unfinished(2))
+            .verdict("ab", Unfinished(1))
+            .verdict("abb", Allowed)
+            .verdict("aaaa", Allowed),
+        accepted("all days but one", ":ab\n>ab / .+ _ .* / .* _ .+\n")
+            .verdict("", Allowed)
+            .verdict("ab", Unfinished(1))
+            .verdict("aba", Allowed),
+        accepted("whole weeks", format!(":a\n>.+-({})* / .+ _ .* / .* _ .+\n", a(7)))
+            .verdict("", Allowed)
+            .verdict("a", Unfinished(6))
+            .verdict("aaaaaa", Unfinished(1))
+            .verdict("aaaaaaa", Allowed)
+            .verdict("aaaaaaaa", Unfinished(6)),
+        accepted("two rules that want letters", ":abc\n>a / .* _ .*b.* \n>b / .* _ .*cc\n")
+            .verdict("c", Allowed)
+            .verdict("a", Unfinished(3))
+            .verdict("ab", Unfinished(2))
+            .verdict("abc", Unfinished(1))
+            .verdict("abcca", Unfinished(3))
+            .verdict("abcc", Allowed),
+    ]
+}
+
 /// All books above; those below take their time.
 pub fn quick() -> Vec<Example> {
-    [paper(), reading(), ruleless(), staging()].concat()
+    [paper(), reading(), ruleless(), staging(), owing()].concat()
 }
 
 /// Books of thousands of stages.

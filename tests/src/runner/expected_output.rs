@@ -21,7 +21,7 @@ pub fn verdicts(card: Option<&[u8]>, input: &[u8]) -> Vec<u8> {
     for plan in plans(input) {
         let line = match judge(card, plan) {
             Ok(Verdict::Allowed) => "allowed\n".to_string(),
-            Ok(Verdict::Unfinished) => "unfinished\n".to_string(),
+            Ok(Verdict::Unfinished(owed)) => format!("unfinished {owed}\n"),
             Ok(Verdict::Hopeless(place)) => format!("hopeless {place}\n"),
             Err(Refused::Card(number)) => format!("refused {number}\n"),
             Err(Refused::ForeignLetter { .. }) => "refused 27\n".to_string(),
@@ -55,6 +55,10 @@ pub fn written_out() -> Vec<(Option<Bytes>, Bytes, Bytes)> {
         (None, b"ab\n\n", b"refused 21\nrefused 21\n"),
         (None, b"", b""),
         (Some(b""), b"ab\n", b"refused 21\n"),
+        (Some(A_THEN_B_CARD), b"a\nab\n\naba", b"unfinished 1\nallowed\nallowed\nunfinished 1\n"),
+        (Some(JUST_TWELVE_CARD), b"\na\naa\naaa\n", b"unfinished 12\nunfinished 11\nunfinished 10\nunfinished 9\n"),
+        (Some(JUST_TWELVE_CARD), b"aaaaaaaaaaaa\naaaaaaaaaaa", b"allowed\nunfinished 1\n"),
+        (Some(JUST_TWELVE_CARD), b"aaaaaaaaaaaaaa\nb\n", b"hopeless 13\nrefused 27\n"),
         (Some(NO_LETTERS_CARD), b"", b""),
         (Some(NO_LETTERS_CARD), b"\n", b"allowed\n"),
         (Some(NO_LETTERS_CARD), b"\n\na\n\nb", b"allowed\nallowed\nrefused 27\nallowed\nrefused 27\n"),
@@ -64,6 +68,15 @@ pub fn written_out() -> Vec<(Option<Bytes>, Bytes, Bytes)> {
         (Some(&[0x0C, 0, 0, 0, 0x0C, 0, 2, 0, 0x0E, 0, 0, 0, 1, 2]), b"\na\n", b"refused 24\nrefused 24\n"),
     ]
 }
+
+/// The card of `:ab`, `>a / .* _ .*b.*`.
+const A_THEN_B_CARD: Bytes = &[0x0C, 0, 2, 0, 0x0E, 0, 2, 0, 0x10, 0, 4, 0, 0x61, 0x62, 1, 0, 1, 0, 1, 0];
+
+/// Twelve letters a are a plan, and nothing else is.
+const JUST_TWELVE_CARD: Bytes = &[
+    0x0C, 0, 1, 0, 0x0D, 0, 14, 0, 0x1B, 0, 14, 0, 0x61, 0, 0, 0, 0, 0, 0, 0, 0, 0, 0, 0, 0, 1, 2, 1, 2, 3, 4, 5, 6, 7,
+    8, 9, 10, 11, 12, 13, 13,
+];
 
 /// Texts, and what the compiling program prints for them.
 pub fn compiled_out() -> Vec<(Bytes, Bytes)> {

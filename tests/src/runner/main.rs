@@ -26,6 +26,7 @@ mod planted_boards;
 mod planted_compilers;
 mod planted_factors;
 mod planted_lines;
+mod planted_mounted;
 mod product;
 mod program;
 mod random_books;
@@ -43,6 +44,7 @@ mod tally;
 
 use effort::Effort;
 use program::Program;
+use reference::mounted::{BEFORE_W2, BEFORE_W3};
 use std::process::ExitCode;
 use std::time::{Duration, Instant};
 use tally::Tally;
@@ -131,7 +133,8 @@ fn run(tally: &mut Tally, options: &Options, effort: Effort) {
             Some(board) => {
                 compare_board::run(tally, &*board, effort);
                 compare_factor::run(tally, &*board, effort);
-                compare_mounted::run(tally, &*board, &entry::Mounted, effort);
+                compare_mounted::run(tally, &*board, &BEFORE_W2, compare_mounted::BEFORE_W2, effort);
+                compare_mounted::run(tally, &*board, &BEFORE_W3, compare_mounted::BEFORE_W3, effort);
                 if effort.fixed {
                     by_format::run(tally, &*board);
                 }

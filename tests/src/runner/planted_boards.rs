@@ -1,9 +1,11 @@
-//! Wrong boards, new ones and mounted ones. Each is the reference with one
-//! fault; the comparisons have to find every one of them.
+//! Wrong boards. Each is the reference with one fault; the comparisons have to
+//! find every one of them.
 
-use crate::entry::{BoardEntry, Judged, Loaded, Mounted, Reference, Shortest, Stepped};
-use reference::board;
+use crate::by_format;
+use crate::entry::{BoardEntry, Judged, Loaded, Reference, Shortest, Stepped};
+use reference::board::{self, Bodies};
 use reference::card;
+use reference::distance::fewest;
 
 type Load = fn(&[u8], Loaded) -> Loaded;
 type Step = fn(&[u8], usize, u8, Stepped) -> Stepped;
@@ -11,59 +13,227 @@ type Judge = fn(&[u8], &[u8], Judged) -> Judged;
 
 /// The reference's answers, changed afterwards.
 pub struct Planted {
-    pub name: &'static str,
-    right: &'static dyn BoardEntry,
+    pub name: String,
     load: Load,
     step: Step,
     judge: Judge,
+    owed: Owed,
+    owed_in_steps: Owed,
+}
+
+/// What is said to be owed, on a loaded card, in a state of marks 0. `left` is
+/// the state before the last letter, `right` what is due.
+type Owed = fn(&Bodies, At) -> u64;
+
+#[derive(Clone, Copy)]
+struct At {
+    left: usize,
+    state: usize,
+    letters: usize,
+    right: u64,
 }
 
 static REFERENCE: Reference = Reference { bench: Vec::new() };
 
 impl BoardEntry for Planted {
     fn load(&self, card: &[u8]) -> Loaded {
-        (self.load)(card, self.right.load(card))
+        (self.load)(card, REFERENCE.load(card))
     }
 
-    fn step(&self, card: &[u8], state: usize, letter: u8) -> Stepped {
-        (self.step)(card, state, letter, self.right.step(card, state, letter))
+    fn step(&self, card: &[u8], left: usize, letter: u8) -> Stepped {
+        let mut found = REFERENCE.step(card, left, letter);
+        if let (Ok(bodies), Stepped::To { state, marks: 0, owed }) = (board::load(card), &mut found) {
+            *owed = (self.owed_in_steps)(&bodies, At { left, state: *state as usize, letters: 1, right: *owed });
+        }
+        (self.step)(card, left, letter, found)
     }
 
     fn judge(&self, card: &[u8], plan: &[u8]) -> Judged {
-        (self.judge)(card, plan, self.right.judge(card, plan))
+        let mut found = REFERENCE.judge(card, plan);
+        if let (Ok((bodies, columns)), Judged::Unfinished(owed)) = (board::tested(card, plan), &mut found) {
+            let after = |columns: &[usize]| board::machine(&bodies).run(0, columns);
+            let (left, state) = (after(&columns[..columns.len().saturating_sub(1)]), after(&columns));
+            *owed = (self.owed)(&bodies, At { left, state, letters: columns.len(), right: *owed });
+        }
+        (self.judge)(card, plan, found)
     }
 
     fn shortest(&self, card: &[u8], plan: &[u8], held: [u64; 3]) -> Shortest {
-        self.right.shortest(card, plan, held)
+        REFERENCE.shortest(card, plan, held)
     }
 }
 
 /// No fault: the comparisons may find nothing.
 pub fn right() -> Planted {
     Planted {
-        name: "no fault",
-        right: &REFERENCE,
+        name: "no fault".into(),
         load: |_, found| found,
         step: |_, _, _, found| found,
         judge: |_, _, found| found,
+        owed: |_, at| at.right,
+        owed_in_steps: |_, at| at.right,
     }
 }
 
-/// No fault, mounted.
-pub fn right_mounted() -> Planted {
-    Planted { right: &Mounted, ..right() }
+fn load(name: &str, load: Load) -> Planted {
+    Planted { name: name.into(), load, ..right() }
 }
 
-fn load(name: &'static str, load: Load) -> Planted {
-    Planted { name, load, ..right() }
+fn step(name: &str, step: Step) -> Planted {
+    Planted { name: name.into(), step, ..right() }
 }
 
-fn step(name: &'static str, step: Step) -> Planted {
-    Planted { name, step, ..right() }
+fn judge(name: &str, judge: Judge) -> Planted {
+    Planted { name: name.into(), judge, ..right() }
 }
 
-fn judge(name: &'static str, judge: Judge) -> Planted {
-    Planted { name, judge, ..right() }
+/// A number as it stands for the state, 0 where there is none.
+fn number_of(bodies: &Bodies, state: usize) -> u64 {
+    fewest(&board::machine(bodies))[state].map_or(0, |owed| owed as u64)
+}
+
+/// What is owed behind each of the letters, where there is hope.
+fn behind_letters(bodies: &Bodies, state: usize) -> Vec<u64> {
+    let fewest = fewest(&board::machine(bodies));
+    let behind = |column| fewest[bodies.target(state, column)].map(|owed| owed as u64);
+    (0..bodies.letters.len()).filter_map(behind).collect()
+}
+
+/// The letters of the first way that is found to a state, each letter tried to
+/// its end before the next.
+fn in_depth(bodies: &Bodies, state: usize, is_end: fn(u8) -> bool) -> u64 {
+    fn search(bodies: &Bodies, state: usize, is_end: fn(u8) -> bool, seen: &mut [bool]) -> Option<u64> {
+        seen[state] = true;
+        (0..bodies.letters.len()).map(|column| bodies.target(state, column)).find_map(|target| match seen[target] {
+            _ if is_end(bodies.marks[target]) => Some(1),
+            true => None,
+            false => search(bodies, target, is_end, seen).map(|rest| rest + 1),
+        })
+    }
+    search(bodies, state, is_end, &mut vec![false; bodies.states()]).unwrap_or(0)
+}
+
+/// Wrong numbers, each in judging and in a step.
+fn wrong_numbers() -> Vec<(&'static str, Owed)> {
+    vec![
+        ("one letter less owed", |_, at| at.right - 1),
+        ("one letter more owed", |_, at| at.right + 1),
+        ("no number", |_, _| 0),
+        ("always one letter owed", |_, _| 1),
+        ("what the state before owed", |bodies, at| number_of(bodies, at.left)),
+        ("what the start owes", |bodies, _| number_of(bodies, 0)),
+        ("letters to where there is hope", |bodies, at| in_depth(bodies, at.state, |marks| marks != 2)),
+        ("the longer way", |bodies, at| behind_letters(bodies, at.state).into_iter().max().unwrap_or(0) + 1),
+        ("the first letter's way", |bodies, at| behind_letters(bodies, at.state).first().unwrap_or(&0) + 1),
+        ("the last letter's way", |bodies, at| behind_letters(bodies, at.state).last().unwrap_or(&0) + 1),
+        ("the first way in depth", |bodies, at| in_depth(bodies, at.state, |marks| marks == 1)),
+        ("the letters so far are counted too", |_, at| at.right + at.letters as u64),
+        ("at most 118 letters owed", |_, at| at.right.min(118)),
+        ("at most 99 letters owed", |_, at| at.right.min(99)),
+        ("the number of states where a way is long", |bodies, at| match at.right {
+            0..=9 => at.right,
+            _ => bodies.states() as u64,
+        }),
+        ("the state's number", |_, at| at.state as u64),
+    ]
+}
+
+/// Faults in what is owed. The board's own answers contradict each other.
+pub fn in_numbers() -> Vec<Planted> {
+    let both = |(name, owed): (&str, Owed)| {
+        let in_judging = Planted { name: format!("judging: {name}"), owed, ..right() };
+        [in_judging, Planted { name: format!("a step: {name}"), owed_in_steps: owed, ..right() }]
+    };
+    wrong_numbers().into_iter().flat_map(both).collect()
+}
+
+/// Those, and faults in where a number stands and in what a step tests for it.
+pub fn owing() -> Vec<Planted> {
+    let mut list = in_numbers();
+    list.extend([
+        judge("a number for what is allowed", |_, _, found| match found {
+            Judged::Allowed => Judged::Unknown([0, 1, 1, 0]),
+            other => other,
+        }),
+        judge("unfinished with a place", |_, plan, found| match found {
+            Judged::Unfinished(owed) => Judged::Unknown([0, 0, owed, plan.len() as u64 + 1]),
+            other => other,
+        }),
+        judge("the number in the last place", |_, _, found| match found {
+            Judged::Unfinished(owed) => Judged::Unknown([0, 0, 0, owed]),
+            other => other,
+        }),
+        step("a number with marks 1", |_, _, _, found| match found {
+            Stepped::To { state, marks: 1, .. } => Stepped::To { state, marks: 1, owed: 1 },
+            other => other,
+        }),
+        step("a number with marks 2", |_, _, _, found| match found {
+            Stepped::To { state, marks: 2, .. } => Stepped::To { state, marks: 2, owed: 1 },
+            other => other,
+        }),
+        step("what the state before owed, whatever the marks", |card, left, _, found| {
+            match (found, board::load(card)) {
+                (Stepped::To { state, marks: marks @ 1.., .. }, Ok(bodies)) => {
+                    Stepped::To { state, marks, owed: number_of(&bodies, left) }
+                }
+                (other, _) => other,
+            }
+        }),
+        step("28 before 27", |card, state, _, found| match board::bodies(card) {
+            Ok(bodies) if found == Stepped::Refused(27) && state >= bodies.states() => Stepped::Refused(28),
+            _ => found,
+        }),
+        step("27 before the card", |card, _, letter, found| match (&found, board::bodies(card)) {
+            (Stepped::Refused(22..=26), Ok(bodies)) if !bodies.letters.contains(&letter) => Stepped::Refused(27),
+            _ => found,
+        }),
+        step("28 before the card", |card, state, _, found| match (&found, board::bodies(card)) {
+            (Stepped::Refused(22..=26), Ok(bodies)) if state >= bodies.states() => Stepped::Refused(28),
+            _ => found,
+        }),
+        step("21 and 22, then 27 and 28", |card, state, letter, found| match found {
+            Stepped::Refused(23..=26) => by_old_step(card, state, letter, found),
+            other => other,
+        }),
+        step("no more tests than before", |card, state, letter, found| match found {
+            Stepped::Refused(22..=26) => by_old_step(card, state, letter, found),
+            other => other,
+        }),
+        step("23 for this move before 22", |card, state, letter, found| {
+            let astray = by_format::old_step(card, by_format::NO_LETTERS, state, letter) == Stepped::Refused(23);
+            if found == Stepped::Refused(22) && astray {
+                Stepped::Refused(23)
+            } else {
+                found
+            }
+        }),
+        step("23 for this move only", |card, state, letter, found| match found {
+            Stepped::Refused(23) => by_old_step(card, state, letter, found),
+            other => other,
+        }),
+        step("no test of marks", |card, state, letter, found| match found {
+            Stepped::Refused(25) => by_old_step(card, state, letter, found),
+            other => other,
+        }),
+        step("no test for twins", |card, state, letter, found| match found {
+            Stepped::Refused(26) => by_old_step(card, state, letter, found),
+            other => other,
+        }),
+        step("21 for all that a card is refused for", |_, _, _, found| match found {
+            Stepped::Refused(22..=26) => Stepped::Refused(21),
+            other => other,
+        }),
+    ]);
+    list
+}
+
+/// The answer of a mounted board, with no number.
+fn by_old_step(card: &[u8], state: usize, letter: u8, found: Stepped) -> Stepped {
+    match by_format::old_step(card, by_format::NO_LETTERS, state, letter) {
+        Stepped::To { state, marks, .. } => Stepped::To { state, marks, owed: 0 },
+        Stepped::Refused(number) => Stepped::Refused(number),
+        Stepped::Unknown(_) => found,
+    }
 }
 
 /// Whether the card passes test 21 and has no letters.
@@ -80,7 +250,7 @@ fn taken(card: &[u8]) -> Loaded {
 }
 
 pub fn all() -> Vec<Planted> {
-    [on_any_card(), without_letters()].into_iter().flatten().collect()
+    [on_any_card(), without_letters(), owing()].into_iter().flatten().collect()
 }
 
 /// Faults in what a card without letters is answered.
@@ -120,7 +290,7 @@ pub fn without_letters() -> Vec<Planted> {
         }),
         step("steps to state 0 without letters", |card, state, _, found| match board::bodies(card) {
             Ok(bodies) if bodies.letters.is_empty() && state == 0 => {
-                Stepped::To { state: 0, marks: bodies.marks[0].into() }
+                Stepped::To { state: 0, marks: bodies.marks[0].into(), owed: 0 }
             }
             _ => found,
         }),
@@ -144,28 +314,6 @@ pub fn without_letters() -> Vec<Planted> {
             Ok(bodies) if bodies.letters.is_empty() && bodies.marks == [2] => Judged::Hopeless(0),
             _ => found,
         }),
-    ]
-}
-
-/// Faults in what a mounted board answers.
-pub fn mounted() -> Vec<Planted> {
-    let mounted = |planted: Planted| Planted { right: &Mounted, ..planted };
-    vec![
-        mounted(load("loads a card without letters", |card, _| REFERENCE.load(card))),
-        mounted(step("27 for a card without letters", |card, state, letter, _| REFERENCE.step(card, state, letter))),
-        mounted(judge("judges by a card without letters", |card, plan, _| REFERENCE.judge(card, plan))),
-        mounted(load("22 for a card without letters", |card, found| match found {
-            Loaded::Refused(21) if has_no_letters(card) => Loaded::Refused(22),
-            other => other,
-        })),
-        mounted(load("refuses a card of one letter", |_, found| match found {
-            Loaded::Card { letters: 1, .. } => Loaded::Refused(21),
-            other => other,
-        })),
-        mounted(load("21 for all refused cards", |_, found| match found {
-            Loaded::Refused(_) => Loaded::Refused(21),
-            other => other,
-        })),
     ]
 }
 
@@ -250,51 +398,14 @@ fn on_any_card() -> Vec<Planted> {
             other => other,
         }),
         step("stays in its state", |_, state, _, found| match found {
-            Stepped::To { marks, .. } => Stepped::To { state: state as u64, marks },
+            Stepped::To { marks, owed, .. } => Stepped::To { state: state as u64, marks, owed },
             other => other,
         }),
-        step("the marks of the old state", |card, state, _, found| match (found, board::bodies(card)) {
-            (Stepped::To { state: next, .. }, Ok(bodies)) => {
-                Stepped::To { state: next, marks: bodies.marks[state].into() }
+        step("the marks of the old state", |card, left, _, found| match (found, board::bodies(card)) {
+            (Stepped::To { state, owed, .. }, Ok(bodies)) => {
+                Stepped::To { state, marks: bodies.marks[left].into(), owed }
             }
             (other, _) => other,
-        }),
-        step("28 before 27", |card, state, _, found| match board::bodies(card) {
-            Ok(bodies) if found == Stepped::Refused(27) && state >= bodies.states() => Stepped::Refused(28),
-            _ => found,
-        }),
-        step("tests all moves", |card, _, _, found| match board::bodies(card) {
-            Ok(bodies) if matches!(found, Stepped::To { .. }) => {
-                let astray = bodies.moves.iter().any(|&target| target as usize >= bodies.states());
-                if astray {
-                    Stepped::Refused(23)
-                } else {
-                    found
-                }
-            }
-            _ => found,
-        }),
-        step("tests the whole card", |card, _, _, found| match board::load(card) {
-            Err(number) if number > 21 => Stepped::Refused(number.into()),
-            _ => found,
-        }),
-        step("the last of a letter's columns", |card, state, letter, found| match board::bodies(card) {
-            Ok(bodies) if matches!(found, Stepped::To { .. }) => {
-                let column = bodies.letters.iter().rposition(|&known| known == letter).expect("on the card");
-                let target = bodies.target(state, column);
-                match bodies.marks.get(target) {
-                    Some(&marks) => Stepped::To { state: target as u64, marks: marks.into() },
-                    None => Stepped::Refused(23),
-                }
-            }
-            _ => found,
-        }),
-        step("only a to z are letters", |card, _, letter, found| {
-            if board::bodies(card).is_ok() && !letter.is_ascii_lowercase() {
-                Stepped::Refused(27)
-            } else {
-                found
-            }
         }),
         step("states below 256 only", |card, state, letter, _| REFERENCE.step(card, state & 255, letter)),
         step("no test of the card's length", |card, state, letter, found| match found {
@@ -303,7 +414,7 @@ fn on_any_card() -> Vec<Planted> {
         }),
         judge("hopeless 0 always", |_, _, _| Judged::Hopeless(0)),
         judge("never hopeless", |_, _, found| match found {
-            Judged::Hopeless(_) => Judged::Unfinished,
+            Judged::Hopeless(_) => Judged::Unfinished(1),
             other => other,
         }),
         judge("hopeless one letter late", |_, _, found| match found {
@@ -323,7 +434,7 @@ fn on_any_card() -> Vec<Planted> {
             other => other,
         }),
         judge("unfinished is allowed", |_, _, found| match found {
-            Judged::Unfinished => Judged::Allowed,
+            Judged::Unfinished(_) => Judged::Allowed,
             other => other,
         }),
         judge("the verdict before the letters", |card, plan, found| match found {

@@ -17,6 +17,25 @@ fn has_no_letters(card: &[u8]) -> bool {
     board::load(card).is_ok_and(|bodies| bodies.letters.is_empty())
 }
 
+/// The replies for unfinished plans made from what the first of them owes and
+/// what each does.
+fn owing(
+    card: &[u8],
+    lines: &[u8],
+    replies: &mut [u64],
+    lent: usize,
+    reply: fn(u64, u64) -> [u64; 3],
+) -> Option<[u64; 4]> {
+    let numbers = right(card, lines, replies, lent)?;
+    let mut first = None;
+    for found in replies[..3 * numbers[1] as usize].chunks_exact_mut(3) {
+        if let [0, 0, owed] = *found {
+            found.copy_from_slice(&reply(*first.get_or_insert(owed), owed));
+        }
+    }
+    Some(numbers)
+}
+
 pub fn all() -> Vec<(&'static str, JudgeLines)> {
     vec![
         ("refuses a card without letters", |card, lines, replies, lent| match has_no_letters(card) {
@@ -42,6 +61,18 @@ pub fn all() -> Vec<(&'static str, JudgeLines)> {
                 }
             }
             Some(numbers)
+        }),
+        ("unfinished without its number", |card, lines, replies, lent| {
+            owing(card, lines, replies, lent, |_, _| [0, 0, 0])
+        }),
+        ("one letter less owed", |card, lines, replies, lent| {
+            owing(card, lines, replies, lent, |_, owed| [0, 0, owed - 1])
+        }),
+        ("the number in the verdict's place", |card, lines, replies, lent| {
+            owing(card, lines, replies, lent, |_, owed| [0, owed, 0])
+        }),
+        ("what the first unfinished plan owes", |card, lines, replies, lent| {
+            owing(card, lines, replies, lent, |first, _| [0, 0, first])
         }),
         ("one number more than there is room for", |card, lines, replies, lent| {
             let numbers = right(card, lines, replies, lent)?;

@@ -87,25 +87,27 @@ mod board {
             }
         }
 
+        /// out: the next state, its marks byte, what is owed there; refused,
+        /// three zeros.
         fn step(&self, card: &[u8], state: usize, letter: u8) -> Stepped {
             match answer(|out| unsafe { pier_step(card.as_ptr(), card.len(), state, letter, out) }) {
-                ([0, state, marks, 0], false) => Stepped::To { state, marks },
+                ([0, state, marks, owed], false) => Stepped::To { state, marks, owed },
                 ([number, 0, 0, 0], false) => Stepped::Refused(number),
                 (numbers, _) => Stepped::Unknown(numbers),
             }
         }
 
-        /// out: verdict, place, 0; with number 0 the verdict is a marks byte
-        /// (1 allowed, 0 unfinished, 2 hopeless) and the place that of
-        /// hopeless; with number 27 the place is the letters before the
-        /// foreign one.
+        /// out: verdict, count, 0; with number 0 the verdict is a marks byte
+        /// (1 allowed, 0 unfinished, 2 hopeless) and the count what is owed,
+        /// or the place of hopeless; with number 27 it is the letters before
+        /// the foreign one.
         fn judge(&self, card: &[u8], plan: &[u8]) -> Judged {
             match answer(|out| unsafe { pier_judge(card.as_ptr(), card.len(), plan.as_ptr(), plan.len(), out) }) {
                 ([0, 1, 0, 0], false) => Judged::Allowed,
-                ([0, 0, 0, 0], false) => Judged::Unfinished,
+                ([0, 0, owed, 0], false) if owed > 0 => Judged::Unfinished(owed),
                 ([0, 2, place, 0], false) => Judged::Hopeless(place),
                 ([27, 0, before, 0], false) => Judged::ForeignLetter { before },
-                ([number, 0, 0, 0], false) => Judged::Refused(number),
+                ([number, 0, 0, 0], false) if number > 0 => Judged::Refused(number),
                 (numbers, _) => Judged::Unknown(numbers),
             }
         }

@@ -141,6 +141,55 @@ fn spelling(rng: &mut Rng, symbols: usize, most: usize) -> Machine {
     explore(symbols, most, Some(0), step, |&state| state == Some(end)).expect("a state for each letter and two more")
 }
 
+/// A card that loads and has a state or two where a plan may end, far from the
+/// first: one letter leads a state on, the others back, or to a dead state.
+pub fn far(rng: &mut Rng) -> Vec<u8> {
+    let symbols = *rng.pick(&[1, 1, 2, 2, 3, 26]);
+    let states = *rng.pick(&[2, 3, 4, 6, 12, 40, 120, 120]);
+    let deadly = rng.once_in(4);
+    let next = (0..states)
+        .map(|state| {
+            let on = rng.below(symbols);
+            let target = |rng: &mut Rng, symbol: usize| match symbol {
+                _ if deadly && state + 1 == states => state,
+                _ if symbol == on => (state + 1) % states,
+                _ if deadly && rng.once_in(6) => states - 1,
+                _ if rng.once_in(2) => 0,
+                _ => rng.below(state + 1),
+            };
+            (0..symbols).map(|symbol| target(rng, symbol)).collect()
+        })
+        .collect();
+    let mut accepting = vec![false; states];
+    accepting[if deadly { states - 2 } else { states - 1 }] = true;
+    if rng.once_in(4) {
+        accepting[rng.below(states)] = true;
+    }
+    let machine = Machine { symbols, next, accepting };
+    card::write(&letters(rng, symbols), &minimise(&machine.numbered()))
+}
+
+/// A plan by letters that lead on to states not met yet, where there are some,
+/// up to some length; so it comes to states that are far from the first.
+pub fn far_plan(rng: &mut Rng, card: &[u8]) -> Vec<u8> {
+    let Ok(bodies) = board::load(card) else { return plan(rng, b"ab") };
+    if bodies.letters.is_empty() {
+        return Vec::new();
+    }
+    let mut met = vec![false; bodies.states()];
+    let (mut state, mut plan) = (0, Vec::new());
+    for _ in 0..rng.below(bodies.states() + 1) {
+        met[state] = true;
+        let fresh: Vec<usize> = (0..bodies.letters.len())
+            .filter(|&column| !met[bodies.target(state, column)] && bodies.marks[bodies.target(state, column)] != 2)
+            .collect();
+        let column = if fresh.is_empty() { rng.below(bodies.letters.len()) } else { *rng.pick(&fresh) };
+        plan.push(bodies.letters[column]);
+        state = bodies.target(state, column);
+    }
+    plan
+}
+
 /// A good card with a few bytes changed, added or taken out.
 pub fn damaged(rng: &mut Rng, good: &[u8]) -> Vec<u8> {
     let mut bytes = good.to_vec();
@@ -184,9 +233,9 @@ pub fn loose(rng: &mut Rng) -> Vec<u8> {
     // Without letters no state but the first is reached.
     let states = rng.between(1, if letters_count == 0 { 2 } else { 5 });
     let mut row = letters(rng, letters_count);
-    if letters_count > 0 && rng.once_in(6) {
-        let place = rng.below(letters_count);
-        row[place] = *rng.pick(b"aAz`{\0\xff");
+    if letters_count > 0 && rng.once_in(4) {
+        let (place, other) = (rng.below(letters_count), rng.below(letters_count));
+        row[place] = if rng.once_in(2) { row[other] } else { *rng.pick(b"aAz`{\0\xff") };
     }
     let highest = if rng.once_in(4) { states + 1 } else { states };
     let marks: Vec<u8> = (0..states).map(|_| *rng.pick(&[0, 0, 1, 1, 1, 2, 2, 3])).collect();

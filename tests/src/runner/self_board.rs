@@ -1,9 +1,11 @@
-//! The reference's board against trying all short words on a card.
+//! The reference's board against trying all short words on a card: its tests,
+//! and how much is owed.
 
+use crate::board_examples;
 use crate::effort::Effort;
 use crate::random_cards;
-use crate::tally::{hex, Tally};
-use reference::board::{self, Bodies};
+use crate::tally::{hex, shown, Tally};
+use reference::board::{self, Bodies, Verdict};
 use reference::card;
 use reference::minimise::minimise;
 use reference::pieces::words;
@@ -28,6 +30,32 @@ pub fn run(tally: &mut Tally, effort: Effort) {
                 }
             };
             loading(tally, &card);
+        }
+    });
+    tally.group("reference: what is owed on every small card", |tally| {
+        for (letters, states) in random_cards::SMALL {
+            for card in random_cards::all_small(letters, states) {
+                owing(tally, &card);
+            }
+        }
+    });
+    tally.group("reference: what is owed on random small cards", |tally| {
+        let mut rng = tally.rng("what is owed on random small cards");
+        let cards = effort.of(2000);
+        let owing = (0..cards).filter(|_| owing(tally, &small_good(&mut rng))).count();
+        tally.check(owing * 20 >= cards, || format!("letters are owed on {owing} of {cards} cards"));
+    });
+    tally.group("reference: what is owed on chains", |tally| {
+        for states in 1..=card::MOST_STATES {
+            let card = board_examples::chain(b"ab", states);
+            for length in 0..states {
+                let due = match states - 1 - length {
+                    0 => Verdict::Allowed,
+                    owed => Verdict::Unfinished(owed),
+                };
+                let found = board::judge(&card, &b"a".repeat(length));
+                tally.same(&format!("{length} letters on a chain of {states} states"), &Ok(due), &found);
+            }
         }
     });
     tally.group("reference: a card loads when it is a smallest machine's", |tally| {
@@ -68,6 +96,58 @@ fn loading(tally: &mut Tally, card: &[u8]) {
     let due = tests_by_words(card);
     let found = board::load(card).err();
     tally.check(due == found, || format!("{}\n  by words: {due:?}\n  by the board: {found:?}", hex(card)));
+}
+
+/// Every state's number by all continuations of its plans, in judging and in
+/// steps that land there; whether the card loads and letters are owed in some
+/// state. Only for small cards.
+fn owing(tally: &mut Tally, card: &[u8]) -> bool {
+    let Ok(bodies) = board::load(card) else { return false };
+    let letters = bodies.letters;
+    let is_allowed = |plan: &[u8]| bodies.marks[state_after(&bodies, plan)] == 1;
+    // Fewer letters than there are states lead to every state, and on to one
+    // where a plan may end.
+    let continuations = words(letters, bodies.states());
+    let mut some = false;
+    let mut arrived = vec![false; bodies.states()];
+    for plan in words(letters, bodies.states() - 1) {
+        let state = state_after(&bodies, &plan);
+        if std::mem::replace(&mut arrived[state], true) {
+            continue;
+        }
+        let allowed = continuations.iter().filter(|rest| is_allowed(&[&plan[..], rest].concat()));
+        let lengths: Vec<usize> = allowed.map(|rest| rest.len()).collect();
+        let right = match board::judge(card, &plan) {
+            Ok(Verdict::Allowed) => lengths.contains(&0),
+            Ok(Verdict::Unfinished(owed)) => {
+                some = true;
+                lengths.contains(&owed) && lengths.iter().all(|&length| length >= owed && length >= 1)
+            }
+            Ok(Verdict::Hopeless(_)) => lengths.is_empty(),
+            Err(_) => false,
+        };
+        tally.check(right, || format!("plan {} by {}", shown(&plan), hex(card)));
+        for &letter in letters {
+            let longer = [&plan[..], &[letter]].concat();
+            let due = match board::judge(card, &longer) {
+                Ok(Verdict::Allowed) => (1, 0),
+                Ok(Verdict::Unfinished(owed)) => (0, owed),
+                _ => (2, 0),
+            };
+            let found = board::step(card, state, letter);
+            let right =
+                found.is_ok_and(|to| (to.state, to.marks, to.owed) == (state_after(&bodies, &longer), due.0, due.1));
+            tally.check(right, || format!("a step from state {state} with letter {letter} on {}", hex(card)));
+        }
+    }
+    some
+}
+
+fn state_after(bodies: &Bodies, plan: &[u8]) -> usize {
+    plan.iter().fold(0, |state, letter| {
+        let column = bodies.letters.iter().position(|known| known == letter).expect("a letter of the card");
+        bodies.moves[state * bodies.letters.len() + column].into()
+    })
 }
 
 /// Tests 21 to 26 by short words from every state. Only for small cards.

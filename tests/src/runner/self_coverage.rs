@@ -3,7 +3,7 @@
 use crate::random_books;
 use crate::random_cards;
 use crate::tally::Tally;
-use reference::board::{self, Refused, Verdict};
+use reference::board::{self, Landing, Refused, Verdict};
 use reference::compile::{compile, Lent};
 use reference::factor::shortest;
 use std::collections::BTreeMap;
@@ -28,12 +28,26 @@ pub fn run(tally: &mut Tally) {
             "load 25",
             "load 26",
             "step 21",
+            "step 22",
             "step 23",
+            "step 24",
+            "step 25",
+            "step 26",
             "step 27",
             "step 28",
-            "stepped",
+            "stepped to marks 1",
+            "stepped to marks 2",
+            "stepped to 1 owed",
+            "stepped to 2 owed",
+            "stepped to 3 to 9 owed",
+            "stepped to 10 to 99 owed",
+            "stepped to 100 to 119 owed",
             "allowed",
-            "unfinished",
+            "unfinished, 1 owed",
+            "unfinished, 2 owed",
+            "unfinished, 3 to 9 owed",
+            "unfinished, 10 to 99 owed",
+            "unfinished, 100 to 119 owed",
             "hopeless",
             "hopeless 0",
             "foreign",
@@ -119,6 +133,19 @@ fn kind(text: &[u8], peak: usize) -> &'static str {
     }
 }
 
+/// About how many letters are owed.
+fn about(owed: usize) -> &'static str {
+    match owed {
+        0 => "none",
+        1 => "1",
+        2 => "2",
+        3..=9 => "3 to 9",
+        10..=99 => "10 to 99",
+        100..=119 => "100 to 119",
+        _ => "too many",
+    }
+}
+
 /// Cards without letters are counted by themselves.
 fn of_letters(letters: &[u8]) -> String {
     if letters.is_empty() { "no letters, " } else { "" }.into()
@@ -127,11 +154,12 @@ fn of_letters(letters: &[u8]) -> String {
 fn cards(tally: &Tally) -> Met {
     let mut met = Met::new();
     let mut rng = tally.rng("cards that meet every answer");
-    for case in 0..3000 {
+    for case in 0..4000 {
         let good = random_cards::good(&mut rng);
-        let card = match case % 3 {
+        let card = match case % 4 {
             0 => random_cards::loose(&mut rng),
             1 => good,
+            2 => random_cards::far(&mut rng),
             _ => random_cards::damaged(&mut rng, &good),
         };
         let letters = board::bodies(&card).map_or(b"ab".to_vec(), |bodies| bodies.letters.to_vec());
@@ -142,12 +170,19 @@ fn cards(tally: &Tally) -> Met {
         }
         let letter = if rng.once_in(6) { rng.next() as u8 } else { random_cards::letter(&mut rng, &letters) };
         match board::step(&card, rng.below(8), letter) {
-            Ok(_) => count("stepped".into()),
+            Ok(Landing { marks: 0, owed, .. }) => count(format!("stepped to {} owed", about(owed))),
+            Ok(Landing { marks, owed: 0, .. }) => count(format!("stepped to marks {marks}")),
+            Ok(landing) => count(format!("{landing:?}")),
             Err(number) => count(format!("step {number}")),
         }
-        match board::judge(&card, &random_cards::plan(&mut rng, &letters)) {
+        let plan = if rng.once_in(2) {
+            random_cards::far_plan(&mut rng, &card)
+        } else {
+            random_cards::plan(&mut rng, &letters)
+        };
+        match board::judge(&card, &plan) {
             Ok(Verdict::Allowed) => count("allowed".into()),
-            Ok(Verdict::Unfinished) => count("unfinished".into()),
+            Ok(Verdict::Unfinished(owed)) => count(format!("unfinished, {} owed", about(owed))),
             Ok(Verdict::Hopeless(0)) => count("hopeless 0".into()),
             Ok(Verdict::Hopeless(_)) => count("hopeless".into()),
             Err(Refused::ForeignLetter { .. }) => count("foreign".into()),
@@ -180,7 +215,7 @@ fn factors(tally: &Tally) -> Met {
         }
         match (shortest(&card, &plan), board::judge(&card, &plan)) {
             (Ok(None), Ok(Verdict::Allowed)) => count(&mut met, "none, allowed"),
-            (Ok(None), Ok(Verdict::Unfinished)) => count(&mut met, "none, unfinished"),
+            (Ok(None), Ok(Verdict::Unfinished(_))) => count(&mut met, "none, unfinished"),
             (Ok(None), Ok(Verdict::Hopeless(_))) => count(&mut met, "none, hopeless"),
             (Ok(Some(found)), Ok(Verdict::Hopeless(place))) => stretch(&mut met, &card, &plan, found, place),
             (Err(Refused::ForeignLetter { .. }), _) => count(&mut met, "foreign"),

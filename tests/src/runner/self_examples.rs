@@ -1,13 +1,14 @@
 //! The reference against results worked out by hand.
 
 use crate::board_examples;
-use crate::entry::{BoardEntry, Reference};
+use crate::entry::{BoardEntry, MountedEntry, Reference};
 use crate::examples::{self, Due, Example};
 use crate::limits::{self, Nearest};
 use crate::tally::{shown, Tally};
-use reference::board;
+use reference::board::{self, Verdict};
 use reference::card;
 use reference::compile::{compile, compile_by, compile_traced, rule, Lent, Limits, Stage, Workshop, LIMITS};
+use reference::mounted::BEFORE_W3;
 use reference::reader;
 use reference::refusal::Refusal;
 use reference::syntax::Line;
@@ -16,6 +17,7 @@ pub fn run(tally: &mut Tally) {
     tally.group("reference: examples of document 01", |tally| all(tally, examples::paper()));
     tally.group("reference: how a text is read", |tally| all(tally, examples::reading()));
     tally.group("reference: texts without rules", |tally| all(tally, examples::ruleless()));
+    tally.group("reference: how much is owed", |tally| all(tally, examples::owing()));
     tally.group("reference: how stages are made", |tally| {
         all(tally, examples::staging());
         all(tally, examples::many_stages());
@@ -144,6 +146,12 @@ fn long_texts_and_cards(tally: &mut Tally) {
             tally.same("the longest card's length", &limits::LONGEST_CARD, &accepted.card.len());
             let states = board::load(&accepted.card).map(|bodies| bodies.states());
             tally.same("the longest card's states", &Ok(card::MOST_STATES), &states);
+            // Whole multiples of 7 and of 17 letters a.
+            for (count, due) in [(0, Verdict::Allowed), (1, Verdict::Unfinished(118)), (120, Verdict::Unfinished(118))]
+            {
+                let judged = board::judge(&accepted.card, examples::a(count).as_bytes());
+                tally.same(&format!("{count} letters on the longest card"), &Ok(due), &judged);
+            }
         }
     }
 }
@@ -188,6 +196,9 @@ fn boards(tally: &mut Tally) {
     }
     for (title, card, state, letter, due) in board_examples::steps() {
         tally.same(title, &due, &reference.step(&card, state, letter));
+    }
+    for (title, card, state, letter, due) in board_examples::mounted_steps() {
+        tally.same(title, &due, &MountedEntry::step(&BEFORE_W3, &card, state, letter));
     }
     for (title, card, plan, due) in board_examples::judgings() {
         tally.same(title, &due, &reference.judge(&card, &plan));

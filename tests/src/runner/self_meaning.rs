@@ -19,6 +19,7 @@ use reference::machine::Machine;
 use reference::minimise::{minimise, minimise_by_reversal};
 use reference::pieces::{allows, words};
 use reference::reader;
+use std::collections::BTreeSet;
 
 pub fn run(tally: &mut Tally, effort: Effort) {
     tally.group("reference: cards by derivatives", |tally| {
@@ -44,6 +45,17 @@ pub fn run(tally: &mut Tally, effort: Effort) {
             let text = random_books::book(&mut rng);
             short_plans(tally, &text, case);
         }
+    });
+    tally.group("reference: what is owed by derivatives", |tally| {
+        let mut rng = tally.rng("what is owed by derivatives");
+        let (mut owing, books) = (0, effort.of(1000));
+        for case in 0..books {
+            let text = random_books::book(&mut rng);
+            let Some((wrong, owed)) = wrong_by_derivatives(&mut rng, &text) else { continue };
+            owing += owed;
+            tally.check(wrong.is_none(), || format!("case {case}: {}: {wrong:?}", shown(&text)));
+        }
+        tally.check(owing >= books / 20, || format!("letters are owed to {owing} plans of {books} books"));
     });
     tally.group("reference: the reader by the grammar", |tally| {
         let mut rng = tally.rng("the grammar");
@@ -104,11 +116,16 @@ fn wrong_by_short_plans(text: &[u8]) -> Option<String> {
         };
         let right = match verdict {
             Verdict::Allowed => due,
-            Verdict::Unfinished => !due && has_witness(&book, &machine, word),
+            // No allowed plan that was tried is reached by fewer letters.
+            Verdict::Unfinished(owed) => {
+                let fewer = |other: &[u8]| other.starts_with(word) && other.len() < word.len() + owed;
+                let by_fewer = all.iter().zip(&allowed).any(|(other, &due)| due && fewer(other));
+                !due && !by_fewer && witness(&book, &machine, word) == Some(owed)
+            }
             Verdict::Hopeless(place) => {
                 let dead = &word[..place];
                 let allowed_beyond = all.iter().zip(&allowed).any(|(word, &due)| due && word.starts_with(dead));
-                let alive_before = place == 0 || has_witness(&book, &machine, &word[..place - 1]);
+                let alive_before = place == 0 || witness(&book, &machine, &word[..place - 1]).is_some();
                 !allowed_beyond && alive_before
             }
         };
@@ -119,12 +136,10 @@ fn wrong_by_short_plans(text: &[u8]) -> Option<String> {
     None
 }
 
-/// Whether the card's shortest way from this beginning to an accepting state
-/// is a plan that the definition allows.
-fn has_witness(book: &reference::syntax::Book, machine: &Machine, beginning: &[u8]) -> bool {
-    let column = |letter: &u8| book.alphabet.iter().position(|known| known == letter).expect("a letter of the book");
-    let symbols: Vec<usize> = beginning.iter().map(column).collect();
-    let from = machine.run(0, &symbols);
+/// The letters of the card's shortest way from this beginning to an accepting
+/// state, where it makes a plan that the definition allows.
+fn witness(book: &reference::syntax::Book, machine: &Machine, beginning: &[u8]) -> Option<usize> {
+    let from = machine.run(0, &columns(book, beginning));
     let mut ways: Vec<(usize, Vec<u8>)> = vec![(from, beginning.to_vec())];
     let mut seen = vec![false; machine.states()];
     seen[from] = true;
@@ -133,7 +148,8 @@ fn has_witness(book: &reference::syntax::Book, machine: &Machine, beginning: &[u
         let (state, word) = ways[done].clone();
         if machine.accepting[state] {
             // Longer ones can't be asked; the card's claim then stands alone.
-            return word.len() > reference::pieces::LONGEST_WORD || allows(book, &word);
+            let allowed = word.len() > reference::pieces::LONGEST_WORD || allows(book, &word);
+            return allowed.then_some(word.len() - beginning.len());
         }
         for (symbol, &target) in machine.next[state].iter().enumerate() {
             if !seen[target] {
@@ -145,7 +161,52 @@ fn has_witness(book: &reference::syntax::Book, machine: &Machine, beginning: &[u
         }
         done += 1;
     }
-    false
+    None
+}
+
+fn columns(book: &reference::syntax::Book, word: &[u8]) -> Vec<usize> {
+    let column = |letter: &u8| book.alphabet.iter().position(|known| known == letter).expect("a letter of the book");
+    word.iter().map(column).collect()
+}
+
+/// A plan whose verdict isn't the one that the book's derivatives give; and how
+/// many of some plans are owed letters.
+fn wrong_by_derivatives(rng: &mut Rng, text: &[u8]) -> Option<(Option<String>, usize)> {
+    let accepted = compile(text, &Lent::plenty()).ok()?;
+    let book = reader::read_book(text).ok()?;
+    let machine = Derivatives::of(&book).machine(600).ok()?;
+    let mut owing = 0;
+    for _ in 0..8 {
+        let plan = random_cards::far_plan(rng, &accepted.card);
+        if plan.iter().any(|letter| !book.alphabet.contains(letter)) {
+            continue;
+        }
+        let due = by_rising_length(&machine, &columns(&book, &plan));
+        let found = board::judge(&accepted.card, &plan);
+        owing += usize::from(matches!(due, Verdict::Unfinished(_)));
+        if found != Ok(due) {
+            return Some((Some(format!("plan {}: {due:?} is due, {found:?} is found", shown(&plan))), owing));
+        }
+    }
+    Some((None, owing))
+}
+
+/// The verdict by the states that all continuations of no letter, of one, of
+/// two and so on lead to. Longer ones than there are states lead nowhere new.
+fn by_rising_length(machine: &Machine, plan: &[usize]) -> Verdict {
+    let fewest = |plan: &[usize]| {
+        let mut led_to = BTreeSet::from([machine.run(0, plan)]);
+        (0..machine.states()).find(|_| {
+            let ends = led_to.iter().any(|&state| machine.accepting[state]);
+            led_to = led_to.iter().flat_map(|&state| machine.next[state].iter().copied()).collect();
+            ends
+        })
+    };
+    match (fewest(plan), (0..=plan.len()).find(|&place| fewest(&plan[..place]).is_none())) {
+        (Some(0), _) => Verdict::Allowed,
+        (Some(owed), _) => Verdict::Unfinished(owed),
+        (None, place) => Verdict::Hopeless(place.expect("the whole plan's place")),
+    }
 }
 
 fn short_plans(tally: &mut Tally, text: &[u8], case: usize) {

@@ -13,6 +13,7 @@ use crate::planted_boards;
 use crate::planted_compilers;
 use crate::planted_factors;
 use crate::planted_lines;
+use crate::planted_mounted;
 use crate::product::JudgeLines;
 use crate::program::Program;
 use crate::random_books;
@@ -51,18 +52,25 @@ pub fn run(tally: &mut Tally) {
         for planted in planted_boards::all() {
             tally.check(hunt(&planted, Effort::HUNT) > 0, || format!("not found: {}", planted.name));
         }
-        for planted in planted_boards::without_letters() {
+        for planted in [planted_boards::without_letters(), planted_boards::owing()].into_iter().flatten() {
             tally.check(hunt(&planted, RANDOM) > 0, || format!("not found by random cases: {}", planted.name));
+        }
+        for planted in planted_boards::in_numbers() {
+            let mut found = Tally::hunting(SEED);
+            compare_board::relations(&mut found, &planted, Effort::HUNT);
+            tally.check(found.failed > 0, || format!("not found by answers against each other: {}", planted.name));
         }
     });
     tally.group("reference: faults planted in mounted boards are found", |tally| {
-        let hunt = |planted: &planted_boards::Planted, effort: Effort| {
+        let hunt = |planted: &planted_mounted::Planted, effort: Effort| {
             let mut found = Tally::hunting(SEED);
-            compare_mounted::run(&mut found, &Reference { bench: Vec::new() }, planted, effort);
+            compare_mounted::run(&mut found, &Reference { bench: Vec::new() }, planted, planted.kind, effort);
             found.failed
         };
-        tally.same("a mounted board without a fault", &0, &hunt(&planted_boards::right_mounted(), Effort::HUNT));
-        for planted in planted_boards::mounted() {
+        for planted in planted_mounted::right() {
+            tally.same("a mounted board without a fault", &0, &hunt(&planted, Effort::HUNT));
+        }
+        for planted in planted_mounted::all() {
             tally.check(hunt(&planted, Effort::HUNT) > 0, || format!("not found: {}", planted.name));
             tally.check(hunt(&planted, RANDOM) > 0, || format!("not found by random cases: {}", planted.name));
         }
