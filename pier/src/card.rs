@@ -1,6 +1,6 @@
 //! Cards: reading a file, the loaded table, marks and letters in words.
 
-use crate::proved::{self, Loaded, Stepped};
+use crate::proved::{self, Judged, Loaded};
 use crate::words::count_or_no;
 use crate::{files, refusal, Failure};
 use std::collections::BTreeMap;
@@ -47,6 +47,15 @@ pub fn refused(path: &Path, bytes: &[u8], number: u64) -> Failure {
     ))
 }
 
+/// The bytes of a file's card, and its table.
+pub fn with_table(path: &Path) -> Result<(Vec<u8>, Table), Failure> {
+    let bytes = bytes(path)?;
+    match Table::of(&bytes) {
+        Ok(table) => Ok((bytes, table)),
+        Err(number) => Err(refused(path, &bytes, number)),
+    }
+}
+
 /// Is this a card that loads and has no letters?
 pub fn is_without_letters(card: &[u8]) -> bool {
     matches!(proved::load(card), Loaded::Card { letters: 0, .. })
@@ -57,6 +66,9 @@ pub struct Table {
     pub marks: Vec<u8>,
     /// For each state the next state of each letter.
     pub moves: Vec<Vec<usize>>,
+    /// For each state the fewest letters to one where a plan may end; none where
+    /// it is hopeless.
+    pub owed: Vec<Option<usize>>,
     /// The card's length.
     pub bytes: usize,
 }
@@ -64,24 +76,38 @@ pub struct Table {
 impl Table {
     /// The table of a file's card.
     pub fn read(path: &Path) -> Result<Table, Failure> {
-        let bytes = bytes(path)?;
-        Table::of(&bytes).map_err(|number| refused(path, &bytes, number))
+        with_table(path).map(|(_, table)| table)
     }
 
-    /// The table of a card that loads, or the number by which it is refused. The
-    /// letters and marks are read where the layout puts them; the moves are asked
-    /// of the proved step.
+    /// The table of a card that loads, or the number by which it is refused.
+    /// Letters, marks and moves are read where the layout puts them; what is owed
+    /// is asked of the proved judging.
     pub fn of(card: &[u8]) -> Result<Table, u64> {
         const CONTENTS: usize = 12;
         let (m, n) = match proved::load(card) {
             Loaded::Card { letters, states } => (letters, states),
             Loaded::Refused(number) => return Err(number),
         };
-        let letters = card[CONTENTS..CONTENTS + m].to_vec();
-        let marks = card[CONTENTS + m..CONTENTS + m + n].to_vec();
-        let row = |state| letters.iter().map(|&letter| target(card, state, letter)).collect::<Result<_, _>>();
-        let moves = (0..n).map(row).collect::<Result<_, _>>()?;
-        Ok(Table { letters, marks, moves, bytes: card.len() })
+        let (letters, rest) = card[CONTENTS..].split_at(m);
+        let (marks, moves) = rest.split_at(n);
+        let row = |state| moves[state * m..][..m].iter().map(|&next| next.into()).collect();
+        let moves: Vec<Vec<usize>> = (0..n).map(row).collect();
+        let owed = owed(card, &arrivals(letters, &moves))?;
+        Ok(Table { letters: letters.to_vec(), marks: marks.to_vec(), moves, owed, bytes: card.len() })
+    }
+
+    /// What a state's mark means, on the way with the letters owed.
+    pub fn mark(&self, state: usize) -> String {
+        let word = mark(self.marks[state]);
+        match self.owed[state] {
+            Some(owed @ 1..) => format!("{word} {owed}"),
+            _ => word.into(),
+        }
+    }
+
+    /// Is some state on the way?
+    pub fn owes(&self) -> bool {
+        self.owed.iter().any(|owed| matches!(owed, Some(1..)))
     }
 
     /// The arrows of a picture: letters with the same two ends share one.
@@ -120,11 +146,31 @@ impl Table {
     }
 }
 
-fn target(card: &[u8], state: usize, letter: u8) -> Result<usize, u64> {
-    match proved::step(card, state, letter) {
-        Stepped::To { state } => Ok(state),
-        Stepped::Refused(number) => Err(number),
+/// A plan that leads to each state. States are numbered by first arrival, so the
+/// rows of moves meet a state's first move when those below it have their plans.
+fn arrivals(letters: &[u8], moves: &[Vec<usize>]) -> Vec<Vec<u8>> {
+    let mut plans = vec![Vec::new()];
+    for (state, row) in moves.iter().enumerate() {
+        for (&next, &letter) in row.iter().zip(letters) {
+            if next == plans.len() {
+                plans.push([&plans[state][..], &[letter]].concat());
+            }
+        }
     }
+    plans
+}
+
+/// The letters owed after each of these plans, none where it is hopeless.
+fn owed(card: &[u8], plans: &[Vec<u8>]) -> Result<Vec<Option<usize>>, u64> {
+    let lines: Vec<u8> = plans.iter().flat_map(|plan| [plan, &b"\n"[..]].concat()).collect();
+    let mut replies = vec![0; proved::REPLY * plans.len()];
+    let (_, replies) = proved::judge_lines(card, &lines, &mut replies)?;
+    let owed = |judged| match judged {
+        Judged::Allowed => Some(0),
+        Judged::Unfinished(owed) => Some(owed as usize),
+        _ => None,
+    };
+    Ok(replies.map(owed).collect())
 }
 
 /// The letters in a row, with spaces.
@@ -164,6 +210,15 @@ pub fn first() -> Table {
     Table::of(&FIRST_CARD).expect("it loads")
 }
 
+/// The card of `:ab`, `>a / .* _ .*b.*b.*`: two b behind every a.
+#[cfg(test)]
+pub const OWING_CARD: [u8; 23] = [0x0C, 0, 2, 0, 0x0E, 0, 3, 0, 0x11, 0, 6, 0, 0x61, 0x62, 1, 0, 0, 1, 0, 1, 2, 1, 0];
+
+#[cfg(test)]
+pub fn owing() -> Table {
+    Table::of(&OWING_CARD).expect("it loads")
+}
+
 /// The card without letters: one state with this mark.
 #[cfg(test)]
 pub fn without_letters(mark: u8) -> [u8; 13] {
@@ -180,8 +235,20 @@ mod tests {
         assert_eq!(table.letters, b"ab");
         assert_eq!(table.marks, [1, 1, 2]);
         assert_eq!(table.moves, [[1, 2], [1, 0], [2, 2]]);
+        assert_eq!(table.owed, [Some(0), Some(0), None]);
+        assert!(!table.owes() && [0, 1, 2].map(|state| table.mark(state)) == ["may end", "may end", "hopeless"]);
         assert_eq!(table.envelope(), "letters 2 (a b)\nstates  3\nbytes   23\n");
         assert_eq!(Table::of(b"x").err(), Some(21));
+    }
+
+    #[test]
+    fn a_card_that_owes_is_taken_apart() {
+        let table = owing();
+        assert_eq!(table.moves, [[1, 0], [1, 2], [1, 0]]);
+        assert_eq!(table.owed, [Some(0), Some(2), Some(1)]);
+        assert!(
+            table.owes() && [0, 1, 2].map(|state| table.mark(state)) == ["may end", "on the way 2", "on the way 1"]
+        );
     }
 
     #[test]

@@ -1,7 +1,7 @@
 //! `pier compare`: did a season change anything? It proposes no plan.
 
 use crate::arguments::Arguments;
-use crate::card::{self, Table};
+use crate::card;
 use crate::command::Command;
 use crate::plans::{self, Plans};
 use crate::proved::Judged;
@@ -32,8 +32,7 @@ pub fn run(arguments: &Arguments) -> Done {
     let mut cards = Vec::new();
     let mut text = String::new();
     for path in &arguments.files[..2] {
-        let bytes = card::bytes(path)?;
-        let table = Table::of(&bytes).map_err(|number| card::refused(path, &bytes, number))?;
+        let (bytes, table) = card::with_table(path)?;
         text += &format!(
             "{}: {}, {}, {}\n",
             files::shown(path),
@@ -134,6 +133,8 @@ mod tests {
         let foreign = |before| Judged::UnknownLetter { before };
         assert!(!push_change(&mut out, b"ab", foreign(0), foreign(1)));
         assert!(push_change(&mut out, b"", Judged::Allowed, Judged::Hopeless(0)));
-        assert_eq!(out, b"(empty)\tallowed -> hopeless 0\n");
+        assert!(!push_change(&mut out, b"a", Judged::Unfinished(1), Judged::Unfinished(1)));
+        assert!(push_change(&mut out, b"a", Judged::Unfinished(1), Judged::Unfinished(2)));
+        assert_eq!(out, b"(empty)\tallowed -> hopeless 0\na\tunfinished 1 -> unfinished 2\n");
     }
 }

@@ -9,13 +9,11 @@ pub fn text(table: &Table, caption: &str, all: bool) -> String {
     let mut text = format!("digraph card {{\n  rankdir=LR;\n  label=\"{caption}\";\n");
     text += "  node [fontname=\"sans-serif\"];\n  edge [fontname=\"sans-serif\"];\n";
     text += "  start [shape=point, style=invis];\n  start -> 0;\n";
-    for (state, &mark) in table.marks.iter().enumerate().filter(|&(state, _)| Some(state) != left_out) {
-        text += &match mark {
-            card::PLAN_MAY_END => format!("  {state} [shape=doublecircle];\n"),
-            card::HOPELESS => {
-                format!("  {state} [shape=box, style=filled, fillcolor=grey, label=\"{state} hopeless\"];\n")
-            }
-            _ => format!("  {state} [shape=circle];\n"),
+    for (state, &owed) in table.owed.iter().enumerate().filter(|&(state, _)| Some(state) != left_out) {
+        text += &match owed {
+            Some(0) => format!("  {state} [shape=doublecircle];\n"),
+            Some(owed) => format!("  {state} [shape=circle, label=\"{state}\\n+{owed}\"];\n"),
+            None => format!("  {state} [shape=box, style=filled, fillcolor=grey, label=\"{state} hopeless\"];\n"),
         };
     }
     for ((state, next), letters) in table.arrows() {
@@ -45,6 +43,18 @@ mod tests {
             "0 -> 2 [label=\"b\", color=grey60, fontcolor=grey40];",
             "1 -> 0 [label=\"b\"];",
             "2 -> 2 [label=\"a-b\"",
+        ] {
+            assert!(text.contains(part), "{part} in {text}");
+        }
+    }
+
+    #[test]
+    fn a_state_on_the_way_says_what_is_owed() {
+        let text = text(&card::owing(), "", false);
+        for part in [
+            "  0 [shape=doublecircle];",
+            "  1 [shape=circle, label=\"1\\n+2\"];",
+            "  2 [shape=circle, label=\"2\\n+1\"];",
         ] {
             assert!(text.contains(part), "{part} in {text}");
         }

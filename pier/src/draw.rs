@@ -17,7 +17,8 @@ Draws a card as a picture (FILE.svg), or writes the picture as text for Graphviz
 (FILE.dot, or - for standard output). No other ending is taken.
   arrow without a beginning   the start, state 0
   double ring                 the plan may end here
-  single ring                 on the way: allowed only if it goes on
+  single ring                 on the way: allowed only if it goes on; +K below
+                              the state's number: by K letters at least
   grey box                    hopeless: no continuation is allowed
 From 8 states on the hopeless state and its arrows are left out: a letter
 without an arrow leads there. Letters on an arrow that are neighbours in the
@@ -53,5 +54,6 @@ pub fn legend(table: &Table, all: bool) -> String {
         (_, None) => "; grey box: hopeless",
         _ => "; no arrow: hopeless",
     };
-    format!("Double ring: the plan may end; single ring: on the way{hopeless}")
+    let owed = if table.owes() { ", +K: K more letters at least" } else { "" };
+    format!("Double ring: the plan may end; single ring: on the way{owed}{hopeless}")
 }

@@ -17,14 +17,16 @@ pub const COMMAND: Command = Command {
 Judges plans, one a line, from the file PLANS or from standard input, and prints
 a reply for each:
   allowed       the book allows the plan
-  unfinished    not yet, but some longer plan that begins so is allowed
+  unfinished K  not yet; with K more letters it can be allowed, with fewer not
   hopeless K    no allowed plan begins with the first K letters
   refused 27    a letter that is not on the card
 An empty line is the empty plan. --explain sets a ! behind the first K letters
-of a hopeless plan, and a ? before a letter that is not on the card; behind the
-reply to a hopeless plan stands what pier stretch finds in it, or that there is
-no stretch: the plan lies inside some allowed plan, only not at its beginning.
+of a hopeless plan, and a ? before a letter that is not on the card. Behind the
+reply to an unfinished plan stands in words how much is owed; behind that to a
+hopeless plan stands what pier stretch finds in it, or that there is no stretch:
+the plan lies inside some allowed plan, only not at its beginning.
 From 10 plans on a last line, on standard error, counts the replies.
+Boards mounted before replies told what is owed print unfinished alone.
 ",
     run,
 };
@@ -67,17 +69,24 @@ fn answer(out: &mut Vec<u8>, bytes: &[u8], replies: Replies, tally: &mut Tally) 
     }
 }
 
-/// The same with each plan before its reply, and the letters to blame behind that
-/// of a hopeless one.
+/// The same with each plan before its reply; behind that of an unfinished one how
+/// much is owed, behind that of a hopeless one the letters to blame.
 fn explain(out: &mut Vec<u8>, card: &[u8], bytes: &[u8], replies: Replies, tally: &mut Tally) {
     for (plan, judged) in plans::lines(bytes).zip(replies) {
         note(tally, judged, || plan);
         reply::push_plan(out, plan, judged);
         out.push(b'\t');
         reply::push(out, judged);
-        if let Judged::Hopeless(_) = judged {
-            out.push(b'\t');
-            reply::push_blame(out, proved::shortest(card, plan));
+        match judged {
+            Judged::Unfinished(owed) => {
+                out.push(b'\t');
+                reply::push_owed(out, owed);
+            }
+            Judged::Hopeless(_) => {
+                out.push(b'\t');
+                reply::push_blame(out, proved::shortest(card, plan));
+            }
+            _ => {}
         }
         out.push(b'\n');
     }
@@ -87,7 +96,7 @@ fn explain(out: &mut Vec<u8>, card: &[u8], bytes: &[u8], replies: Replies, tally
 fn note<'a>(tally: &mut Tally, judged: Judged, plan: impl FnOnce() -> &'a [u8]) {
     match judged {
         Judged::Allowed => tally.note(Kind::Allowed),
-        Judged::Unfinished => tally.note(Kind::Unfinished),
+        Judged::Unfinished(_) => tally.note(Kind::Unfinished),
         Judged::Hopeless(_) => tally.note(Kind::Hopeless),
         Judged::UnknownLetter { before } => tally.note_foreign(before, plan),
         Judged::Refused(number) => tally.note_refused(number),

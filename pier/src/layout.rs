@@ -96,7 +96,7 @@ mod tests {
 
     #[test]
     fn a_card_that_allows_nothing_is_one_box() {
-        let table = Table { letters: b"a".to_vec(), marks: vec![2], moves: vec![vec![0]], bytes: 15 };
+        let table = Table { letters: b"a".to_vec(), marks: vec![2], moves: vec![vec![0]], owed: vec![None], bytes: 15 };
         let layout = Layout::of(&table, false);
         assert_eq!((layout.columns, layout.below), (vec![vec![0]], None));
     }

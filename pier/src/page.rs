@@ -78,12 +78,11 @@ fn rows(table: &Table) -> String {
     let heads: String = table.letters.iter().map(|&letter| format!("<th>{}</th>", letter as char)).collect();
     let mut text = format!("<tr><th>state</th><th class=\"mark\">mark</th>{heads}</tr>\n");
     for (state, row) in table.moves.iter().enumerate() {
-        let mark = table.marks[state];
-        let class = if mark == card::HOPELESS { " class=\"hopeless\"" } else { "" };
+        let class = if table.marks[state] == card::HOPELESS { " class=\"hopeless\"" } else { "" };
         let cells: String = row.iter().map(|next| format!("<td>{next}</td>")).collect();
         text += &format!(
             "<tr id=\"row{state}\"{class}><th>{state}</th><td class=\"mark\">{}</td>{cells}</tr>\n",
-            card::mark(mark)
+            table.mark(state)
         );
     }
     text
@@ -92,8 +91,9 @@ fn rows(table: &Table) -> String {
 /// The card for the page's script.
 fn data(table: &Table) -> String {
     let letters: String = table.letters.iter().map(|&letter| letter as char).collect();
+    let owed: Vec<usize> = table.owed.iter().map(|owed| owed.unwrap_or(0)).collect();
     format!(
-        "{{ letters: \"{letters}\", marks: {:?}, may_end: {}, hopeless: {}, moves: {:?} }}",
+        "{{ letters: \"{letters}\", marks: {:?}, may_end: {}, hopeless: {}, moves: {:?}, owed: {owed:?} }}",
         table.marks,
         card::PLAN_MAY_END,
         card::HOPELESS,
@@ -126,6 +126,18 @@ mod tests {
         assert!(page.contains("<dt>letters</dt><dd>2 (a b)</dd>"));
         for word in ["src=", "href=", "@import", "http-equiv=\"refresh\""] {
             assert!(!page.contains(word), "{word}");
+        }
+    }
+
+    #[test]
+    fn what_is_owed_is_on_the_page() {
+        let page = page(&card::owing(), "owing.card");
+        for part in [
+            "moves: [[1, 0], [1, 2], [1, 0]], owed: [0, 2, 1] }",
+            "<td class=\"mark\">on the way 2</td>",
+            "single ring: on the way, +K: K more letters at least. ",
+        ] {
+            assert!(page.contains(part), "{part}");
         }
     }
 

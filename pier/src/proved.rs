@@ -12,18 +12,12 @@ pub enum Loaded {
     Refused(u64),
 }
 
-/// What one step answers.
-#[derive(Clone, Copy, PartialEq, Eq, Debug)]
-pub enum Stepped {
-    To { state: usize },
-    Refused(u64),
-}
-
-/// What judging answers. `UnknownLetter` is refusal 27 with the letters before it.
+/// What judging answers. `Unfinished` has the fewest letters after which the plan
+/// is allowed; `UnknownLetter` is refusal 27 with the letters before it.
 #[derive(Clone, Copy, PartialEq, Eq, Debug)]
 pub enum Judged {
     Allowed,
-    Unfinished,
+    Unfinished(u64),
     Hopeless(u64),
     UnknownLetter { before: u64 },
     Refused(u64),
@@ -65,21 +59,13 @@ pub fn load(card: &[u8]) -> Loaded {
     }
 }
 
-pub fn step(card: &[u8], state: usize, letter: u8) -> Stepped {
-    let mut out = [0; 3];
-    match (entries::step(card, state, letter, &mut out), out) {
-        (0, [state, _marks, _]) => Stepped::To { state: state as usize },
-        (number, _) => Stepped::Refused(number),
-    }
-}
-
-/// A reply's numbers: refusal or 0, verdict, place.
+/// A reply's numbers: refusal or 0, verdict, the letters owed or a place.
 pub const REPLY: usize = 3;
 
 fn judged(reply: [u64; REPLY]) -> Judged {
     match reply {
         [0, 1, _] => Judged::Allowed,
-        [0, 0, _] => Judged::Unfinished,
+        [0, 0, owed] => Judged::Unfinished(owed),
         [0, _, place] => Judged::Hopeless(place),
         [27, _, before] => Judged::UnknownLetter { before },
         [number, ..] => Judged::Refused(number),
@@ -154,7 +140,6 @@ pub fn judge(card: &[u8], plan: &[u8]) -> Judged {
 mod entries {
     extern "C" {
         fn pier_load(card: *const u8, card_length: usize, out: &mut [u64; 3]) -> u64;
-        fn pier_step(card: *const u8, card_length: usize, state: usize, letter: u8, out: &mut [u64; 3]) -> u64;
         fn pier_judge_lines(
             card: *const u8,
             card_length: usize,
@@ -203,10 +188,6 @@ mod entries {
 
     pub fn load(card: &[u8], out: &mut [u64; 3]) -> u64 {
         unsafe { pier_load(card.as_ptr(), card.len(), out) }
-    }
-
-    pub fn step(card: &[u8], state: usize, letter: u8, out: &mut [u64; 3]) -> u64 {
-        unsafe { pier_step(card.as_ptr(), card.len(), state, letter, out) }
     }
 
     pub fn judge_lines(card: &[u8], plans: &[u8], replies: &mut [u64], out: &mut [u64; 3]) -> u64 {
@@ -290,13 +271,6 @@ mod entries {
         }
     }
 
-    pub fn step(card: &[u8], state: usize, letter: u8, out: &mut [u64; 3]) -> u64 {
-        match board::step(card, state, letter) {
-            Ok((state, marks)) => put(out, 0, [state as u64, marks.into(), 0]),
-            Err(number) => put(out, number.into(), [0; 3]),
-        }
-    }
-
     pub fn judge_lines(card: &[u8], plans: &[u8], replies: &mut [u64], out: &mut [u64; 3]) -> u64 {
         if let Err(number) = board::load(card) {
             return put(out, number.into(), [0; 3]);
@@ -305,7 +279,7 @@ mod entries {
         for (line, reply) in plans.split_inclusive(|&byte| byte == b'\n').zip(replies.chunks_exact_mut(super::REPLY)) {
             reply.copy_from_slice(&match board::judge(card, line.strip_suffix(b"\n").unwrap_or(line)) {
                 Ok(Verdict::Allowed) => [0, 1, 0],
-                Ok(Verdict::Unfinished) => [0, 0, 0],
+                Ok(Verdict::Unfinished(owed)) => [0, 0, owed as u64],
                 Ok(Verdict::Hopeless(place)) => [0, 2, place as u64],
                 Err(Refused::Card(number)) => [number.into(), 0, 0],
                 Err(Refused::ForeignLetter { before }) => [27, 0, before as u64],

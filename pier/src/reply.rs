@@ -1,11 +1,11 @@
 //! The replies in words, and what explains them.
 
 use crate::proved::{Judged, Shortest};
+use crate::words::count;
 
 const ALLOWED_LINE: &str = "allowed\n";
-const UNFINISHED_LINE: &str = "unfinished\n";
 pub const ALLOWED: &str = ALLOWED_LINE.trim_ascii_end();
-pub const UNFINISHED: &str = UNFINISHED_LINE.trim_ascii_end();
+pub const UNFINISHED: &str = "unfinished";
 pub const HOPELESS: &str = "hopeless";
 pub const REFUSED: &str = "refused";
 pub const NONE: &str = "none";
@@ -21,7 +21,7 @@ const FOREIGN_LETTER: u64 = 27;
 pub fn push(out: &mut Vec<u8>, judged: Judged) {
     let (word, number) = match judged {
         Judged::Allowed => (ALLOWED, None),
-        Judged::Unfinished => (UNFINISHED, None),
+        Judged::Unfinished(owed) => (UNFINISHED, Some(owed)),
         Judged::Hopeless(place) => (HOPELESS, Some(place)),
         Judged::UnknownLetter { .. } => (REFUSED, Some(FOREIGN_LETTER)),
         Judged::Refused(number) => (REFUSED, Some(number)),
@@ -34,17 +34,21 @@ pub fn push(out: &mut Vec<u8>, judged: Judged) {
     }
 }
 
-/// The same with a line end; of a million replies most are one of two lines.
+/// The same with a line end; of a million replies most are this one.
 #[inline]
 pub fn push_line(out: &mut Vec<u8>, judged: Judged) {
     match judged {
         Judged::Allowed => out.extend_from_slice(ALLOWED_LINE.as_bytes()),
-        Judged::Unfinished => out.extend_from_slice(UNFINISHED_LINE.as_bytes()),
         _ => {
             push(out, judged);
             out.push(b'\n');
         }
     }
+}
+
+/// What is owed, in words, behind the reply to an unfinished plan.
+pub fn push_owed(out: &mut Vec<u8>, owed: u64) {
+    out.extend_from_slice(format!("at least {}", count(owed as usize, "more letter")).as_bytes());
 }
 
 /// The shortest stretch in words.
@@ -110,16 +114,39 @@ pub fn shown(plan: &[u8]) -> &[u8] {
 #[cfg(test)]
 mod tests {
     use super::*;
-    use crate::card::FIRST_CARD;
+    use crate::card::{FIRST_CARD, OWING_CARD};
     use crate::proved;
 
-    fn explained(plan: &[u8]) -> String {
-        let judged = proved::judge(&FIRST_CARD, plan);
+    fn explained_by(card: &[u8], plan: &[u8]) -> String {
+        let judged = proved::judge(card, plan);
         let mut out = Vec::new();
         push_plan(&mut out, plan, judged);
         out.push(b'\t');
         push(&mut out, judged);
         String::from_utf8(out).unwrap()
+    }
+
+    fn explained(plan: &[u8]) -> String {
+        explained_by(&FIRST_CARD, plan)
+    }
+
+    #[test]
+    fn replies_of_a_card_that_owes() {
+        assert_eq!(explained_by(&OWING_CARD, b"a"), "a\tunfinished 2");
+        assert_eq!(explained_by(&OWING_CARD, b"ab"), "ab\tunfinished 1");
+        assert_eq!(explained_by(&OWING_CARD, b"abb"), "abb\tallowed");
+        let mut out = Vec::new();
+        push_line(&mut out, Judged::Unfinished(119));
+        assert_eq!(out, b"unfinished 119\n");
+    }
+
+    #[test]
+    fn what_is_owed_in_words() {
+        for (owed, words) in [(1, "at least 1 more letter"), (2, "at least 2 more letters")] {
+            let mut out = Vec::new();
+            push_owed(&mut out, owed);
+            assert_eq!(out, words.as_bytes());
+        }
     }
 
     #[test]

@@ -172,7 +172,8 @@ mod tests {
     #[test]
     fn states_stand_apart_and_every_arrow_has_a_way() {
         let moves = (0..7).map(|state| vec![(state + 1) % 7, 0]).collect();
-        let table = Table { letters: b"ab".to_vec(), marks: vec![1, 0, 0, 0, 0, 0, 0], moves, bytes: 0 };
+        let owed = (0..7).map(|state| Some(usize::from(state > 0))).collect();
+        let table = Table { letters: b"ab".to_vec(), marks: vec![1, 0, 0, 0, 0, 0, 0], moves, owed, bytes: 0 };
         let picture = picture(&Layout::of(&table, false));
         assert_eq!(picture.arrows.len(), table.arrows().len());
         let places: Vec<Point> = picture.states.values().copied().collect();

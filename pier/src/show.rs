@@ -1,7 +1,7 @@
 //! `pier show`: a card's envelope and its table of moves.
 
 use crate::arguments::Arguments;
-use crate::card::{self, Table};
+use crate::card::Table;
 use crate::command::Command;
 use crate::{files, Done, Status};
 
@@ -14,9 +14,9 @@ pub const COMMAND: Command = Command {
     more: "\
 Prints a card's envelope and its table: a line for each state, with what its
 mark means and the next state for each letter. A plan starts in state 0.
-  may end     the plan so far is allowed
-  on the way  not allowed yet, but some continuation is
-  hopeless    no continuation is allowed
+  may end       the plan so far is allowed
+  on the way K  not yet; with K more letters it can be allowed, with fewer not
+  hopeless      no continuation is allowed
 ",
     run,
 };
@@ -26,24 +26,30 @@ pub fn run(arguments: &Arguments) -> Done {
     files::print(text(&table).as_bytes()).map(|()| Status::Fine)
 }
 
+/// The least width of the marks.
+const WIDTH: usize = 10;
+
 fn text(table: &Table) -> String {
+    let marks: Vec<String> = (0..table.marks.len()).map(|state| table.mark(state)).collect();
+    let width = marks.iter().map(String::len).fold(WIDTH, usize::max);
     let letters = table.letters.iter().map(|&letter| format!(" {:>3}", letter as char));
-    let mut text = table.envelope() + "\n" + &line("state", "mark", letters);
+    let mut text = table.envelope() + "\n" + &line("state", "mark", width, letters);
     for (state, row) in table.moves.iter().enumerate() {
         let row = row.iter().map(|next| format!(" {next:>3}"));
-        text += &line(&state.to_string(), card::mark(table.marks[state]), row);
+        text += &line(&state.to_string(), &marks[state], width, row);
     }
     text
 }
 
 /// A line of the table; without letters it ends with the mark.
-fn line(state: &str, mark: &str, cells: impl Iterator<Item = String>) -> String {
-    format!("{state:>5} {mark:<10}{}", cells.collect::<String>()).trim_end().to_string() + "\n"
+fn line(state: &str, mark: &str, width: usize, cells: impl Iterator<Item = String>) -> String {
+    format!("{state:>5} {mark:<width$}{}", cells.collect::<String>()).trim_end().to_string() + "\n"
 }
 
 #[cfg(test)]
 mod tests {
     use super::*;
+    use crate::card;
 
     #[test]
     fn the_first_paper_card() {
@@ -59,6 +65,21 @@ state mark         a   b
     2 hopeless     2   2
 ";
         assert_eq!(text(&table), expected);
+    }
+
+    #[test]
+    fn a_card_that_owes() {
+        let expected = "\
+letters 2 (a b)
+states  3
+bytes   23
+
+state mark           a   b
+    0 may end        1   0
+    1 on the way 2   1   2
+    2 on the way 1   1   0
+";
+        assert_eq!(text(&card::owing()), expected);
     }
 
     #[test]

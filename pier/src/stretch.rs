@@ -53,7 +53,7 @@ pub fn run(arguments: &Arguments) -> Done {
 /// the others are searched, with a test of the card each.
 fn shortest(card: &[u8], plan: &[u8], judged: Judged) -> Shortest {
     match judged {
-        Judged::Allowed | Judged::Unfinished => Shortest::None,
+        Judged::Allowed | Judged::Unfinished(_) => Shortest::None,
         _ => proved::shortest(card, plan),
     }
 }

@@ -10,6 +10,7 @@ text{font:13px sans-serif;fill:#222}\
 .state circle{fill:#fff;stroke:#222;stroke-width:1.4}\
 .state rect{fill:#ccc;stroke:#888}\
 .state text{text-anchor:middle}\
+.state .owed{font-size:11px}\
 .arrow{fill:none;stroke:#222;stroke-width:1.2;marker-end:url(#head)}\
 .label{fill:#05386b;paint-order:stroke;stroke:#fff;stroke-width:4px}\
 .mid{text-anchor:middle}\
@@ -71,7 +72,7 @@ fn body(table: &Table, picture: &Picture) -> String {
         if state == 0 {
             text += &format!("<path class=\"arrow\" d=\"M{:.1},{y:.1} H{:.1}\"/>\n", x - RADIUS - 36.0, x - RADIUS);
         }
-        text += &node(table.marks[state], state, x, y);
+        text += &node(table, state, x, y);
     }
     if let (Some((left, top, width)), Some(state)) = (picture.bar, table.hopeless()) {
         text += &format!(
@@ -85,27 +86,27 @@ fn body(table: &Table, picture: &Picture) -> String {
     text
 }
 
-fn node(mark: u8, state: usize, x: f64, y: f64) -> String {
-    let shape = match mark {
-        card::HOPELESS => format!(
-            "<rect x=\"{:.1}\" y=\"{:.1}\" width=\"{}\" height=\"{}\"/>",
+fn node(table: &Table, state: usize, x: f64, y: f64) -> String {
+    let circle = |radius: f64| format!("<circle cx=\"{x:.1}\" cy=\"{y:.1}\" r=\"{radius}\"/>");
+    let sign = |down: f64| format!("<text x=\"{x:.1}\" y=\"{:.1}\">{state}</text>", y + down);
+    let shape = match table.owed[state] {
+        Some(0) => circle(RADIUS) + &circle(RADIUS - 4.0) + &sign(4.5),
+        Some(owed) => format!(
+            "{}{}<text class=\"owed\" x=\"{x:.1}\" y=\"{:.1}\">+{owed}</text>",
+            circle(RADIUS),
+            sign(0.0),
+            y + 12.0
+        ),
+        None => format!(
+            "<rect x=\"{:.1}\" y=\"{:.1}\" width=\"{}\" height=\"{}\"/>{}",
             x - RADIUS,
             y - RADIUS,
             2.0 * RADIUS,
-            2.0 * RADIUS
+            2.0 * RADIUS,
+            sign(4.5)
         ),
-        card::PLAN_MAY_END => format!(
-            "<circle cx=\"{x:.1}\" cy=\"{y:.1}\" r=\"{RADIUS}\"/><circle cx=\"{x:.1}\" cy=\"{y:.1}\" r=\"{}\"/>",
-            RADIUS - 4.0
-        ),
-        _ => format!("<circle cx=\"{x:.1}\" cy=\"{y:.1}\" r=\"{RADIUS}\"/>"),
     };
-    format!(
-        "<g class=\"state\" id=\"state{state}\"><title>state {state}: {}</title>{shape}\
-         <text x=\"{x:.1}\" y=\"{:.1}\">{state}</text></g>\n",
-        card::mark(mark),
-        y + 4.5
-    )
+    format!("<g class=\"state\" id=\"state{state}\"><title>state {state}: {}</title>{shape}</g>\n", table.mark(state))
 }
 
 /// A text between tags.
@@ -134,6 +135,14 @@ mod tests {
             assert!(text.contains(part), "{part} in {text}");
         }
         assert_eq!(text.matches("<path class=\"arrow\"").count(), 1 + table.arrows().len());
+    }
+
+    #[test]
+    fn a_state_on_the_way_says_what_is_owed() {
+        let text = text(&card::owing(), "", false);
+        for part in ["<title>state 1: on the way 2<", ">+2</text>", "<title>state 2: on the way 1<", ">+1</text>"] {
+            assert_eq!(text.matches(part).count(), 1, "{part} in {text}");
+        }
     }
 
     #[test]

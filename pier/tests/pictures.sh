@@ -1,9 +1,10 @@
-# Pictures, and the page in a real browser.
+# Pictures; the page's script, and the page in a real browser.
 
 pier compile ramp.book -o ramp.card >/dev/null
 pier compile pilots.book -o pilots.card >/dev/null
 pier compile hazard.book -o hazard.card >/dev/null
 pier compile islet.book -o islet.card >/dev/null 2>&1
+pier compile night.book -o night.card >/dev/null
 mkdir none && ln -s "$pier" none/pier
 check "drawn without any other program" "wrote ramp.svg" "$(PATH=$PWD/none pier draw ramp.card -o ramp.svg 2>&1)"
 check "a picture" "<svg xmlns=" "$(head -c 11 ramp.svg)"
@@ -22,7 +23,21 @@ pier page ramp.card -o ramp.html >/dev/null
 pier page pilots.card -o pilots.html >/dev/null
 pier page hazard.card -o hazard.html >/dev/null
 pier page islet.card -o islet.html >/dev/null
+pier page night.card -o night.html >/dev/null
 check "the page loads nothing" 0 "$(grep -v 'xmlns=' ramp.html | grep -c -E 'https?:|src=|href=|@import')"
+if command -v node >/dev/null; then
+    for name in ramp pilots hazard islet night; do
+        {
+            sed -n '/^<script>/,/^function show/p' $name.html | sed '1d; $d'
+            echo 'for (const plan of ['
+            sed 's/.*/"&",/' $name.plans
+            echo ']) console.log(judge(plan).reply);'
+        } >judge.js
+        check "the script of $name.html" "$(pier judge $name.card $name.plans 2>/dev/null)" "$(node judge.js 2>&1)"
+    done
+else
+    left_out "the page's script by itself: node is not installed"
+fi
 browser=$(command -v chromium || command -v chromium-browser || command -v google-chrome || command -v headless_shell || true)
 if [ -z "$browser" ]; then
     left_out "the page in a browser: none is installed (chromium)"
@@ -31,7 +46,7 @@ else
     seen() { timeout 120 "$browser" --headless --no-sandbox --disable-gpu --user-data-dir="$PWD/profile" --dump-dom "file://$PWD/$1" 2>/dev/null; }
     has "the picture in a browser" 'id="state0"' "$(seen ramp.svg)"
     check "which finds no fault" 0 "$(seen all.svg | grep -c parsererror)"
-    for name in ramp pilots hazard islet; do
+    for name in ramp pilots hazard islet night; do
         # The plans are typed into the box one by one.
         {
             cat $name.html
@@ -43,6 +58,7 @@ else
         check "$name.html in a browser" "$(pier judge $name.card $name.plans 2>/dev/null)" \
             "$(seen typed.html | sed -n '/<pre id="replies">/,/<\/pre>/p' | sed 's/.*<pre id="replies">//; s/<\/pre>.*//' | sed '/^$/d')"
     done
+    has "what is owed" '<output id="reply" for="plan" class="open">unfinished 3</output>' "$(seen 'night.html#a')"
     seen 'ramp.html#dlcu' >dom
     has "a plan behind #" '<output id="reply" for="plan" class="bad">hopeless 3</output>' "$(cat dom)"
     has "letter by letter" '<span>d<small>2</small></span><span>l<small>3</small></span><span class="bad">c<small>1</small></span>' "$(cat dom)"

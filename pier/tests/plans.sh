@@ -33,7 +33,7 @@ for number in 9 10; do
 done
 long=$(yes cwcwcw | head -n 900000 | tr -d '\n')
 printf 'du\nd%su\nd' "$long" | pier judge ramp.card >replies
-check "a plan longer than a piece" "allowed allowed unfinished" "$(tr '\n' ' ' <replies | sed 's/ $//')"
+check "a plan longer than a piece" "allowed allowed unfinished 1" "$(tr '\n' ' ' <replies | sed 's/ $//')"
 yes '' | head -n 600000 | pier judge ramp.card 2>/dev/null | sort | uniq -c | sed 's/^ *//' >counted
 check "more plans than a call takes" "600000 allowed" "$(cat counted)"
 

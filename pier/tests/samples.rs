@@ -1,6 +1,7 @@
 //! The samples' expected replies once more, from what the books mean: allowed by
-//! trying every cut of the plan, hopeless by derivatives, the shortest stretch by
-//! trying every stretch from every derivative. No stage and no card is made here.
+//! trying every cut of the plan, what is owed by trying every continuation,
+//! shorter ones first, hopeless by derivatives, the shortest stretch by trying
+//! every stretch from every derivative. No stage and no card is made here.
 
 #![cfg(feature = "reference")]
 
@@ -26,9 +27,24 @@ fn reply(book: &Book, machine: &Machine, plan: &[u8]) -> String {
             assert!(!pieces::allows(book, plan));
             format!("hopeless {place}")
         }
-        None if pieces::allows(book, plan) => "allowed".into(),
-        None => "unfinished".into(),
+        None => match owed(book, plan) {
+            0 => "allowed".into(),
+            owed => format!("unfinished {owed}"),
+        },
     }
+}
+
+/// The fewest letters after which a plan that is not hopeless is allowed.
+fn owed(book: &Book, plan: &[u8]) -> usize {
+    let mut plans = vec![plan.to_vec()];
+    for letters in 0.. {
+        if plans.iter().any(|plan| pieces::allows(book, plan)) {
+            return letters;
+        }
+        let longer = |plan: &Vec<u8>| book.alphabet.iter().map(|&letter| [&plan[..], &[letter]].concat()).collect();
+        plans = plans.iter().flat_map::<Vec<_>, _>(longer).collect();
+    }
+    unreachable!("some continuation is allowed")
 }
 
 fn stretch(book: &Book, machine: &Machine, plan: &[u8]) -> String {
@@ -49,7 +65,7 @@ fn stretch(book: &Book, machine: &Machine, plan: &[u8]) -> String {
 #[test]
 fn expected_replies_are_what_the_books_mean() {
     let folder = Path::new(env!("CARGO_MANIFEST_DIR")).join("../samples");
-    let (mut books, mut with_stretches) = (0, 0);
+    let (mut books, mut with_stretches, mut owing) = (0, 0, 0);
     for entry in fs::read_dir(&folder).expect("the samples") {
         let path = entry.expect("a file").path();
         if !path.extension().is_some_and(|found| found == "book") {
@@ -67,11 +83,13 @@ fn expected_replies_are_what_the_books_mean() {
                 assert_eq!(found, expected, "{} {}", path.display(), String::from_utf8_lossy(plan));
             }
         };
-        compare(fs::read_to_string(path.with_extension("expected")).expect("its replies"), reply);
+        let replies = fs::read_to_string(path.with_extension("expected")).expect("its replies");
+        owing += replies.lines().filter(|line| ["unfinished 2", "unfinished 3"].contains(line)).count();
+        compare(replies, reply);
         if let Ok(stretches) = fs::read_to_string(path.with_extension("stretches")) {
             with_stretches += 1;
             compare(stretches, stretch);
         }
     }
-    assert!(books >= 6 && with_stretches >= 3);
+    assert!(books >= 6 && with_stretches >= 3 && owing >= 3);
 }

@@ -81,7 +81,7 @@ for book in *.book; do
     sed -n 's/^stretch [0-9]*/stretch 0/p' found | sed 'a none\nnone' >expected
     check "the stretches of $name cut out" "$(cat expected)" "$(cat cut)"
     pier judge "$name.card" "$name.plans" --explain 2>/dev/null | cut -f 2- \
-        | sed -E 's/^(allowed|unfinished)$/none/; s/^hopeless [0-9]+\t//; s/^no stretch: .*/none/' >explained
+        | sed -E 's/^(allowed|unfinished [0-9]+\t.*)$/none/; s/^hopeless [0-9]+\t//; s/^no stretch: .*/none/' >explained
     check "judge --explain on $name" "$(cat found)" "$(cat explained)"
     check "its replies" "$(pier judge "$name.card" "$name.plans" 2>/dev/null)" \
         "$(pier judge "$name.card" "$name.plans" --explain 2>/dev/null | cut -f 2)"
