@@ -43,18 +43,22 @@ module _ (fmt : Format) (c : List ℕ) (z : loadTest fmt c ≡ 0) where
   inside plan o = rw (along plan o, ← size-is fmt c (d .contents)) (run-inside (letterCount fmt c) M (loaded-formed fmt c d) 0 (columns ls plan)
       (rw (size-is fmt c (d .contents)) (d .contents .states-some)) (rw (← letters-length fmt c (d .contents)) o))
 
+  -- a state whose marks byte is 0 does not accept
+  waits : (q : ℕ) → q < stateCount fmt c → markAt fmt c q ≡ 0 → automaton M .accepting q ≡ false
+  waits q h e = go (markAt fmt c q) e (d .marked q h)
+    where
+      go : (v : ℕ) → v ≡ 0 → Mark (letterCount fmt c) M q v → automaton M .accepting q ≡ false
+      go v y (is-accepting a) = absurd (omega arith)
+      go v y (is-dead a) = absurd (omega arith)
+      go v y (is-live a w x t) = a
+
   -- UNFINISHED where the last state's marks byte is 0, with the number of that state.
   pub owed-says : (plan : List ℕ) → Known ls plan → markAt fmt c (stateAfter fmt c plan 0) ≡ 0 → Says (cardAllows fmt c) plan (unfinished (owed fmt c (stateAfter fmt c plan 0)))
-  owed-says plan o e = owing-says fmt ls M (loaded-card fmt c d) plan o (live (markAt fmt c q) e (d .marked q (inside plan o))) (owed fmt c q)
+  owed-says plan o e = owing-says fmt ls M (loaded-card fmt c d) plan o (rw (← along plan o) (waits q (inside plan o) e)) (owed fmt c q)
       (rw (← along plan o, letters-length fmt c (d .contents)) (owed-fewest fmt c d q (inside plan o) e))
     where
       q : ℕ
       q = stateAfter fmt c plan 0
-
-      live : (v : ℕ) → v ≡ 0 → Mark (letterCount fmt c) M q v → automaton M .accepting (run (automaton M) 0 (columns ls plan)) ≡ false
-      live v y (is-accepting a) = absurd (omega arith)
-      live v y (is-dead a) = absurd (omega arith)
-      live v y (is-live a w x t) = rw (← along plan o) a
 
   -- No other state is the last one of an unfinished plan.
   owed-mark : (plan : List ℕ) → Known ls plan → (k : ℕ) → Says (cardAllows fmt c) plan (unfinished k) → markAt fmt c (stateAfter fmt c plan 0) ≡ 0
@@ -77,6 +81,7 @@ module _ (fmt : Format) (c : List ℕ) (z : loadTest fmt c ≡ 0) where
   after-letter [] l p = refl
   after-letter (x ∷ u) l p = after-letter u l (moveAt fmt c p (column ls x))
 
+  -- What a step owes is what judging the letters up to it does.
   step-owes : (u : List ℕ) (l q k : ℕ) → Known ls (u ++ (l ∷ [])) → stepOn fmt c (stateAfter fmt c u 0) l ≡ owing q k → judge fmt c (u ++ (l ∷ [])) ≡ answered (unfinished k)
   step-owes u l q k o e = go (stepOn fmt c p l) e (steps fmt c p l)
     where
@@ -124,11 +129,6 @@ module _ (fmt : Format) (c : List ℕ) (z : loadTest fmt c ≡ 0) where
   pub step-some : (p l q k : ℕ) → stepOn fmt c p l ≡ owing q k → 1 ≤ k
   step-some p l q k e = go (stepOn fmt c p l) e (steps fmt c p l)
     where
-      live : (q v : ℕ) → v ≡ 0 → Mark (letterCount fmt c) M q v → automaton M .accepting q ≡ false
-      live q v y (is-accepting a) = absurd (omega arith)
-      live q v y (is-dead a) = absurd (omega arith)
-      live q v y (is-live a w x t) = a
-
       go : (s : Stepped) → s ≡ owing q k → Steps fmt c p l s → 1 ≤ k
       go s e (step-no-card r n t) = absurd (n (sym (tested-only fmt c r t) ∙ z))
       go s e (step-unknown y f) = absurd (let w : _≡_ {A = ℕ} 0 1 = cc e in omega arith)
@@ -137,4 +137,4 @@ module _ (fmt : Format) (c : List ℕ) (z : loadTest fmt c ≡ 0) where
       go s e (step-owing y i x h m j f) =
           let n : ℕ = moveAt fmt c p i in
           let same : j ≡ k = cc e in
-          rw (← same) (fewest-some (letterCount fmt c) M n j f (live n (markAt fmt c n) m (d .marked n (d .inside p i h (x .on)))))
+          rw (← same) (fewest-some (letterCount fmt c) M n j f (waits n (d .inside p i h (x .on)) m))

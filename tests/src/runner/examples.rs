@@ -358,7 +358,7 @@ pub fn owing() -> Vec<Example> {
             .verdict("aaaaaa", Unfinished(1))
             .verdict("aaaaaaa", Allowed)
             .verdict("aaaaaaaa", Unfinished(6)),
-        accepted("two rules that want letters", ":abc\n>a / .* _ .*b.* \n>b / .* _ .*cc\n")
+        accepted("two rules that want letters", ":abc\n>a / .* _ .*b.*\n>b / .* _ .*cc\n")
             .verdict("c", Allowed)
             .verdict("a", Unfinished(3))
             .verdict("ab", Unfinished(2))
