@@ -76,9 +76,15 @@ slashKind = 19
 abbrev pub underscoreKind : ℕ
 underscoreKind = 20
 
--- the signs, the space and the line end:  . @ ( ! * + ? & - | ) space line-end : = > / _
+abbrev pub lessKind : ℕ
+lessKind = 21
+
+abbrev pub caretKind : ℕ
+caretKind = 22
+
+-- the signs, the space and the line end:  . @ ( ! * + ? & - | ) space line-end : = > / _ < ^
 abbrev pub signs : List ℕ
-signs = 46 ∷ 64 ∷ 40 ∷ 33 ∷ 42 ∷ 43 ∷ 63 ∷ 38 ∷ 45 ∷ 124 ∷ 41 ∷ 32 ∷ 10 ∷ 58 ∷ 61 ∷ 62 ∷ 47 ∷ 95 ∷ []
+signs = 46 ∷ 64 ∷ 40 ∷ 33 ∷ 42 ∷ 43 ∷ 63 ∷ 38 ∷ 45 ∷ 124 ∷ 41 ∷ 32 ∷ 10 ∷ 58 ∷ 61 ∷ 62 ∷ 47 ∷ 95 ∷ 60 ∷ 94 ∷ []
 
 abbrev pub signKind : ℕ → List ℕ → ℕ → ℕ
 signKind b [] k = strayKind

@@ -9,7 +9,6 @@ use lib.Dec.{eqb, ltb}
 use Rattle.automata.specs.Booleans.{choose, bool-cases}
 use Rattle.automata.specs.Basics.{LtCases, lt-cases, nat-test}
 use Rattle.automata.specs.Decide.{contradict}
-use Rattle.language.specs.Restriction.{restricts}
 use Rattle.language.specs.Expression.{member}
 use Rattle.language.specs.Environment.{known, allKnown}
 use Rattle.book.specs.Kind.{kindOf, openKind, closeKind, underscoreKind}
@@ -112,15 +111,15 @@ module _ (ls names : List ℕ) (l : Line) where
       go (inr k) m = rw k (undefined-symbol C t (define x e) f (λ y. contradict y k))
       go (inl k) (inl m) = rw (k, m) (duplicate-name C t (define x e) f k (λ y. contradict m y))
       go (inl k) (inr m) = rw (k, m) (says C t (define x e) f k m)
-  checked C t (rule restricts p cs) q = go (bool-cases (known ls names p && allKnown ls names cs))
+  checked C t (rule kind p cs) q = go (bool-cases (known ls names p && allKnown ls names cs))
     where
-      f : LineForm (squeezed (l .bytes)) (rule restricts p cs)
-      f = rule-exact (l .bytes) p cs .0 q
+      f : LineForm (squeezed (l .bytes)) (rule kind p cs)
+      f = rule-exact (l .bytes) kind p cs .0 q
 
       go : (known ls names p && allKnown ls names cs ≡ true) ⊎ (known ls names p && allKnown ls names cs ≡ false)
-          → LineSays ls names l (unless (known ls names p && allKnown ls names cs) (λ _. stops 6) λ _. reads (rule restricts p cs))
-      go (inr k) = rw k (undefined-symbol C t (rule restricts p cs) f (λ y. contradict y k))
-      go (inl k) = rw k (says C t (rule restricts p cs) f k tt)
+          → LineSays ls names l (unless (known ls names p && allKnown ls names cs) (λ _. stops 6) λ _. reads (rule kind p cs))
+      go (inr k) = rw k (undefined-symbol C t (rule kind p cs) f (λ y. contradict y k))
+      go (inl k) = rw k (says C t (rule kind p cs) f k tt)
 
   -- THE LINE is read as the table says,
   pub line-says : LineSays ls names l (readLine ls names l)

@@ -3,7 +3,8 @@
 use Prim.Native.Nat.{ℕ}
 use mathlib.Core.List.{List, [], _∷_, _++_}
 use Rattle.automata.specs.Stages.{Pairing, either, both, without}
-use Rattle.language.specs.Restriction.{RuleKind, restricts}
+use Rattle.language.specs.Restriction.{RuleKind, restricts, forbids, obliges}
+use Rattle.language.specs.Evaluate.{patternOf}
 use Rattle.language.specs.Expression.{Expr, letter, name, dot, empty, pair, join, star, plus, option, complement}
 use Rattle.book.specs.Text.{Form, define, rule, malformed}
 
@@ -80,26 +81,35 @@ postfix (plus e) = postfix e ++ (plusCode ∷ [])
 postfix (option e) = postfix e ++ (optionCode ∷ [])
 postfix (complement e) = postfix e ++ (complementCode ∷ [])
 
--- "X = `.*` M p M `.*`, joined left to right", with p on the stack
+-- "X = `.*` M p M `.*`, joined left to right", with p in its register
 abbrev pub patternProgram : List ℕ
-patternProgram =
-    storePatternCode ∷ allCode ∷ markCode ∷ joinCode ∷ patternCode ∷ joinCode ∷ markCode ∷ joinCode ∷ allCode ∷ joinCode ∷ []
+patternProgram = allCode ∷ markCode ∷ joinCode ∷ patternCode ∷ joinCode ∷ markCode ∷ joinCode ∷ allCode ∷ joinCode ∷ []
 
--- "then l M p M r joined left to right, then X becomes X minus it", with X, l, r on the stack
+-- "then l M p M r joined left to right", with l, r on the stack
 abbrev pub contextProgram : List ℕ
-contextProgram =
-    storeRightCode ∷ markCode ∷ joinCode ∷ patternCode ∷ joinCode ∷ markCode ∷ joinCode ∷ rightCode ∷ joinCode ∷ withoutCode ∷ []
+contextProgram = storeRightCode ∷ markCode ∷ joinCode ∷ patternCode ∷ joinCode ∷ markCode ∷ joinCode ∷ rightCode ∷ joinCode ∷ []
 
 -- "then E = erase X; then `.*-E`", which is `!E`; "met by `&` with each rule"
 abbrev pub finishProgram : List ℕ
 finishProgram = eraseCode ∷ complementCode ∷ meetCode ∷ []
 
-abbrev pub contextsProgram : List (Expr × Expr) → List ℕ
-contextsProgram [] = finishProgram
-contextsProgram (c ∷ cs) = postfix (c .0) ++ (postfix (c .1) ++ (contextProgram ++ contextsProgram cs))
+-- "then X becomes X minus it", or "`|` of those so far with it", with X on the stack
+abbrev pub contextsProgram : Pairing → List (Expr × Expr) → List ℕ
+contextsProgram o [] = finishProgram
+contextsProgram o (c ∷ cs) = postfix (c .0) ++ (postfix (c .1) ++ (contextProgram ++ (pairCode o ∷ contextsProgram o cs)))
+
+-- the first context of `<` and `^` is met by no other
+abbrev pub unionProgram : List (Expr × Expr) → List ℕ
+unionProgram [] = finishProgram
+unionProgram (c ∷ cs) = postfix (c .0) ++ (postfix (c .1) ++ (contextProgram ++ contextsProgram either cs))
+
+abbrev pub setProgram : RuleKind → List (Expr × Expr) → List ℕ
+setProgram restricts cs = patternProgram ++ contextsProgram without cs
+setProgram forbids cs = unionProgram cs
+setProgram obliges cs = unionProgram cs
 
 -- the code of a line
 abbrev pub program : Form → List ℕ
 program (define x e) = postfix e
-program (rule restricts p cs) = postfix p ++ (patternProgram ++ contextsProgram cs)
+program (rule kind p cs) = postfix (patternOf kind p) ++ (storePatternCode ∷ setProgram kind cs)
 program malformed = []

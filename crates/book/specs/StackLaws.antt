@@ -11,14 +11,15 @@ use lib.Dec.{eqb, leb, ltb}
 use Rattle.automata.specs.Booleans.{choose}
 use Rattle.automata.specs.Basics.{LtCases, lt-cases, SameCases, same-cases, nat-test}
 use Rattle.automata.specs.Stages.{Pairing, either, both, without}
-use Rattle.language.specs.Restriction.{restricts}
+use Rattle.language.specs.Restriction.{RuleKind, restricts, forbids, obliges, Some, Enough}
+use Rattle.language.specs.Evaluate.{patternOf}
 use Rattle.language.specs.Expression.{Expr, star, plus, pair, empty, join, option, complement, letter, name, dot}
 use Rattle.book.specs.Kind.{kindOf, isLetter, isName, letterKind, atKind, openKind, bangKind, plusKind, questionKind, ampersandKind, barKind, closeKind, spaceKind, underscoreKind, nameKind, dotKind}
 use Rattle.book.specs.Reader.{got, readChoice}
 use Rattle.book.specs.Grammar.{Choice, one-blend, or, Blend, one-chain, and, minus, Chain, one-item, follow, Item, negated, followed, Followed, one-atom, by-star, by-plus, by-option, Atom, a-letter, a-name, a-dot, an-at, bracket, reader-sound}
 use Rattle.book.specs.Text.{Line, tooDeep, countOf, lineTest, tokens, Form, define, rule, malformed, formOf}
-use Rattle.book.specs.LineGrammar.{Contexts, none, more, LineForm, definition, ruling, squeezed, define-exact, rule-exact}
-use Rattle.book.specs.Program.{allCode, rightCode, storePatternCode, storeRightCode, meetCode, dotCode, joinCode, emptyCode, pairCode, postfix, program, contextsProgram, patternProgram, contextProgram}
+use Rattle.book.specs.LineGrammar.{Contexts, none, more, ruleSign, LineForm, definition, ruling, squeezed, define-exact, rule-exact}
+use Rattle.book.specs.Program.{allCode, rightCode, storePatternCode, storeRightCode, meetCode, dotCode, joinCode, emptyCode, pairCode, postfix, program, unionProgram, setProgram, contextsProgram, patternProgram, contextProgram}
 
 -- ---- definitions
 
@@ -91,7 +92,7 @@ AllHeld n (c ∷ cs) = Held n (c .0) × Held n (c .1) × AllHeld n cs
 
 abbrev pub FormHeld : ℕ → Form → Type 0
 FormHeld n (define x e) = Held n e
-FormHeld n (rule kind p cs) = Held n p × AllHeld n cs
+FormHeld n (rule kind p cs) = Held n (patternOf kind p) × AllHeld n cs × Enough kind cs
 FormHeld n malformed = Unit {0}
 
 -- ---- the bound, from the grammar
@@ -227,9 +228,19 @@ form-held : (all : List ℕ) (F : Form) → LineForm all F → nesting 0 0 all �
 form-held all F (definition {ts = ts} {x = x} {e = e} n c z) h =
     let g : nesting 0 0 ts ≤ 4 = rw (nesting-kind x nameKind ts 0 0 refl refl n) at (rw z at h) in
     held e [] (choice-bound 1 4 c [] 0 0 0 refl (subst (λ l. nesting 0 0 l ≤ 4) (sym (append-nil ts)) g))
-form-held all F (ruling {ts = ts} {us = us} {p = p} {cs = cs} c k z) h =
-    let A = choice-bound 1 4 c us 0 0 0 refl (rw z at h) in
-    (held p us A, contexts-held us cs k (A .opens) (A .closes) (A .count) (A .later))
+form-held all F (ruling {ts = ts} {us = us} {kind = kind} {p = p} {cs = cs} c k x z) h =
+    let A = choice-bound 1 4 c us 0 0 0 refl (subst (λ n. n ≤ 4) (sign kind) (rw z at h)) in
+    (pattern-held kind p us A, contexts-held us cs k (A .opens) (A .closes) (A .count) (A .later), x)
+  where
+    sign : (kind : RuleKind) → nesting 0 0 (ruleSign kind ∷ (ts ++ us)) ≡ nesting 0 0 (ts ++ us)
+    sign restricts = refl
+    sign forbids = refl
+    sign obliges = refl
+
+    pattern-held : (kind : RuleKind) (p : Expr) (rest : List ℕ) → Bound 1 4 4 0 p rest → Held 17 (patternOf kind p)
+    pattern-held restricts p rest B = held p rest B
+    pattern-held forbids p rest B = held p rest B
+    pattern-held obliges p rest B = record { height = omega (arith, B .height); leaves = B .leaves }
 
 -- Each expression of a line that passes test 3 holds at most 17 machines.
 pub deep-held : (bs : List ℕ) → tooDeep 0 0 bs ≡ false → FormHeld 17 (formOf bs)
@@ -240,7 +251,7 @@ deep-held bs e = go (formOf bs) refl
 
     go : (F : Form) → formOf bs ≡ F → FormHeld 17 F
     go (define x f) q = form-held (squeezed bs) (define x f) (define-exact bs x f .0 q) h
-    go (rule restricts p cs) q = form-held (squeezed bs) (rule restricts p cs) (rule-exact bs p cs .0 q) h
+    go (rule kind p cs) q = form-held (squeezed bs) (rule kind p cs) (rule-exact bs kind p cs .0 q) h
     go malformed q = tt
 
 pub line-held : (l : Line) → lineTest l ≡ 0 → FormHeld 17 (formOf (l .bytes))
@@ -316,27 +327,41 @@ postfix-highest (complement e) s h cs = rw (append-assoc, postfix-highest e s) (
 under : (n a b : ℕ) → a ≤ n → b ≤ n → max a b ≤ n
 under n a b h g = omega arith
 
-pattern-highest : (n : ℕ) (cs : List ℕ) → 3 ≤ n → highest 1 cs ≤ n → highest 1 (patternProgram ++ cs) ≤ n
-pattern-highest n cs h g =
-    under n _ _ (omega arith) (under n _ _ (omega arith) (under n _ _ (omega arith) (under n _ _ (omega arith) (under n _ _ (omega arith) (under n _ _ (omega arith) (under n _ _ (omega arith) (under n _ _ (omega arith) (under n _ _ (omega arith) (under n _ _ (omega arith) g)))))))))
+pattern-highest : (n : ℕ) (cs : List ℕ) → 3 ≤ n → highest 1 cs ≤ n → highest 0 (patternProgram ++ cs) ≤ n
+pattern-highest n cs h g = under n _ _ (omega arith) (under n _ _ (omega arith) (under n _ _ (omega arith) (under n _ _ (omega arith) (under n _ _ (omega arith) (under n _ _ (omega arith) (under n _ _ (omega arith) (under n _ _ (omega arith) (under n _ _ (omega arith) g))))))))
 
-context-highest : (n : ℕ) (cs : List ℕ) → 3 ≤ n → highest 1 cs ≤ n → highest 3 (contextProgram ++ cs) ≤ n
-context-highest n cs h g =
-    under n _ _ (omega arith) (under n _ _ (omega arith) (under n _ _ (omega arith) (under n _ _ (omega arith) (under n _ _ (omega arith) (under n _ _ (omega arith) (under n _ _ (omega arith) (under n _ _ (omega arith) (under n _ _ (omega arith) (under n _ _ (omega arith) g)))))))))
+-- with X below, and without
+context-highest : (n : ℕ) (cs : List ℕ) → 3 ≤ n → highest 2 cs ≤ n → highest 3 (contextProgram ++ cs) ≤ n
+context-highest n cs h g = under n _ _ (omega arith) (under n _ _ (omega arith) (under n _ _ (omega arith) (under n _ _ (omega arith) (under n _ _ (omega arith) (under n _ _ (omega arith) (under n _ _ (omega arith) (under n _ _ (omega arith) (under n _ _ (omega arith) g))))))))
 
-contexts-highest : (n : ℕ) (cs : List (Expr × Expr)) → 1 ≤ n → AllHeld n cs → highest 1 (contextsProgram cs) ≤ n + 2
-contexts-highest n [] h s = omega arith
-contexts-highest n ((l, r) ∷ cs) h (a, b, s) =
+first-highest : (n : ℕ) (cs : List ℕ) → 3 ≤ n → highest 1 cs ≤ n → highest 2 (contextProgram ++ cs) ≤ n
+first-highest n cs h g = under n _ _ (omega arith) (under n _ _ (omega arith) (under n _ _ (omega arith) (under n _ _ (omega arith) (under n _ _ (omega arith) (under n _ _ (omega arith) (under n _ _ (omega arith) (under n _ _ (omega arith) (under n _ _ (omega arith) g))))))))
+
+contexts-highest : (n : ℕ) (o : Pairing) (cs : List (Expr × Expr)) → 1 ≤ n → AllHeld n cs → highest 1 (contextsProgram o cs) ≤ n + 2
+contexts-highest n o [] h s = omega arith
+contexts-highest n o ((l, r) ∷ cs) h (a, b, s) =
     rw (postfix-highest l (a .leaves), postfix-highest r (b .leaves))
     (under (n + 2) _ _ (omega (arith, a .height))
-    (under (n + 2) _ _ (omega (arith, b .height)) (context-highest (n + 2) (contextsProgram cs) (omega arith) (contexts-highest n cs h s))))
+    (under (n + 2) _ _ (omega (arith, b .height)) (context-highest (n + 2) (pairCode o ∷ contextsProgram o cs) (omega arith) (subst (λ x. x ≤ n + 2) (sym (highest-pair o 0 (contextsProgram o cs))) (under (n + 2) _ _ (omega arith) (contexts-highest n o cs h s))))))
+
+union-highest : (n : ℕ) (cs : List (Expr × Expr)) → 1 ≤ n → AllHeld n cs → Some cs → highest 0 (unionProgram cs) ≤ n + 2
+union-highest n [] h s x = absurd x
+union-highest n ((l, r) ∷ cs) h (a, b, s) x =
+    rw (postfix-highest l (a .leaves), postfix-highest r (b .leaves))
+    (under (n + 2) _ _ (omega (arith, a .height))
+    (under (n + 2) _ _ (omega (arith, b .height)) (first-highest (n + 2) (contextsProgram either cs) (omega arith) (contexts-highest n either cs h s))))
+
+set-highest : (n : ℕ) (kind : RuleKind) (cs : List (Expr × Expr)) → 1 ≤ n → AllHeld n cs → Enough kind cs → highest 0 (setProgram kind cs) ≤ n + 2
+set-highest n restricts cs h s x = pattern-highest (n + 2) (contextsProgram without cs) (omega arith) (contexts-highest n without cs h s)
+set-highest n forbids cs h s x = union-highest n cs h s x
+set-highest n obliges cs h s x = union-highest n cs h s x
 
 -- A program whose expressions hold at most n machines each holds at most n + 2: X and l lie below while r is made.
 pub program-highest : (n : ℕ) (F : Form) → 1 ≤ n → FormHeld n F → highest 0 (program F) ≤ n + 2
 program-highest n (define x e) h s = subst (λ cs. highest 0 cs ≤ n + 2) (append-nil (postfix e)) (rw (postfix-highest e (s .leaves)) (omega (arith, s .height)))
-program-highest n (rule restricts p cs) h (a, s) =
-    rw (postfix-highest p (a .leaves))
-    (under (n + 2) _ _ (omega (arith, a .height)) (pattern-highest (n + 2) (contextsProgram cs) (omega arith) (contexts-highest n cs h s)))
+program-highest n (rule kind p cs) h (a, s, x) =
+    rw (postfix-highest (patternOf kind p) (a .leaves))
+    (under (n + 2) _ _ (omega (arith, a .height)) (under (n + 2) _ _ (omega arith) (set-highest n kind cs h s x)))
 program-highest n malformed h s = omega arith
 
 -- THE STACK OF A LINE. The program of a line that passes its tests holds at most 19 machines.

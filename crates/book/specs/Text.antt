@@ -6,9 +6,9 @@ use lib.Dec.{eqb, leb, ltb}
 use lib.ListN.{length}
 use Rattle.automata.specs.Format.{Format}
 use Rattle.automata.specs.Booleans.{choose}
-use Rattle.language.specs.Restriction.{RuleKind, restricts}
+use Rattle.language.specs.Restriction.{RuleKind, restricts, forbids, obliges}
 use Rattle.language.specs.Expression.{Expr}
-use Rattle.book.specs.Kind.{kindOf, isLetter, isName, openKind, closeKind, spaceKind, lineEndKind, colonKind, equalsKind, greaterKind, slashKind, underscoreKind}
+use Rattle.book.specs.Kind.{kindOf, isLetter, isName, openKind, closeKind, spaceKind, lineEndKind, colonKind, equalsKind, greaterKind, slashKind, underscoreKind, lessKind, caretKind}
 use Rattle.book.specs.Reader.{Read, got, bad, readChoice}
 
 -- the first branch where the test fails
@@ -70,7 +70,8 @@ lettersOf l = behind (l .bytes)
     behind [] = []
     behind (b ∷ bs) = bs
 
--- "Each later line is a definition, `=`, a name, a choice; or a rule, `>`, a choice, then per context `/`, a choice, `_`, a choice."
+-- "Each later line is a definition, `=`, a name, a choice; or a rule, `>`, a choice, then per context `/`, a choice, `_`, a choice." "A line `<` in a
+-- rule's form", "A line `^`".
 pub data Form : Type 0 where
   define : ℕ → Expr → Form
   rule : RuleKind → Expr → List (Expr × Expr) → Form
@@ -90,16 +91,26 @@ abbrev pub onRead : Read → (Expr → List ℕ → Form) → Form
 onRead (got e ts) f = f e ts
 onRead bad f = malformed
 
-abbrev pub contextsOf : ℕ → Expr → List (Expr × Expr) → List ℕ → Form
-contextsOf zero p cs [] = rule restricts p cs
-contextsOf zero p cs (b ∷ ts) = malformed
-contextsOf (suc n) p cs [] = rule restricts p cs
-contextsOf (suc n) p cs (b ∷ ts) =
+-- "Both need at least one context, else the line is spoiled."
+abbrev pub needsContext : RuleKind → Bool
+needsContext restricts = false
+needsContext forbids = true
+needsContext obliges = true
+
+abbrev pub ended : RuleKind → Expr → List (Expr × Expr) → Form
+ended kind p [] = choose (needsContext kind) (λ _. malformed) (λ _. rule kind p [])
+ended kind p (c ∷ cs) = rule kind p (c ∷ cs)
+
+abbrev pub contextsOf : RuleKind → ℕ → Expr → List (Expr × Expr) → List ℕ → Form
+contextsOf kind zero p cs [] = ended kind p cs
+contextsOf kind zero p cs (b ∷ ts) = malformed
+contextsOf kind (suc n) p cs [] = ended kind p cs
+contextsOf kind (suc n) p cs (b ∷ ts) =
     unless (eqb (kindOf b) slashKind) (λ _. malformed) λ _.
     onRead (readChoice ts) λ l us.
     tailAt underscoreKind us λ vs.
     onRead (readChoice vs) λ r ws.
-    contextsOf n p (cs ++ ((l, r) ∷ [])) ws
+    contextsOf kind n p (cs ++ ((l, r) ∷ [])) ws
 
 abbrev pub defineAs : ℕ → Expr → List ℕ → Form
 defineAs x e [] = define x e
@@ -109,12 +120,14 @@ abbrev pub defineOf : List ℕ → Form
 defineOf [] = malformed
 defineOf (x ∷ ts) = choose (isName x) (λ _. onRead (readChoice ts) (defineAs x)) (λ _. malformed)
 
-abbrev pub ruleOf : List ℕ → Form
-ruleOf ts = onRead (readChoice ts) (λ p us. contextsOf (length us) p [] us)
+abbrev pub ruleOf : RuleKind → List ℕ → Form
+ruleOf kind ts = onRead (readChoice ts) (λ p us. contextsOf kind (length us) p [] us)
 
 unfoldable pub formOf : List ℕ → Form
 formOf [] = malformed
 formOf (b ∷ bs) =
     choose (eqb (kindOf b) equalsKind) (λ _. defineOf (tokens bs)) λ _.
-    choose (eqb (kindOf b) greaterKind) (λ _. ruleOf (tokens bs)) λ _.
+    choose (eqb (kindOf b) greaterKind) (λ _. ruleOf restricts (tokens bs)) λ _.
+    choose (eqb (kindOf b) lessKind) (λ _. ruleOf forbids (tokens bs)) λ _.
+    choose (eqb (kindOf b) caretKind) (λ _. ruleOf obliges (tokens bs)) λ _.
     malformed

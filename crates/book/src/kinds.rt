@@ -40,3 +40,7 @@ pub const GREATER_KIND: u8 = 18;
 pub const SLASH_KIND: u8 = 19;
 
 pub const UNDERSCORE_KIND: u8 = 20;
+
+pub const LESS_KIND: u8 = 21;
+
+pub const CARET_KIND: u8 = 22;

@@ -4,7 +4,6 @@ use Prim.Native.Nat.{ℕ}
 use mathlib.Core.Bool.{_&&_}
 use mathlib.Core.List.{List, [], _∷_}
 use lib.ListN.{length}
-use Rattle.language.specs.Restriction.{restricts}
 use Rattle.language.specs.Language.{Language, allWords}
 use Rattle.language.specs.Matches.{matches, Rule, contextsIn, obeys}
 use Rattle.book.specs.Text.{Line, linesOf, lettersOf, Form, define, rule, malformed, formOf}
@@ -12,7 +11,7 @@ use Rattle.book.specs.Text.{Line, linesOf, lettersOf, Form, define, rule, malfo
 -- the rules of the lines, each with the names above it
 abbrev pub onForm : List ℕ → List (ℕ × Language) → Form → (List (ℕ × Language) → List Rule) → List Rule
 onForm ls env (define x e) rest = rest ((x, matches ls env e) ∷ env)
-onForm ls env (rule restricts p cs) rest = record { kind = restricts; pattern = matches ls env p; contexts = contextsIn ls env cs } ∷ rest env
+onForm ls env (rule kind p cs) rest = record { kind = kind; pattern = matches ls env p; contexts = contextsIn ls env cs } ∷ rest env
 onForm ls env malformed rest = rest env
 
 abbrev pub rulesOf : List Line → List ℕ → List (ℕ × Language) → List Rule

@@ -8,7 +8,6 @@ use Rattle.automata.specs.Machine.{Machine}
 use Rattle.automata.specs.Stage.{Made, made, refused, thenMade}
 use Rattle.automata.specs.Given.{allMachine}
 use Rattle.automata.specs.Stages.{both, pairStage}
-use Rattle.language.specs.Restriction.{restricts}
 use Rattle.language.specs.Environment.{namesOf}
 use Rattle.language.specs.Evaluate.{evaluate, evaluateRule}
 use Rattle.book.specs.Line.{HeadRead, letters, readHead, LineRead, reads, stops, readLine}
@@ -34,8 +33,8 @@ compileForm fmt ls d malformed = off 5
 compileForm fmt ls d (define x e) =
     onMade (evaluate fmt ls (d .env) e) λ counts M.
     on (record { env = (x, M) ∷ d .env; counts = d .counts ++ counts; kept = d .kept })
-compileForm fmt ls d (rule restricts p cs) =
-    onMade (thenMade (evaluateRule fmt ls (d .env) p cs) λ R. pairStage fmt (suc (length ls)) both (d .kept) R) λ counts M.
+compileForm fmt ls d (rule kind p cs) =
+    onMade (thenMade (evaluateRule fmt ls (d .env) kind p cs) λ R. pairStage fmt (suc (length ls)) both (d .kept) R) λ counts M.
     on (record { env = d .env; counts = d .counts ++ counts; kept = M })
 
 abbrev pub afterRead : LineRead → (Form → LineResult) → LineResult

@@ -13,10 +13,9 @@ use Rattle.automata.specs.Machine.{Machine, automaton, Canonical}
 use Rattle.automata.specs.Stage.{Made, made, Keeps, then-keeps}
 use Rattle.automata.specs.Exactly.{Exactly, then-exactly}
 use Rattle.automata.specs.Stages.{both, pairStage}
-use Rattle.language.specs.Restriction.{restricts}
 use Rattle.language.specs.Cuts.{Word}
 use Rattle.language.specs.Language.{Language, allWords, allWords-sound, allWords-whole, intersection}
-use Rattle.language.specs.Restriction.{restriction}
+use Rattle.language.specs.Restriction.{demands}
 use Rattle.language.specs.GivenLaws.{all-recognizes}
 use Rattle.language.specs.Environment.{namesOf, known, allKnown}
 use Rattle.language.specs.Evaluate.{evaluateRule}
@@ -25,6 +24,7 @@ use Rattle.language.specs.Matches.{matches, contextsIn, Rule, obeys, Obeys, obe
 use Rattle.language.specs.ExpressionLaws.{Right, right-same, right-marks, EnvRight, keeps-map, pair-right, expression-right}
 use Rattle.language.specs.RuleLaws.{rule-right}
 use Rattle.book.specs.Line.{reads, letters}
+use Rattle.book.specs.LineGrammar.{Contexted}
 use Rattle.book.specs.LineLaws.{KnownForm}
 use Rattle.book.specs.HeadLaws.{Letters, head-letters}
 use Rattle.book.specs.Text.{Line, linesOf, lettersOf, Form, define, rule, malformed}
@@ -74,37 +74,37 @@ module _ (fmt : Format) (ls : List ℕ) where
       go false e = refl
 
   -- A line that was made, and the lines behind it.
-  form-right : (rest : List Line) (d : Draft) (ys : List (ℕ × Language)) (K : Language) → DraftRight m d ys K → (F : Form) → KnownForm ls (namesOf (d .env)) F
+  form-right : (rest : List Line) (d : Draft) (ys : List (ℕ × Language)) (K : Language) → DraftRight m d ys K → (F : Form) → KnownForm ls (namesOf (d .env)) F → Contexted F
       → (counts : List ℕ) (M : Machine) → MakesLine fmt ls d F (made counts M) → (b : BookResult)
       → ((zs : List (ℕ × Language)) (L : Language) → DraftRight m (advance fmt d F counts M) zs L → Accepts (Final L (rulesOf rest ls zs)) b)
       → Accepts (Final K (onForm ls ys F (λ env₁. rulesOf rest ls env₁))) b
-  form-right rest d ys K h (define x e) k counts M h′ b f = f ((x, matches ls ys e) ∷ ys) K (record { env = (refl, right, h .env); kept = h .kept })
+  form-right rest d ys K h (define x e) k c counts M h′ b f = f ((x, matches ls ys e) ∷ ys) K (record { env = (refl, right, h .env); kept = h .kept })
     where
       right : Right m M (matches ls ys e)
       right = made-keeps (λ M. Right m M (matches ls ys e)) _ _ counts M (makes-exactly fmt ls (d .env) e) h′ (expression-right fmt ls (namesOf (d .env)) (d .env) ys (h .env) e k)
-  form-right rest d ys K h (rule restricts p cs) k counts M h′ b f = again b (f ys (λ w. K w && rs w) (record { env = h .env; kept = right }))
+  form-right rest d ys K h (rule kind p cs) k c counts M h′ b f = again b (f ys (λ w. K w && rs w) (record { env = h .env; kept = right }))
     where
       names : List ℕ
       names = namesOf (d .env)
 
       rs : Language
-      rs = restriction (matches ls ys p) (contextsIn ls ys cs)
+      rs = demands kind (matches ls ys p) (contextsIn ls ys cs)
 
       right : Right m M (λ w. K w && rs w)
       right =
           made-keeps (λ M. Right m M (λ w. K w && rs w)) _ _ counts M
-          (then-exactly _ _ _ _ (rule-exactly fmt ls (d .env) p cs) λ R. pairs-exactly fmt (suc m) both (d .kept) R) h′
-          (then-keeps (λ R. Right m R (intersection all rs)) (λ M. Right m M (λ w. K w && rs w)) (evaluateRule fmt ls (d .env) p cs) _
-          (rule-right fmt ls names (d .env) ys (h .env) p cs (and-left (known ls names p) (allKnown ls names cs) k) (and-right (known ls names p) (allKnown ls names cs) k))
+          (then-exactly _ _ _ _ (rule-exactly fmt ls (d .env) kind p cs c) λ R. pairs-exactly fmt (suc m) both (d .kept) R) h′
+          (then-keeps (λ R. Right m R (intersection all rs)) (λ M. Right m M (λ w. K w && rs w)) (evaluateRule fmt ls (d .env) kind p cs) _
+          (rule-right fmt ls names (d .env) ys (h .env) kind p cs (and-left (known ls names p) (allKnown ls names cs) k) (and-right (known ls names p) (allKnown ls names cs) k))
           (λ R r. keeps-map (λ M. Right m M (intersection K (intersection all rs))) (λ M. Right m M (λ w. K w && rs w)) (pairStage fmt (suc m) both (d .kept) R)
           (λ M q. right-same m M (intersection K (intersection all rs)) (λ w. K w && rs w) (meet K rs (d .kept) (h .kept)) q)
           (pair-right fmt m both (d .kept) R K (intersection all rs) (h .kept) r)))
 
       again : (b : BookResult) → Accepts (Final (λ w. K w && rs w) (rulesOf rest ls ys)) b
-          → Accepts (Final K (record { kind = restricts; pattern = matches ls ys p; contexts = contextsIn ls ys cs } ∷ rulesOf rest ls ys)) b
+          → Accepts (Final K (record { kind = kind; pattern = matches ls ys p; contexts = contextsIn ls ys cs } ∷ rulesOf rest ls ys)) b
       again (done ls′ d′) r = right-same (length ls′) (d′ .kept) (λ w. (K w && rs w) && obeys (rulesOf rest ls ys) w) (λ w. K w && (rs w && obeys (rulesOf rest ls ys) w)) (λ w. and-assoc (K w) (rs w) (obeys (rulesOf rest ls ys) w)) r
       again (stopped r l) t = tt
-  form-right rest d ys K h malformed k counts M h′ b f = absurd h′
+  form-right rest d ys K h malformed k c counts M h′ b f = absurd h′
 
   pub lines-right : (lines : List Line) (at : ℕ) (d : Draft) (b : BookResult) → LinesSay fmt ls lines at d b → (ys : List (ℕ × Language)) (K : Language) → DraftRight m d ys K
       → Accepts (Final K (rulesOf lines ls ys)) b
@@ -112,9 +112,9 @@ module _ (fmt : Format) (ls : List ℕ) where
   lines-right (l ∷ rest) at d b (line-stops s) ys K h = tt
   lines-right (l ∷ rest) at d b (stage-stops F s x) ys K h = tt
   lines-right (l ∷ rest) at d b (goes-on F counts M s x t) ys K h =
-      let (q, k) = line-form ls (namesOf (d .env)) l (reads F) s in
+      let (q, k, c) = line-form ls (namesOf (d .env)) l (reads F) s in
       subst (λ G. Accepts (Final K (onForm ls ys G (λ env₁. rulesOf rest ls env₁))) b) (sym q)
-      (form-right rest d ys K h F k counts M x b (λ zs L r. lines-right rest (suc at) (advance fmt d F counts M) b t zs L r))
+      (form-right rest d ys K h F k c counts M x b (λ zs L r. lines-right rest (suc at) (advance fmt d F counts M) b t zs L r))
 
   -- the letters of an accepted book
   lines-letters : (lines : List Line) (at : ℕ) (d : Draft) (b : BookResult) → LinesSay fmt ls lines at d b → Accepts (λ ls′ d′. ls′ ≡ ls) b

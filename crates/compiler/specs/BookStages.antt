@@ -11,10 +11,10 @@ use Rattle.automata.specs.Operations.{product, concatNFA, starNFA, eraseNFA}
 use Rattle.automata.specs.Stage.{Counts, Smallest}
 use Rattle.automata.specs.Given.{letterMachine, dotMachine, emptyMachine, allMachine, markMachine}
 use Rattle.automata.specs.Stages.{Pairing, either, both, without, combine}
-use Rattle.language.specs.Restriction.{restricts}
+use Rattle.language.specs.Restriction.{RuleKind, restricts, forbids, obliges}
 use Rattle.language.specs.Expression.{Expr, letter, name, dot, empty, pair, join, star, plus, option, complement}
 use Rattle.language.specs.Environment.{lookup}
-use Rattle.language.specs.Evaluate.{column}
+use Rattle.language.specs.Evaluate.{column, patternOf}
 use Rattle.book.specs.Text.{Line, linesOf, lettersOf, Form, define, rule, malformed, formOf}
 use Rattle.compiler.specs.Allows.{bookLetters}
 
@@ -73,23 +73,37 @@ expressionStages ls env (complement e) = andThen (expressionStages ls env e) λ 
 abbrev pub markedStages : ℕ → Machine → Machine → Machine → Row
 markedStages m L P R = makes (joins L (markMachine m)) λ A. makes (joins A P) λ B. makes (joins B (markMachine m)) λ C. makes (joins C R) gives
 
--- "for each context l, r, then l M p M r joined left to right, then X becomes X minus it"
-abbrev pub contextStages : List ℕ → List (ℕ × Machine) → Machine → List (Expr × Expr) → Machine → Row
-contextStages ls env P [] X = gives X
-contextStages ls env P (c ∷ cs) X =
+-- One context: "l, r, then l M p M r joined left to right".
+abbrev pub contextStages : List ℕ → List (ℕ × Machine) → Machine → Expr × Expr → Row
+contextStages ls env P c =
     andThen (expressionStages ls env (c .0)) λ L.
     andThen (expressionStages ls env (c .1)) λ R.
-    andThen (markedStages (length ls) L P R) λ C.
-    makes (pairs without X C) λ Y.
-    contextStages ls env P cs Y
+    markedStages (length ls) L P R
 
--- "For a rule: p; X = `.*` M p M `.*`, joined left to right; for each context ..; then E = erase X; then `.*-E`."
-abbrev pub ruleStages : List ℕ → List (ℕ × Machine) → Expr → List (Expr × Expr) → Row
-ruleStages ls env p cs =
-    andThen (expressionStages ls env p) λ P.
+-- "then X becomes X minus it"; for `<` and `^` "`|` of those so far with it"
+abbrev pub contextsStages : List ℕ → List (ℕ × Machine) → Pairing → Machine → List (Expr × Expr) → Machine → Row
+contextsStages ls env o P [] X = gives X
+contextsStages ls env o P (c ∷ cs) X = andThen (contextStages ls env P c) λ C. makes (pairs o X C) λ Y. contextsStages ls env o P cs Y
+
+-- "from the second on, `|`". (Without a context the line is malformed, and makes no stage.)
+abbrev pub unionStages : List ℕ → List (ℕ × Machine) → Machine → List (Expr × Expr) → Row
+unionStages ls env P [] = gives P
+unionStages ls env P (c ∷ cs) = andThen (contextStages ls env P c) λ X. contextsStages ls env either P cs X
+
+-- The marked set that is erased: "X = `.*` M p M `.*`", less the contexts; or the union of the contexts.
+abbrev pub setStages : List ℕ → List (ℕ × Machine) → RuleKind → Machine → List (Expr × Expr) → Row
+setStages ls env restricts P cs =
     andThen (markedStages (length ls) (allMachine (length ls)) P (allMachine (length ls))) λ X.
-    andThen (contextStages ls env P cs X) λ Y.
-    makes (erases Y) λ E.
+    contextsStages ls env without P cs X
+setStages ls env forbids P cs = unionStages ls env P cs
+setStages ls env obliges P cs = unionStages ls env P cs
+
+-- "For a rule: p; ..; then E = erase X; then `.*-E`." "For `^`: q = `.*-p` first."
+abbrev pub ruleStages : List ℕ → List (ℕ × Machine) → RuleKind → Expr → List (Expr × Expr) → Row
+ruleStages ls env kind p cs =
+    andThen (expressionStages ls env (patternOf kind p)) λ P.
+    andThen (setStages ls env kind P cs) λ X.
+    makes (erases X) λ E.
     makes (pairs without (allMachine (length ls)) E) gives
 
 -- ---- a book's stages
@@ -97,7 +111,7 @@ ruleStages ls env p cs =
 -- The lines in their order, with the names above and the book so far: a definition's stages, or a rule's and then its `&`.
 abbrev pub formStages : List ℕ → List (ℕ × Machine) → Machine → Form → (List (ℕ × Machine) → Machine → Row) → Row
 formStages ls env kept (define x e) rest = andThen (expressionStages ls env e) λ M. rest ((x, M) ∷ env) kept
-formStages ls env kept (rule restricts p cs) rest = andThen (andThen (ruleStages ls env p cs) λ R. makes (pairs both kept R) gives) λ M. rest env M
+formStages ls env kept (rule kind p cs) rest = andThen (andThen (ruleStages ls env kind p cs) λ R. makes (pairs both kept R) gives) λ M. rest env M
 formStages ls env kept malformed rest = rest env kept
 
 abbrev pub lineStages : List Line → List ℕ → List (ℕ × Machine) → Machine → Row

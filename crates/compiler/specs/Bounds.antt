@@ -8,12 +8,9 @@ use Rattle.automata.specs.Format.{Format}
 use Rattle.automata.specs.Automaton.{Automaton}
 use Rattle.automata.specs.Machine.{Machine, size}
 use Rattle.automata.specs.Stage.{Made, made, refused, after, StageResult, kept-one, too-many-sets, too-many-states}
-use Rattle.automata.specs.Exactly.{Then, goes, fails, Given, given}
-use Rattle.automata.specs.Given.{allMachine}
-use Rattle.language.specs.Restriction.{restricts}
+use Rattle.automata.specs.Exactly.{Then, goes, fails}
 use Rattle.language.specs.GivenLaws.{all-size}
-use Rattle.language.specs.Expression.{Expr, letter, name, dot, empty, pair, join, star, plus, option, complement}
-use Rattle.language.specs.Makes.{Makes, MakesMarked, MakesContexts, MakesRule}
+use Rattle.language.specs.Stagewise.{Stagewise, expression-holds, rule-holds}
 use Rattle.book.specs.Text.{Line, linesOf, Form, define, rule, malformed}
 use Rattle.compiler.specs.Book.{Draft, BookResult, done, startDraft, compileBook}
 use Rattle.compiler.specs.BookLaws.{Accepts}
@@ -48,19 +45,16 @@ module _ (fmt : Format) where
   small-within (made counts M) s = s .0
   small-within (refused r) s = tt
 
-  stage-within : {S : Type 0} (k : ℕ) (A : Automaton S) (r : Made) → StageResult fmt k A r → Within r
-  stage-within k A r s = small-within r (stage-small k A r s)
-
-  given-within : (M : Machine) (r : Made) → Given M r → Within r
-  given-within M r given = tt
-
-  then-within : (P : Made → Type 0) (Q : Machine → Made → Type 0) → ((r : Made) → P r → Within r) → ((M : Machine) (r : Made) → Q M r → Within r) → (r : Made) → Then P Q r → Within r
-  then-within P Q p q r (goes counts M s a b) = behind s (q M s b)
+  within : Stagewise fmt Within
+  within = record {
+    here = λ M. tt;
+    staged = λ k A r s. small-within r (stage-small k A r s);
+    behind = behind;
+  }
     where
-      behind : (s : Made) → Within s → Within (after counts s)
-      behind (made more N) w = each-append (fmt .mostSets) counts more (p (made counts M) a) w
-      behind (refused r) w = tt
-  then-within P Q p q r (fails n a) = tt
+      behind : (counts : List ℕ) (M : Machine) (r : Made) → Within (made counts M) → Within r → Within (after counts r)
+      behind counts M (made more N) v w = each-append (fmt .mostSets) counts more v w
+      behind counts M (refused r) v w = tt
 
   then-small : (P : Made → Type 0) (Q : Machine → Made → Type 0) → ((r : Made) → P r → Within r) → ((M : Machine) (r : Made) → Q M r → Small r) → (r : Made) → Then P Q r → Small r
   then-small P Q p q r (goes counts M s a b) = behind s (q M s b)
@@ -70,43 +64,6 @@ module _ (fmt : Format) where
       behind (refused r) w = tt
   then-small P Q p q r (fails n a) = tt
 
-  module _ (ls : List ℕ) (env : List (ℕ × Machine)) where
-    makes-within : (e : Expr) (r : Made) → Makes fmt ls env e r → Within r
-    makes-within (letter b) = given-within _
-    makes-within (name b) = given-within _
-    makes-within dot = given-within _
-    makes-within empty = given-within _
-    makes-within (pair o e f) = then-within _ _ (makes-within e) λ A. then-within _ _ (makes-within f) λ B. stage-within _ _
-    makes-within (join e f) = then-within _ _ (makes-within e) λ A. then-within _ _ (makes-within f) λ B. stage-within _ _
-    makes-within (star e) = then-within _ _ (makes-within e) λ A. stage-within _ _
-    makes-within (plus e) = then-within _ _ (makes-within e) λ A. then-within _ _ (stage-within _ _) λ B. stage-within _ _
-    makes-within (option e) = then-within _ _ (makes-within e) λ A. stage-within _ _
-    makes-within (complement e) = then-within _ _ (makes-within e) λ A. stage-within _ _
-
-    marked-within : (L P R : Machine) (r : Made) → MakesMarked fmt ls env L P R r → Within r
-    marked-within L P R =
-        then-within _ _ (stage-within _ _) λ A.
-        then-within _ _ (stage-within _ _) λ B.
-        then-within _ _ (stage-within _ _) λ C.
-        stage-within _ _
-
-    contexts-within : (P : Machine) (cs : List (Expr × Expr)) (X : Machine) (r : Made) → MakesContexts fmt ls env P cs X r → Within r
-    contexts-within P [] X = given-within X
-    contexts-within P (c ∷ cs) X =
-        then-within _ _ (makes-within (c .0)) λ L.
-        then-within _ _ (makes-within (c .1)) λ R.
-        then-within _ _ (marked-within L P R) λ C.
-        then-within _ _ (stage-within _ _) λ Y.
-        contexts-within P cs Y
-
-    rule-within : (p : Expr) (cs : List (Expr × Expr)) (r : Made) → MakesRule fmt ls env p cs r → Within r
-    rule-within p cs =
-        then-within _ _ (makes-within p) λ P.
-        then-within _ _ (marked-within (allMachine (length ls)) P (allMachine (length ls))) λ X.
-        then-within _ _ (contexts-within P cs X) λ Y.
-        then-within _ _ (stage-within _ _) λ E.
-        stage-within _ _
-
   -- ---- lines and books
 
   pub record DraftWithin (d : Draft) : Type 0 where
@@ -115,9 +72,9 @@ module _ (fmt : Format) where
 
   form-within : (ls : List ℕ) (d : Draft) → DraftWithin d → (F : Form) (counts : List ℕ) (M : Machine) → MakesLine fmt ls d F (made counts M) → DraftWithin (advance fmt d F counts M)
   form-within ls d h (define x e) counts M m =
-      record { counts = each-append (fmt .mostSets) (d .counts) counts (h .counts) (makes-within ls (d .env) e (made counts M) m); states = h .states }
-  form-within ls d h (rule restricts p cs) counts M m =
-      let w = then-small _ _ (rule-within ls (d .env) p cs) (λ R. stage-small _ _) (made counts M) m in
+      record { counts = each-append (fmt .mostSets) (d .counts) counts (h .counts) (expression-holds fmt Within within ls (d .env) e (made counts M) m); states = h .states }
+  form-within ls d h (rule kind p cs) counts M m =
+      let w = then-small _ _ (rule-holds fmt Within within ls (d .env) kind p cs) (λ R. stage-small _ _) (made counts M) m in
       record { counts = each-append (fmt .mostSets) (d .counts) counts (h .counts) (w .0); states = w .1 }
   form-within ls d h malformed counts M m = absurd m
 

@@ -13,11 +13,12 @@ use Rattle.automata.specs.Machine.{Machine}
 use Rattle.automata.specs.Stage.{Made, made, refused, after, kept-one, too-many-sets, too-many-states, smallest-one, counts-unique}
 use Rattle.automata.specs.Exactly.{Then, goes, fails, Given, given}
 use Rattle.automata.specs.Given.{allMachine}
-use Rattle.automata.specs.Stages.{Pairing, both}
-use Rattle.language.specs.Restriction.{restricts}
+use Rattle.automata.specs.Stages.{Pairing, either, both, without}
+use Rattle.language.specs.Restriction.{RuleKind, restricts, forbids, obliges}
 use Rattle.language.specs.Environment.{namesOf}
+use Rattle.language.specs.Evaluate.{patternOf}
 use Rattle.language.specs.Expression.{Expr, letter, name, dot, empty, pair, join, star, plus, option, complement}
-use Rattle.language.specs.Makes.{Pairs, Joins, Stars, Erasing, Makes, MakesMarked, MakesContexts, MakesRule}
+use Rattle.language.specs.Makes.{Pairs, Joins, Stars, Erasing, Makes, MakesMarked, MakesContext, MakesContexts, MakesUnion, MakesSet, MakesRule}
 use Rattle.book.specs.Text.{Line, linesOf, lettersOf, Form, define, rule, malformed}
 use Rattle.book.specs.Line.{reads, letters}
 use Rattle.book.specs.HeadLaws.{head-letters}
@@ -25,7 +26,7 @@ use Rattle.compiler.specs.Allows.{bookLetters}
 use Rattle.compiler.specs.Book.{Draft, BookResult, done, stopped, startDraft, compileBook}
 use Rattle.compiler.specs.Outcome.{most}
 use Rattle.compiler.specs.Table.{MakesLine, advance, LinesSay, line-stops, stage-stops, goes-on, all-lines, BookSays, no-bytes, head-stops, head-goes, line-form, head-form, accepted-says}
-use Rattle.compiler.specs.BookStages.{Stage, pairs, joins, stars, erases, Reaches, Leaves, Row, gives, makes, andThen, StageIn, first, later, expressionStages, markedStages, contextStages, ruleStages, formStages, lineStages, bookStages, Attained, Peak}
+use Rattle.compiler.specs.BookStages.{Stage, pairs, joins, stars, erases, Reaches, Leaves, Row, gives, makes, andThen, StageIn, first, later, expressionStages, markedStages, contextStages, contextsStages, unionStages, setStages, ruleStages, formStages, lineStages, bookStages, Attained, Peak}
 
 -- No count is greater.
 pub most-greatest : (cs : List ℕ) (i : ℕ) → i < length cs → getD cs i 0 ≤ most cs
@@ -143,20 +144,34 @@ module _ (fmt : Format) (ls : List ℕ) (env : List (ℕ × Machine)) where
       then-made m _ _ _ _ (joins-made fmt m B _) λ C.
       joins-made fmt m C R
 
-  contexts-made : (P : Machine) (cs : List (Expr × Expr)) (X : Machine) (r : Made) → MakesContexts fmt ls env P cs X r → Made-of m (contextStages ls env P cs X) r
-  contexts-made P [] X = given-made m X
-  contexts-made P (c ∷ cs) X =
+  context-made : (P : Machine) (c : Expr × Expr) (r : Made) → MakesContext fmt ls env P c r → Made-of m (contextStages ls env P c) r
+  context-made P c =
       then-made m (E (c .0)) _ _ _ (expression-made (c .0)) λ L.
       then-made m (E (c .1)) _ _ _ (expression-made (c .1)) λ R.
-      then-made m (markedStages (length ls) L P R) _ _ _ (marked-made L P R) λ C.
-      then-made m _ _ _ _ (pairs-made fmt m _ X C) λ Y.
-      contexts-made P cs Y
+      marked-made L P R
 
-  rule-made : (p : Expr) (cs : List (Expr × Expr)) (r : Made) → MakesRule fmt ls env p cs r → Made-of m (ruleStages ls env p cs) r
-  rule-made p cs =
-      then-made m (E p) _ _ _ (expression-made p) λ P.
+  contexts-made : (o : Pairing) (P : Machine) (cs : List (Expr × Expr)) (X : Machine) (r : Made) → MakesContexts fmt ls env o P cs X r → Made-of m (contextsStages ls env o P cs X) r
+  contexts-made o P [] X = given-made m X
+  contexts-made o P (c ∷ cs) X =
+      then-made m (contextStages ls env P c) _ _ _ (context-made P c) λ C.
+      then-made m _ _ _ _ (pairs-made fmt m o X C) λ Y.
+      contexts-made o P cs Y
+
+  union-made : (P : Machine) (cs : List (Expr × Expr)) (r : Made) → MakesUnion fmt ls env P cs r → Made-of m (unionStages ls env P cs) r
+  union-made P [] = λ r m. absurd m
+  union-made P (c ∷ cs) = then-made m (contextStages ls env P c) _ _ _ (context-made P c) λ X. contexts-made either P cs X
+
+  set-made : (kind : RuleKind) (P : Machine) (cs : List (Expr × Expr)) (r : Made) → MakesSet fmt ls env kind P cs r → Made-of m (setStages ls env kind P cs) r
+  set-made restricts P cs =
       then-made m (markedStages (length ls) (allMachine (length ls)) P (allMachine (length ls))) _ _ _ (marked-made (allMachine (length ls)) P (allMachine (length ls))) λ X.
-      then-made m (contextStages ls env P cs X) _ _ _ (contexts-made P cs X) λ Y.
+      contexts-made without P cs X
+  set-made forbids P cs = union-made P cs
+  set-made obliges P cs = union-made P cs
+
+  rule-made : (kind : RuleKind) (p : Expr) (cs : List (Expr × Expr)) (r : Made) → MakesRule fmt ls env kind p cs r → Made-of m (ruleStages ls env kind p cs) r
+  rule-made kind p cs =
+      then-made m (E (patternOf kind p)) _ _ _ (expression-made (patternOf kind p)) λ P.
+      then-made m (setStages ls env kind P cs) _ _ _ (set-made kind P cs) λ Y.
       then-made m _ _ _ _ (erases-made fmt m Y) λ E.
       pairs-made fmt m _ _ E
 
@@ -187,11 +202,11 @@ module _ (fmt : Format) (ls : List ℕ) where
       → (b : BookResult) → BehindLines (rest (advance fmt d F counts M .env) (advance fmt d F counts M .kept)) (advance fmt d F counts M) b → BehindLines (formStages ls (d .env) (d .kept) F rest) d b
   form-counted d (define x e) rest counts M h =
       behind (expressionStages ls (d .env) e) (λ M. rest ((x, M) ∷ d .env) (d .kept)) d _ counts M (expression-made fmt ls (d .env) e (made counts M) h) refl
-  form-counted d (rule restricts p cs) rest counts M h =
-      behind (andThen (ruleStages ls (d .env) p cs) λ R. makes (pairs both (d .kept) R) gives) (λ M. rest (d .env) M) d _ counts M rule-counted refl
+  form-counted d (rule kind p cs) rest counts M h =
+      behind (andThen (ruleStages ls (d .env) kind p cs) λ R. makes (pairs both (d .kept) R) gives) (λ M. rest (d .env) M) d _ counts M rule-counted refl
     where
-      rule-counted : Counted (length ls) (andThen (ruleStages ls (d .env) p cs) λ R. makes (pairs both (d .kept) R) gives) counts M
-      rule-counted = then-made (length ls) (ruleStages ls (d .env) p cs) _ _ _ (rule-made fmt ls (d .env) p cs) (λ R. pairs-made fmt (length ls) both (d .kept) R) (made counts M) h
+      rule-counted : Counted (length ls) (andThen (ruleStages ls (d .env) kind p cs) λ R. makes (pairs both (d .kept) R) gives) counts M
+      rule-counted = then-made (length ls) (ruleStages ls (d .env) kind p cs) _ _ _ (rule-made fmt ls (d .env) kind p cs) (λ R. pairs-made fmt (length ls) both (d .kept) R) (made counts M) h
   form-counted d malformed rest counts M h = λ b B. absurd h
 
   lines-counted : (lines : List Line) (at : ℕ) (d : Draft) (b : BookResult) → LinesSay fmt ls lines at d b → BehindLines (lineStages lines ls (d .env) (d .kept)) d b

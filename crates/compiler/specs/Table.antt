@@ -15,7 +15,6 @@ use Rattle.automata.specs.Machine.{Machine}
 use Rattle.automata.specs.Stage.{Made, made, refused, thenMade}
 use Rattle.automata.specs.Exactly.{Exactly, Then, then-exactly}
 use Rattle.automata.specs.Stages.{both, pairStage}
-use Rattle.language.specs.Restriction.{restricts}
 use Rattle.language.specs.Environment.{namesOf}
 use Rattle.language.specs.Evaluate.{evaluate, evaluateRule}
 use Rattle.language.specs.Makes.{Pairs, Makes, MakesRule, makes-exactly, rule-exactly, pairs-exactly}
@@ -23,6 +22,7 @@ use Rattle.card.specs.Same.{cardOf}
 use Rattle.book.specs.Text.{Line, linesOf, Form, define, rule, malformed, formOf, unless}
 use Rattle.book.specs.Line as L
 use Rattle.book.specs.Line.{LineRead, reads, stops, readLine, HeadRead, letters, readHead}
+use Rattle.book.specs.LineGrammar.{Contexted, contexts-enough}
 use Rattle.book.specs.LineLaws.{KnownForm, LineSays, line-says, line-says-only, line-elim}
 use Rattle.book.specs.HeadLaws.{HeadForm, HeadSays, head-says, head-says-only, head-elim}
 use Rattle.compiler.specs.Book.{Draft, on, onMade, compileForm, afterRead, compileLine, BookResult, done, stopped, afterLine, compileLines, startDraft, afterHead, compileHead, compileText, compileBook}
@@ -32,7 +32,7 @@ module _ (fmt : Format) where
   -- The stages of a line, with the book so far. (A malformed line is refused before.)
   abbrev pub MakesLine : List ℕ → Draft → Form → Made → Type 0
   MakesLine ls d (define x e) = Makes fmt ls (d .env) e
-  MakesLine ls d (rule restricts p cs) = Then (MakesRule fmt ls (d .env) p cs) λ R. Pairs fmt (suc (length ls)) both (d .kept) R
+  MakesLine ls d (rule kind p cs) = Then (MakesRule fmt ls (d .env) kind p cs) λ R. Pairs fmt (suc (length ls)) both (d .kept) R
   MakesLine ls d malformed = λ r. ⊥
 
   -- The book behind a line whose stages made these sets and kept M.
@@ -66,25 +66,44 @@ pub data Outcomes (fmt : Format) (needs text lent : List ℕ) (room : ℕ) : Out
   gives : length text ≤ 16384 → enough needs lent ≡ true → (ls : List ℕ) (d : Draft) → BookSays fmt (linesOf text) (done ls d) → length (cardOf fmt ls (d .kept)) ≤ room
       → Outcomes fmt needs text lent room (card (cardOf fmt ls (d .kept)) (most (d .counts)))
 
+-- ---- what was read
+
+-- The form of a line that is read, with letters and names that are known, and contexts where they are needed.
+abbrev pub Read : List ℕ → List ℕ → Line → LineRead → Type 0
+Read ls names l (reads F) = (formOf (l .bytes) ≡ F) × KnownForm ls names F × Contexted F
+Read ls names l (stops r) = Unit {0}
+
+pub line-form : (ls names : List ℕ) (l : Line) (q : LineRead) → LineSays ls names l q → Read ls names l q
+line-form ls names l q s = subst (Read ls names l) (line-says-only ls names l q s) (line-elim ls names l (Read ls names l) (λ r. tt) (λ F k n e. (e, k, subst Contexted e (contexts-enough (l .bytes)))))
+
+abbrev pub HeadIs : Format → Line → HeadRead → Type 0
+HeadIs fmt l (letters ls) = HeadForm fmt (l .bytes) ls
+HeadIs fmt l (L.HeadRead.stops r) = Unit {0}
+
+pub head-form : (fmt : Format) (l : Line) (q : HeadRead) → HeadSays fmt l q → HeadIs fmt l q
+head-form fmt l q s = subst (HeadIs fmt l) (head-says-only fmt l q s) (head-elim fmt l (HeadIs fmt l) (λ r. tt) (λ ls f. f))
+
 -- ---- lines
 
 module _ (fmt : Format) (ls : List ℕ) where
   -- the stages of a line, computed
   lineMade : Draft → Form → Made
   lineMade d (define x e) = evaluate fmt ls (d .env) e
-  lineMade d (rule restricts p cs) = thenMade (evaluateRule fmt ls (d .env) p cs) (λ R. pairStage fmt (suc (length ls)) both (d .kept) R)
+  lineMade d (rule kind p cs) = thenMade (evaluateRule fmt ls (d .env) kind p cs) (λ R. pairStage fmt (suc (length ls)) both (d .kept) R)
   lineMade d malformed = refused 5
 
   line-right : (d : Draft) (F : Form) (names : List ℕ) (l : Line) → LineSays ls names l (reads F) → Exactly (MakesLine fmt ls d F) (lineMade d F)
   unfolding lineMade
   line-right d (define x e) names l s = makes-exactly fmt ls (d .env) e
-  line-right d (rule restricts p cs) names l s = then-exactly _ _ _ _ (rule-exactly fmt ls (d .env) p cs) λ R. pairs-exactly fmt (suc (length ls)) both (d .kept) R
+  line-right d (rule kind p cs) names l s =
+      then-exactly _ _ _ _ (rule-exactly fmt ls (d .env) kind p cs (line-form ls names l (reads (rule kind p cs)) s .2)) λ R.
+      pairs-exactly fmt (suc (length ls)) both (d .kept) R
   line-right d malformed names l (Rattle.book.specs.LineLaws.LineSays.says C t F f k n) = absurd k
 
   form-made : (d : Draft) (F : Form) → compileForm fmt ls d F ≡ onMade (lineMade d F) (λ counts M. on (advance fmt d F counts M))
   unfolding compileForm lineMade
   form-made d (define x e) = refl
-  form-made d (rule restricts p cs) = refl
+  form-made d (rule kind p cs) = refl
   form-made d malformed = refl
 
   -- THE LINES answer what the table says,
@@ -140,23 +159,6 @@ book-says-only fmt (l ∷ rest) b (head-goes ls s t) =
 pub accepted-says : (fmt : Format) (text ls : List ℕ) (d : Draft) → compileBook fmt text ≡ done ls d → BookSays fmt (linesOf text) (done ls d)
 unfolding compileBook
 accepted-says fmt text ls d e = subst (BookSays fmt (linesOf text)) e (book-says fmt (linesOf text))
-
--- ---- what was read
-
--- The form of a line that is read, with letters and names that are known.
-abbrev pub Read : List ℕ → List ℕ → Line → LineRead → Type 0
-Read ls names l (reads F) = (formOf (l .bytes) ≡ F) × KnownForm ls names F
-Read ls names l (stops r) = Unit {0}
-
-pub line-form : (ls names : List ℕ) (l : Line) (q : LineRead) → LineSays ls names l q → Read ls names l q
-line-form ls names l q s = subst (Read ls names l) (line-says-only ls names l q s) (line-elim ls names l (Read ls names l) (λ r. tt) (λ F k n e. (e, k)))
-
-abbrev pub HeadIs : Format → Line → HeadRead → Type 0
-HeadIs fmt l (letters ls) = HeadForm fmt (l .bytes) ls
-HeadIs fmt l (L.HeadRead.stops r) = Unit {0}
-
-pub head-form : (fmt : Format) (l : Line) (q : HeadRead) → HeadSays fmt l q → HeadIs fmt l q
-head-form fmt l q s = subst (HeadIs fmt l) (head-says-only fmt l q s) (head-elim fmt l (HeadIs fmt l) (λ r. tt) (λ ls f. f))
 
 -- ---- the table
 

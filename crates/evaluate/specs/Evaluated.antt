@@ -11,12 +11,13 @@ use Rattle.automata.specs.Machine.{Machine}
 use Rattle.automata.specs.Stage.{Made, made, refused, thenMade}
 use Rattle.automata.specs.Basics.{nat-test}
 use Rattle.automata.specs.Stages.{Pairing, either, both, without, pairStage}
-use Rattle.language.specs.Restriction.{restricts}
+use Rattle.language.specs.Restriction.{RuleKind, restricts, forbids, obliges}
+use Rattle.book.specs.LineGrammar.{Enough}
 use Rattle.language.specs.Expression.{Expr, letter, name, dot, empty, pair, join, star, plus, option, complement}
-use Rattle.language.specs.Evaluate.{evaluate, evaluateRule}
+use Rattle.language.specs.Evaluate.{evaluate, evaluateRule, patternOf}
 use Rattle.book.specs.Kind.{kindOf}
 use Rattle.book.specs.Text.{Form, define, rule, malformed}
-use Rattle.book.specs.Program.{pairCode, postfix, program, patternProgram, contextsProgram}
+use Rattle.book.specs.Program.{pairCode, postfix, program, setProgram, contextsProgram}
 use Rattle.book.specs.StackLaws.{heightAfter, Leaves, AllHeld, FormHeld}
 use Rattle.slots.specs.Slot.{Slot, slotMachine}
 use Rattle.codes.specs.Execute.{Store, Ran, ran, execute}
@@ -111,9 +112,16 @@ postfix-height (plus e) s h cs = rw (append-assoc, postfix-height e s)
 postfix-height (option e) s h cs = rw (append-assoc, postfix-height e s)
 postfix-height (complement e) s h cs = rw (append-assoc, postfix-height e s)
 
-contexts-height : (n : ℕ) (cs : List (Expr × Expr)) → AllHeld n cs → heightOf 1 (contextsProgram cs) ≡ 1
-contexts-height n [] s = refl
-contexts-height n ((l, r) ∷ cs) (a, b, s) = rw (postfix-height l (a .leaves), postfix-height r (b .leaves)) (contexts-height n cs s)
+contexts-height : (n : ℕ) (o : Pairing) (cs : List (Expr × Expr)) → AllHeld n cs → heightOf 1 (contextsProgram o cs) ≡ 1
+contexts-height n o [] s = refl
+contexts-height n o ((l, r) ∷ cs) (a, b, s) = rw (postfix-height l (a .leaves), postfix-height r (b .leaves)) (pair-height o 0 (contextsProgram o cs) ∙ contexts-height n o cs s)
+
+set-height : (n : ℕ) (kind : RuleKind) (cs : List (Expr × Expr)) → AllHeld n cs → Enough kind cs → heightOf 0 (setProgram kind cs) ≡ 1
+set-height n restricts cs s x = contexts-height n without cs s
+set-height n forbids [] s x = absurd x
+set-height n forbids ((l, r) ∷ cs) (a, b, s) x = rw (postfix-height l (a .leaves), postfix-height r (b .leaves)) (contexts-height n either cs s)
+set-height n obliges [] s x = absurd x
+set-height n obliges ((l, r) ∷ cs) (a, b, s) x = rw (postfix-height l (a .leaves), postfix-height r (b .leaves)) (contexts-height n either cs s)
 
 -- the program of a form that is one
 abbrev pub Formed : Form → Type 0
@@ -123,7 +131,7 @@ Formed malformed = ⊥
 
 pub program-height : (n : ℕ) (F : Form) → Formed F → FormHeld n F → heightOf 0 (program F) ≡ 1
 program-height n (define x e) t s = subst (λ cs. heightOf 0 cs ≡ 1) (append-nil (postfix e)) (postfix-height e (s .leaves) 0 [])
-program-height n (rule restricts p cs) t (a, s) = postfix-height p (a .leaves) 0 (patternProgram ++ contextsProgram cs) ∙ contexts-height n cs s
+program-height n (rule kind p cs) t (a, s, x) = postfix-height (patternOf kind p) (a .leaves) 0 (5 ∷ setProgram kind cs) ∙ set-height n kind cs s x
 program-height n malformed t s = absurd t
 
 -- ---- and that machine is what the line's stages make
@@ -131,7 +139,7 @@ program-height n malformed t s = absurd t
 -- the stages of a line, with the machines of the names above and the book so far
 abbrev pub lineMade : Format → List ℕ → List (ℕ × Machine) → Machine → Form → Made
 lineMade fmt ls env kept (define x e) = evaluate fmt ls env e
-lineMade fmt ls env kept (rule restricts p cs) = thenMade (evaluateRule fmt ls env p cs) λ R. pairStage fmt (suc (length ls)) both kept R
+lineMade fmt ls env kept (rule kind p cs) = thenMade (evaluateRule fmt ls env kind p cs) λ R. pairStage fmt (suc (length ls)) both kept R
 lineMade fmt ls env kept malformed = refused 5
 
 all-leaves : (n : ℕ) (cs : List (Expr × Expr)) → AllHeld n cs → AllLeaves cs
@@ -142,7 +150,7 @@ all-leaves n (c ∷ cs) (a, b, s) = (a .leaves, b .leaves, all-leaves n cs s)
 pub line-leaves : (fmt : Format) (ls : List ℕ) (env : List (ℕ × Machine)) (kept : Machine) (n : ℕ) (F : Form) → Formed F → FormHeld n F → (P R : Machine)
     → topOf (execute fmt ls env kept (program F) (record { stack = []; pattern = P; right = R })) ≡ lineMade fmt ls env kept F
 line-leaves fmt ls env kept n (define x e) t s P R = define-leaves fmt ls env kept x e (s .leaves) P R
-line-leaves fmt ls env kept n (rule restricts p cs) t (a, s) P R = rule-leaves fmt ls env kept p cs (a .leaves) (all-leaves n cs s) P R
+line-leaves fmt ls env kept n (rule kind p cs) t (a, s, x) P R = rule-leaves fmt ls env kept kind p cs (a .leaves) (all-leaves n cs s) x P R
 line-leaves fmt ls env kept n malformed t s P R = absurd t
 
 -- Running the program of a line answers what the line's stages make.

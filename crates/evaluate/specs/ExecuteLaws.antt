@@ -11,15 +11,21 @@ use Rattle.automata.specs.Machine.{Machine}
 use Rattle.automata.specs.Stage.{Made, made, refused, after, thenMade, present}
 use Rattle.automata.specs.Given.{letterMachine, dotMachine, emptyMachine, allMachine, markMachine}
 use Rattle.automata.specs.Stages.{Pairing, either, both, without, pairStage, concatStage, starStage, eraseStage}
-use Rattle.language.specs.Restriction.{restricts}
+use Rattle.language.specs.Restriction.{RuleKind, restricts, forbids, obliges}
+use Rattle.book.specs.LineGrammar.{Enough}
 use Rattle.language.specs.Expression.{Expr, letter, name, dot, empty, pair, join, star, plus, option, complement}
 use Rattle.language.specs.Environment.{lookup}
-use Rattle.language.specs.Evaluate.{column, evaluate, markedStages, minusContexts, eraseAndExclude, evaluateRule}
+use Rattle.language.specs.Evaluate.{column, evaluate, markedStages, contextStages, contextsBy, unionContexts, markedOf, patternOf, eraseAndExclude, evaluateRule}
 use Rattle.book.specs.Kind.{kindOf, isLetter, isName}
 use Rattle.book.specs.Text.{define, rule}
 use Rattle.book.specs.StackLaws.{Leaves}
+<<<<<<< ours
 use Rattle.book.specs.Program.{pairCode, joinCode, postfix, patternProgram, finishProgram, contextsProgram, program}
 use Rattle.codes.specs.Execute.{Store, Ran, ran, failed, stuck, afterRan, thenRan, pushMade, step, execute}
+=======
+use Rattle.book.specs.Program.{pairCode, joinCode, postfix, contextProgram, finishProgram, contextsProgram, unionProgram, setProgram, program}
+use Rattle.evaluate.specs.Execute.{Store, Ran, ran, failed, stuck, afterRan, thenRan, pushMade, step, execute}
+>>>>>>> theirs
 
 abbrev pub AllLeaves : List (Expr × Expr) → Type 0
 AllLeaves [] = Unit {0}
@@ -180,34 +186,63 @@ module _ (fmt : Format) (ls : List ℕ) (env : List (ℕ × Machine)) (kept : Ma
       ∙ then-same (pairStage fmt k without (allMachine (length ls)) E) _ _ (λ D. pushed 8 [] (store (D ∷ []) P R) [] (pairStage fmt k both kept D) refl ∙ nothing-more (pairStage fmt k both kept D) P R))
       ∙ sym (then-row (eraseStage fmt (length ls) Y) (λ E. pairStage fmt k without (allMachine (length ls)) E) (λ R. pairStage fmt k both kept R))
 
-  contexts-leave : (cs : List (Expr × Expr)) → AllLeaves cs → (X P R : Machine) → leaves (contextsProgram cs) (X ∷ []) P R ≡ thenMade (minusContexts fmt ls env P cs X) finished
-  unfolding minusContexts step
-  contexts-leave [] h X P R = finish-leaves X P R ∙ sym (then-present X finished)
-  contexts-leave (c ∷ cs) (h, g, t) X P R =
-      expression-leaves (c .0) h _ (X ∷ []) P R
-      ∙ then-same (evaluate fmt ls env (c .0)) _ _ (λ L. expression-leaves (c .1) g _ (L ∷ X ∷ []) P R
-      ∙ then-same (evaluate fmt ls env (c .1)) _ _ (λ B. stored 6 _ (store (B ∷ L ∷ X ∷ []) P R) (store (L ∷ X ∷ []) P B) refl
-      ∙ marked-leaves 4 B _ L (X ∷ []) P B (λ A. refl)
-      ∙ then-same (markedStages fmt (length ls) L P B) _ _ (λ C. pushed 45 (contextsProgram cs) (store (C ∷ X ∷ []) P B) [] (pairStage fmt k without X C) refl
-      ∙ then-same (pairStage fmt k without X C) _ _ (λ Y. contexts-leave cs t Y P B)
-      ∙ sym (then-row (pairStage fmt k without X C) (λ Y. minusContexts fmt ls env P cs Y) finished))
-      ∙ sym (then-row (markedStages fmt (length ls) L P B) (λ C. thenMade (pairStage fmt k without X C) λ Y. minusContexts fmt ls env P cs Y) finished))
-      ∙ sym (then-row (evaluate fmt ls env (c .1)) (λ B. thenMade (markedStages fmt (length ls) L P B) λ C. thenMade (pairStage fmt k without X C) λ Y. minusContexts fmt ls env P cs Y) finished))
-      ∙ sym (then-row (evaluate fmt ls env (c .0)) (λ L. thenMade (evaluate fmt ls env (c .1)) λ B. thenMade (markedStages fmt (length ls) L P B) λ C. thenMade (pairStage fmt k without X C) λ Y. minusContexts fmt ls env P cs Y) finished)
+  -- one context, with l and r on the stack
+  context-leaves : (c : Expr × Expr) → Leaves (c .0) → Leaves (c .1) → (q : List ℕ) (st : List Machine) (P R₀ : Machine) (f : Machine → Made)
+      → ((C R : Machine) → leaves q (C ∷ st) P R ≡ f C)
+      → leaves (postfix (c .0) ++ (postfix (c .1) ++ (contextProgram ++ q))) st P R₀ ≡ thenMade (contextStages fmt ls env P c) f
+  unfolding contextStages step
+  context-leaves c h g q st P R₀ f rest =
+      expression-leaves (c .0) h _ st P R₀
+      ∙ then-same (evaluate fmt ls env (c .0)) _ _ (λ L. expression-leaves (c .1) g _ (L ∷ st) P R₀
+      ∙ then-same (evaluate fmt ls env (c .1)) _ _ (λ B. stored 6 _ (store (B ∷ L ∷ st) P R₀) (store (L ∷ st) P B) refl
+      ∙ marked-leaves 4 B q L st P B (λ A. refl)
+      ∙ then-same (markedStages fmt (length ls) L P B) _ _ (λ C. rest C B))
+      ∙ sym (then-row (evaluate fmt ls env (c .1)) (λ B. markedStages fmt (length ls) L P B) f))
+      ∙ sym (then-row (evaluate fmt ls env (c .0)) (λ L. thenMade (evaluate fmt ls env (c .1)) λ B. markedStages fmt (length ls) L P B) f)
+
+  pair-leaves : (o : Pairing) (q : List ℕ) (A B : Machine) (st : List Machine) (P R : Machine) → leaves (pairCode o ∷ q) (B ∷ A ∷ st) P R ≡ thenMade (pairStage fmt k o A B) (λ M. leaves q (M ∷ st) P R)
+  unfolding step
+  pair-leaves either q A B st P R = pushed 124 q (store (B ∷ A ∷ st) P R) st (pairStage fmt k either A B) refl
+  pair-leaves both q A B st P R = pushed 38 q (store (B ∷ A ∷ st) P R) st (pairStage fmt k both A B) refl
+  pair-leaves without q A B st P R = pushed 45 q (store (B ∷ A ∷ st) P R) st (pairStage fmt k without A B) refl
+
+  contexts-leave : (o : Pairing) (cs : List (Expr × Expr)) → AllLeaves cs → (X P R : Machine) → leaves (contextsProgram o cs) (X ∷ []) P R ≡ thenMade (contextsBy fmt ls env o P cs X) finished
+  unfolding contextsBy
+  contexts-leave o [] h X P R = finish-leaves X P R ∙ sym (then-present X finished)
+  contexts-leave o (c ∷ cs) (h, g, t) X P R =
+      context-leaves c h g (pairCode o ∷ contextsProgram o cs) (X ∷ []) P R (λ C. thenMade (pairStage fmt k o X C) λ Y. thenMade (contextsBy fmt ls env o P cs Y) finished)
+      (λ C B. pair-leaves o (contextsProgram o cs) X C [] P B ∙ then-same (pairStage fmt k o X C) _ _ (λ Y. contexts-leave o cs t Y P B))
+      ∙ then-same (contextStages fmt ls env P c) _ _ (λ C. sym (then-row (pairStage fmt k o X C) (λ Y. contextsBy fmt ls env o P cs Y) finished))
+      ∙ sym (then-row (contextStages fmt ls env P c) (λ C. thenMade (pairStage fmt k o X C) λ Y. contextsBy fmt ls env o P cs Y) finished)
+
+  union-leaves : (c : Expr × Expr) (cs : List (Expr × Expr)) → AllLeaves (c ∷ cs) → (P R : Machine) → leaves (unionProgram (c ∷ cs)) [] P R ≡ thenMade (unionContexts fmt ls env P (c ∷ cs)) finished
+  unfolding unionContexts
+  union-leaves c cs (h, g, t) P R =
+      context-leaves c h g (contextsProgram either cs) [] P R (λ X. thenMade (contextsBy fmt ls env either P cs X) finished) (λ X B. contexts-leave either cs t X P B)
+      ∙ sym (then-row (contextStages fmt ls env P c) (λ X. contextsBy fmt ls env either P cs X) finished)
+
+  set-leaves : (kind : RuleKind) (cs : List (Expr × Expr)) → AllLeaves cs → Enough kind cs → (P R : Machine) → leaves (setProgram kind cs) [] P R ≡ thenMade (markedOf fmt ls env kind P cs) finished
+  unfolding markedOf step
+  set-leaves restricts cs t x P R =
+      given 1 _ (store [] P R) (allMachine (length ls)) refl
+      ∙ marked-leaves 1 (allMachine (length ls)) (contextsProgram without cs) (allMachine (length ls)) [] P R (λ A. refl)
+      ∙ then-same (markedStages fmt (length ls) (allMachine (length ls)) P (allMachine (length ls))) _ _ (λ X. contexts-leave without cs t X P R)
+      ∙ sym (then-row (markedStages fmt (length ls) (allMachine (length ls)) P (allMachine (length ls))) (λ X. contextsBy fmt ls env without P cs X) finished)
+  set-leaves forbids [] t x P R = absurd x
+  set-leaves forbids (c ∷ cs) t x P R = union-leaves c cs t P R
+  set-leaves obliges [] t x P R = absurd x
+  set-leaves obliges (c ∷ cs) t x P R = union-leaves c cs t P R
 
   -- RULES: their program leaves the book met with the rule.
-  pub rule-leaves : (p : Expr) (cs : List (Expr × Expr)) → Leaves p → AllLeaves cs → (P₀ R₀ : Machine)
-      → leaves (program (rule restricts p cs)) [] P₀ R₀ ≡ thenMade (evaluateRule fmt ls env p cs) (λ R. pairStage fmt k both kept R)
+  pub rule-leaves : (kind : RuleKind) (p : Expr) (cs : List (Expr × Expr)) → Leaves (patternOf kind p) → AllLeaves cs → Enough kind cs → (P₀ R₀ : Machine)
+      → leaves (program (rule kind p cs)) [] P₀ R₀ ≡ thenMade (evaluateRule fmt ls env kind p cs) (λ R. pairStage fmt k both kept R)
   unfolding evaluateRule step
-  rule-leaves p cs h t P₀ R₀ =
-      expression-leaves p h (patternProgram ++ contextsProgram cs) [] P₀ R₀
-      ∙ then-same (evaluate fmt ls env p) _ _ (λ P. stored 5 _ (store (P ∷ []) P₀ R₀) (store [] P R₀) refl
-      ∙ given 1 _ (store [] P R₀) (allMachine (length ls)) refl
-      ∙ marked-leaves 1 (allMachine (length ls)) (contextsProgram cs) (allMachine (length ls)) [] P R₀ (λ A. refl)
-      ∙ then-same (markedStages fmt (length ls) (allMachine (length ls)) P (allMachine (length ls))) _ _ (λ X. contexts-leave cs t X P R₀
-      ∙ sym (then-row (minusContexts fmt ls env P cs X) (λ Y. eraseAndExclude fmt (length ls) Y) (λ R. pairStage fmt k both kept R)))
-      ∙ sym (then-row (markedStages fmt (length ls) (allMachine (length ls)) P (allMachine (length ls))) (λ X. thenMade (minusContexts fmt ls env P cs X) λ Y. eraseAndExclude fmt (length ls) Y) (λ R. pairStage fmt k both kept R)))
-      ∙ sym (then-row (evaluate fmt ls env p) (λ P. thenMade (markedStages fmt (length ls) (allMachine (length ls)) P (allMachine (length ls))) λ X. thenMade (minusContexts fmt ls env P cs X) λ Y. eraseAndExclude fmt (length ls) Y) (λ R. pairStage fmt k both kept R))
+  rule-leaves kind p cs h t x P₀ R₀ =
+      expression-leaves (patternOf kind p) h (5 ∷ setProgram kind cs) [] P₀ R₀
+      ∙ then-same (evaluate fmt ls env (patternOf kind p)) _ _ (λ P. stored 5 _ (store (P ∷ []) P₀ R₀) (store [] P R₀) refl
+      ∙ set-leaves kind cs t x P R₀
+      ∙ sym (then-row (markedOf fmt ls env kind P cs) (λ Y. eraseAndExclude fmt (length ls) Y) (λ R. pairStage fmt k both kept R)))
+      ∙ sym (then-row (evaluate fmt ls env (patternOf kind p)) (λ P. thenMade (markedOf fmt ls env kind P cs) λ Y. eraseAndExclude fmt (length ls) Y) (λ R. pairStage fmt k both kept R))
 
   -- DEFINITIONS: their program leaves the machine of the name.
   pub define-leaves : (x : ℕ) (e : Expr) → Leaves e → (P₀ R₀ : Machine) → leaves (program (define x e)) [] P₀ R₀ ≡ evaluate fmt ls env e

@@ -10,6 +10,7 @@ pub mod Expression
 pub mod Environment
 pub mod Evaluate
 pub mod Makes
+pub mod Stagewise
 pub mod Matches
 pub mod ExpressionLaws
 pub mod RuleLaws

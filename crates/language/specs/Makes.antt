@@ -15,7 +15,8 @@ use Rattle.automata.specs.Given.{letterMachine, dotMachine, emptyMachine, allMa
 use Rattle.automata.specs.Stages.{Pairing, either, both, without, combine, pairStage, concatStage, starStage, eraseStage}
 use Rattle.language.specs.Expression.{Expr, letter, name, dot, empty, pair, join, star, plus, option, complement}
 use Rattle.language.specs.Environment.{lookup}
-use Rattle.language.specs.Evaluate.{column, evaluate, markedStages, minusContexts, eraseAndExclude, evaluateRule}
+use Rattle.language.specs.Restriction.{RuleKind, restricts, forbids, obliges, Some, Enough}
+use Rattle.language.specs.Evaluate.{column, evaluate, markedStages, contextStages, contextsBy, unionContexts, markedOf, patternOf, eraseAndExclude, evaluateRule}
 
 module _ (fmt : Format) (k : ℕ) where
   -- "`|`, `&`, `-`: a set is a pair reached from (0, 0)."
@@ -59,22 +60,29 @@ module _ (fmt : Format) (ls : List ℕ) (env : List (ℕ × Machine)) where
       Then (Joins fmt (suc (length ls)) B (markMachine (length ls))) λ C.
       Joins fmt (suc (length ls)) C R
 
-  -- "for each context l, r, then l M p M r joined left to right, then X becomes X minus it"
-  abbrev pub MakesContexts : Machine → List (Expr × Expr) → Machine → Made → Type 0
-  MakesContexts P [] X = Given X
-  MakesContexts P (c ∷ cs) X =
-      Then (Makes (c .0)) λ L.
-      Then (Makes (c .1)) λ R.
-      Then (MakesMarked L P R) λ C.
-      Then (Pairs fmt (suc (length ls)) without X C) λ Y.
-      MakesContexts P cs Y
+  -- One context: "l, r, then l M p M r joined left to right".
+  abbrev pub MakesContext : Machine → Expr × Expr → Made → Type 0
+  MakesContext P c = Then (Makes (c .0)) λ L. Then (Makes (c .1)) λ R. MakesMarked L P R
 
-  -- "For a rule: p; X = `.*` M p M `.*`, joined left to right; for each context ..; then E = erase X; then `.*-E`."
-  abbrev pub MakesRule : Expr → List (Expr × Expr) → Made → Type 0
-  MakesRule p cs =
-      Then (Makes p) λ P.
-      Then (MakesMarked (allMachine (length ls)) P (allMachine (length ls))) λ X.
-      Then (MakesContexts P cs X) λ Y.
+  -- "then X becomes X minus it"; for `<` and `^` "`|` of those so far with it"
+  abbrev pub MakesContexts : Pairing → Machine → List (Expr × Expr) → Machine → Made → Type 0
+  MakesContexts o P [] X = Given X
+  MakesContexts o P (c ∷ cs) X = Then (MakesContext P c) λ C. Then (Pairs fmt (suc (length ls)) o X C) λ Y. MakesContexts o P cs Y
+
+  -- (Without a context the line is malformed, and refused before.)
+  abbrev pub MakesUnion : Machine → List (Expr × Expr) → Made → Type 0
+  MakesUnion P [] = λ r. ⊥
+  MakesUnion P (c ∷ cs) = Then (MakesContext P c) λ X. MakesContexts either P cs X
+
+  abbrev pub MakesSet : RuleKind → Machine → List (Expr × Expr) → Made → Type 0
+  MakesSet restricts P cs = Then (MakesMarked (allMachine (length ls)) P (allMachine (length ls))) λ X. MakesContexts without P cs X
+  MakesSet forbids P cs = MakesUnion P cs
+  MakesSet obliges P cs = MakesUnion P cs
+
+  abbrev pub MakesRule : RuleKind → Expr → List (Expr × Expr) → Made → Type 0
+  MakesRule kind p cs =
+      Then (Makes (patternOf kind p)) λ P.
+      Then (MakesSet kind P cs) λ Y.
       Then (Erasing fmt (length ls) Y) λ E.
       Pairs fmt (suc (length ls)) without (allMachine (length ls)) E
 
@@ -122,21 +130,33 @@ module _ (fmt : Format) (ls : List ℕ) (env : List (ℕ × Machine)) where
       then-exactly _ _ _ _ (joins-exactly fmt c B (markMachine (length ls))) λ C.
       joins-exactly fmt c C R
 
-  contexts-exactly : (P : Machine) (cs : List (Expr × Expr)) (X : Machine) → Exactly (MakesContexts fmt ls env P cs X) (minusContexts fmt ls env P cs X)
-  unfolding minusContexts
-  contexts-exactly P [] X = given-exactly X
-  contexts-exactly P (d ∷ cs) X =
-      then-exactly _ _ _ _ (makes-exactly (d .0)) λ L.
-      then-exactly _ _ _ _ (makes-exactly (d .1)) λ R.
-      then-exactly _ _ _ _ (marked-exactly L P R) λ C.
-      then-exactly _ _ _ _ (pairs-exactly fmt c without X C) λ Y.
-      contexts-exactly P cs Y
+  context-exactly : (P : Machine) (d : Expr × Expr) → Exactly (MakesContext fmt ls env P d) (contextStages fmt ls env P d)
+  unfolding contextStages
+  context-exactly P d = then-exactly _ _ _ _ (makes-exactly (d .0)) λ L. then-exactly _ _ _ _ (makes-exactly (d .1)) λ R. marked-exactly L P R
 
-  pub rule-exactly : (p : Expr) (cs : List (Expr × Expr)) → Exactly (MakesRule fmt ls env p cs) (evaluateRule fmt ls env p cs)
+  contexts-exactly : (o : Pairing) (P : Machine) (cs : List (Expr × Expr)) (X : Machine) → Exactly (MakesContexts fmt ls env o P cs X) (contextsBy fmt ls env o P cs X)
+  unfolding contextsBy
+  contexts-exactly o P [] X = given-exactly X
+  contexts-exactly o P (d ∷ cs) X =
+      then-exactly _ _ _ _ (context-exactly P d) λ C.
+      then-exactly _ _ _ _ (pairs-exactly fmt c o X C) λ Y.
+      contexts-exactly o P cs Y
+
+  union-exactly : (P : Machine) (cs : List (Expr × Expr)) → Some cs → Exactly (MakesUnion fmt ls env P cs) (unionContexts fmt ls env P cs)
+  unfolding unionContexts
+  union-exactly P [] h = absurd h
+  union-exactly P (d ∷ cs) h = then-exactly _ _ _ _ (context-exactly P d) λ X. contexts-exactly either P cs X
+
+  set-exactly : (kind : RuleKind) (P : Machine) (cs : List (Expr × Expr)) → Enough kind cs → Exactly (MakesSet fmt ls env kind P cs) (markedOf fmt ls env kind P cs)
+  unfolding markedOf
+  set-exactly restricts P cs h = then-exactly _ _ _ _ (marked-exactly (allMachine (length ls)) P (allMachine (length ls))) λ X. contexts-exactly without P cs X
+  set-exactly forbids P cs h = union-exactly P cs h
+  set-exactly obliges P cs h = union-exactly P cs h
+
+  pub rule-exactly : (kind : RuleKind) (p : Expr) (cs : List (Expr × Expr)) → Enough kind cs → Exactly (MakesRule fmt ls env kind p cs) (evaluateRule fmt ls env kind p cs)
   unfolding evaluateRule eraseAndExclude
-  rule-exactly p cs =
-      then-exactly _ _ _ _ (makes-exactly p) λ P.
-      then-exactly _ _ _ _ (marked-exactly (allMachine (length ls)) P (allMachine (length ls))) λ X.
-      then-exactly _ _ _ _ (contexts-exactly P cs X) λ Y.
+  rule-exactly kind p cs h =
+      then-exactly _ _ _ _ (makes-exactly (patternOf kind p)) λ P.
+      then-exactly _ _ _ _ (set-exactly kind P cs h) λ Y.
       then-exactly _ _ _ _ (erasing-exactly fmt (length ls) Y) λ E.
       pairs-exactly fmt c without (allMachine (length ls)) E

@@ -3,11 +3,13 @@ use book::kinds::AMPERSAND_KIND;
 use book::kinds::AT_KIND;
 use book::kinds::BANG_KIND;
 use book::kinds::BAR_KIND;
+use book::kinds::CARET_KIND;
 use book::kinds::CLOSE_KIND;
 use book::kinds::COLON_KIND;
 use book::kinds::DOT_KIND;
 use book::kinds::EQUALS_KIND;
 use book::kinds::GREATER_KIND;
+use book::kinds::LESS_KIND;
 use book::kinds::LETTER_KIND;
 use book::kinds::LINE_END_KIND;
 use book::kinds::MINUS_KIND;
@@ -92,7 +94,7 @@ pub const KINDS: KindTable = [
     STRAY_KIND,
     COLON_KIND,
     STRAY_KIND,
-    STRAY_KIND,
+    LESS_KIND,
     EQUALS_KIND,
     GREATER_KIND,
     QUESTION_KIND,
@@ -128,7 +130,7 @@ pub const KINDS: KindTable = [
     STRAY_KIND,
     STRAY_KIND,
     STRAY_KIND,
-    STRAY_KIND,
+    CARET_KIND,
     UNDERSCORE_KIND,
     // 0x60
     STRAY_KIND,
