@@ -107,7 +107,7 @@ contexts-stops : (ts : List ℕ) (cs : List (Expr × Expr)) → Contexts ts cs �
 contexts-stops ts cs (none z) = rw z tt
 contexts-stops ts cs (more a b c z) = rw z refl
 
-contexts-end : (kind : RuleKind) (n : ℕ) (p : Expr) (cs : List (Expr × Expr)) → Enough kind cs → contextsOf kind n p cs [] ≡ rule kind p cs
+pub contexts-end : (kind : RuleKind) (n : ℕ) (p : Expr) (cs : List (Expr × Expr)) → Enough kind cs → contextsOf kind n p cs [] ≡ rule kind p cs
 contexts-end kind zero p cs h = ended-whole kind p cs h
 contexts-end kind (suc n) p cs h = ended-whole kind p cs h
 

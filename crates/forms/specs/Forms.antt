@@ -3,13 +3,15 @@ use mathlib.Core.Path.{_≡_}
 use mathlib.Core.Bool.{true}
 use mathlib.Core.List.{List, [], _∷_, _++_}
 use Prim.Native.Nat.{ℕ, suc, _+_, _*_, _-_, _≤_}
-use lib.ListN.{length, take}
-use Rattle.language.specs.Restriction.{restricts}
+use lib.ListN.{length, take, getD}
+use Rattle.automata.specs.Stages.{Pairing, either, without}
+use Rattle.language.specs.Restriction.{RuleKind, restricts, forbids, obliges, Enough}
+use Rattle.language.specs.Evaluate.{patternOf}
 use Rattle.language.specs.Expression.{Expr}
-use Rattle.book.specs.Kind.{isName, underscoreKind}
+use Rattle.book.specs.Kind.{kindOf, isName, underscoreKind, greaterKind, lessKind, caretKind}
 use Rattle.book.specs.Reader.{got, bad, readChoice}
-use Rattle.book.specs.Text.{countOf, Form, define, rule, malformed, formOf, contextsOf, onRead, tailAt}
-use Rattle.book.specs.Program.{postfix, program, patternProgram, contextProgram}
+use Rattle.book.specs.Text.{countOf, Form, define, rule, malformed, formOf, needsContext, contextsOf, onRead, tailAt}
+use Rattle.book.specs.Program.{storePatternCode, complementCode, pairCode, postfix, program, patternProgram, contextProgram}
 use Rattle.signs.specs.Buffer.{Grown}
 use Rattle.signs.specs.Spots.{left}
 use Rattle.signs.specs.declared.Spot.{Spot}
@@ -64,7 +66,7 @@ pub record Right (s o : List ℕ) (c : Spot) (o′ : List ℕ) (n : Spot) : Type
   pub fewer : suc (length (left s n)) ≤ length (left s c)
   pub marks : suc (countOf underscoreKind (left s n)) ≤ countOf underscoreKind (left s c)
   pub falls : suc (length s - n .cursor .at) ≤ length s - c .cursor .at
-  pub room : n .pos + 2 * (length s - n .cursor .at) ≤ c .pos + 2 * (length s - c .cursor .at) + 10
+  pub room : n .pos + 2 * (length s - n .cursor .at) ≤ c .pos + 2 * (length s - c .cursor .at) + 9
 
 abbrev pub RightSays : List ℕ → List ℕ → Spot → List ℕ → Made → Type 0
 RightSays s o c o′ (Done n) = Right s o c o′ n
@@ -73,52 +75,75 @@ RightSays s o c o′ Refused = (f : Expr → List ℕ → Form) → rightOf (lef
 pub record ReadsRight (s o : List ℕ) (c : Spot) (o′ : List ℕ) (r : Made) : Type 0 where
   pub says : RightSays s o c o′ r
 
-pub record Context (s o : List ℕ) (c : Spot) (o′ : List ℕ) (n : Spot) : Type 0 where
+-- a context, and a row of codes behind its sides
+pub record Context (s o : List ℕ) (c : Spot) (row o′ : List ℕ) (n : Spot) : Type 0 where
   pub before : Expr
   pub behind : Expr
   pub reads : (f : Expr → Expr → List ℕ → Form) → contextOf (left s c) f ≡ f before behind (left s n)
-  pub code : take (n .pos) o′ ≡ take (c .pos) o ++ (postfix before ++ (postfix behind ++ contextProgram))
+  pub code : take (n .pos) o′ ≡ take (c .pos) o ++ (postfix before ++ (postfix behind ++ row))
   pub grown : Grown o (c .pos) o′ (n .pos)
   pub fewer : suc (length (left s n)) ≤ length (left s c)
   pub marks : suc (countOf underscoreKind (left s n)) ≤ countOf underscoreKind (left s c)
   pub falls : suc (length s - n .cursor .at) ≤ length s - c .cursor .at
-  pub room : n .pos + 2 * (length s - n .cursor .at) ≤ c .pos + 2 * (length s - c .cursor .at) + 10
+  pub room : n .pos + 2 * (length s - n .cursor .at) ≤ c .pos + 2 * (length s - c .cursor .at) + length row
 
-abbrev pub ContextSays : List ℕ → List ℕ → Spot → List ℕ → Made → Type 0
-ContextSays s o c o′ (Done n) = Context s o c o′ n
-ContextSays s o c o′ Refused = (f : Expr → Expr → List ℕ → Form) → contextOf (left s c) f ≡ malformed
+abbrev pub ContextSays : List ℕ → List ℕ → Spot → List ℕ → List ℕ → Made → Type 0
+ContextSays s o c row o′ (Done n) = Context s o c row o′ n
+ContextSays s o c row o′ Refused = (f : Expr → Expr → List ℕ → Form) → contextOf (left s c) f ≡ malformed
 
-pub record ReadsContext (s o : List ℕ) (c : Spot) (o′ : List ℕ) (r : Made) : Type 0 where
-  pub says : ContextSays s o c o′ r
+pub record ReadsContext (s o : List ℕ) (c : Spot) (row o′ : List ℕ) (r : Made) : Type 0 where
+  pub says : ContextSays s o c row o′ r
 
--- the code of the contexts so far
-abbrev pub contextsCode : List (Expr × Expr) → List ℕ
-contextsCode [] = []
-contextsCode (c ∷ cs) = postfix (c .0) ++ (postfix (c .1) ++ (contextProgram ++ contextsCode cs))
+-- the code of the contexts so far: each is taken from X, or met with those before it, where there are any
+abbrev pub contextsCode : Pairing → List (Expr × Expr) → List ℕ
+contextsCode o [] = []
+contextsCode o (c ∷ cs) = postfix (c .0) ++ (postfix (c .1) ++ (contextProgram ++ (pairCode o ∷ contextsCode o cs)))
+
+abbrev pub unionCode : List (Expr × Expr) → List ℕ
+unionCode [] = []
+unionCode (c ∷ cs) = postfix (c .0) ++ (postfix (c .1) ++ (contextProgram ++ contextsCode either cs))
+
+abbrev pub setCode : RuleKind → List (Expr × Expr) → List ℕ
+setCode restricts cs = patternProgram ++ contextsCode without cs
+setCode forbids cs = unionCode cs
+setCode obliges cs = unionCode cs
+
+-- "X minus it"; "`|` of those so far with it"
+abbrev pub pairing : RuleKind → Pairing
+pairing restricts = without
+pairing forbids = either
+pairing obliges = either
 
 -- A rule read up to c: its pattern, the contexts so far, and what is left to read of them.
-pub record Ruled (s o : List ℕ) (c : Spot) : Type 0 where
+pub record Ruled (kind : RuleKind) (contexts : List (Expr × Expr)) (s o : List ℕ) (c : Spot) : Type 0 where
   pub pattern : Expr
-  pub contexts : List (Expr × Expr)
   pub fuel : ℕ
   pub enough : length (left s c) ≤ fuel
-  pub form : formOf s ≡ contextsOf fuel pattern contexts (left s c)
-  pub code : take (c .pos) o ≡ postfix pattern ++ (patternProgram ++ contextsCode contexts)
+  pub form : formOf s ≡ contextsOf kind fuel pattern contexts (left s c)
+  pub code : take (c .pos) o ≡ postfix (patternOf kind pattern) ++ (storePatternCode ∷ setCode kind contexts)
   pub few : length contexts + countOf underscoreKind (left s c) ≤ 4
   pub room : c .pos + 2 * (length s - c .cursor .at) + 53 ≤ length o + 10 * length contexts
 
+-- The same of a rule that may end here, with the operator of its further contexts.
+pub record Going (s o : List ℕ) (c : Spot) (operator : ℕ) : Type 0 where
+  pub kind : RuleKind
+  pub contexts : List (Expr × Expr)
+  pub ruled : Ruled kind contexts s o c
+  pub some : Enough kind contexts
+  pub pairs : operator ≡ pairCode (pairing kind)
+
 -- All its contexts are read: the line ends there.
-pub record Ended (s o : List ℕ) (c : Spot) (o′ : List ℕ) (n : Spot) : Type 0 where
-  pub ruled : Ruled s o′ n
+pub record Ended (s o : List ℕ) (c : Spot) (operator : ℕ) (o′ : List ℕ) (n : Spot) : Type 0 where
+  pub going : Going s o′ n operator
   pub none : left s n ≡ []
   pub grown : Grown o (c .pos) o′ (n .pos)
 
-abbrev pub ContextsSay : List ℕ → List ℕ → Spot → List ℕ → Made → Type 0
-ContextsSay s o c o′ (Done n) = Ended s o c o′ n
-ContextsSay s o c o′ Refused = formOf s ≡ malformed
+abbrev pub ContextsSay : List ℕ → List ℕ → Spot → ℕ → List ℕ → Made → Type 0
+ContextsSay s o c operator o′ (Done n) = Ended s o c operator o′ n
+ContextsSay s o c operator o′ Refused = formOf s ≡ malformed
 
-pub record ReadsContexts (s o : List ℕ) (c : Spot) (o′ : List ℕ) (r : Made) : Type 0 where
-  pub says : ContextsSay s o c o′ r
+pub record ReadsContexts (s o : List ℕ) (c : Spot) (operator : ℕ) (o′ : List ℕ) (r : Made) : Type 0 where
+  pub says : ContextsSay s o c operator o′ r
 
 -- ---- lines
 
@@ -130,18 +155,48 @@ pub record Defines (s o o′ : List ℕ) (x len : ℕ) : Type 0 where
   pub grown : Grown o 0 o′ len
   pub fits : len ≤ length o′
 
-pub record Rules (s o o′ : List ℕ) (len : ℕ) : Type 0 where
+-- its program stands up to len, and the buffer is as it was before pos and past len
+pub record Rules (s o : List ℕ) (pos : ℕ) (o′ : List ℕ) (len : ℕ) : Type 0 where
+  pub kind : RuleKind
   pub pattern : Expr
   pub contexts : List (Expr × Expr)
-  pub form : formOf s ≡ rule restricts pattern contexts
-  pub code : take len o′ ≡ program (rule restricts pattern contexts)
-  pub grown : Grown o 0 o′ len
+  pub form : formOf s ≡ rule kind pattern contexts
+  pub code : take len o′ ≡ program (rule kind pattern contexts)
+  pub grown : Grown o pos o′ len
   pub fits : len ≤ length o′
 
 abbrev pub FormSays : List ℕ → List ℕ → List ℕ → Code → Type 0
 FormSays s o o′ (Define x len) = Defines s o o′ x len
-FormSays s o o′ (Rule len) = Rules s o o′ len
+FormSays s o o′ (Rule len) = Rules s o 0 o′ len
 FormSays s o o′ Malformed = formOf s ≡ malformed
 
 pub record ReadsForm (s o o′ : List ℕ) (r : Code) : Type 0 where
   pub says : FormSays s o o′ r
+
+-- a rule, from its contexts on
+abbrev pub RestSays : List ℕ → List ℕ → Spot → List ℕ → Code → Type 0
+RestSays s o c o′ (Define x len) = ⊥
+RestSays s o c o′ (Rule len) = Rules s o (c .pos) o′ len
+RestSays s o c o′ Malformed = formOf s ≡ malformed
+
+pub record ReadsRest (s o : List ℕ) (c : Spot) (o′ : List ℕ) (r : Code) : Type 0 where
+  pub says : RestSays s o c o′ r
+
+-- the kind of the sign that a rule begins with
+abbrev pub signOf : RuleKind → ℕ
+signOf restricts = greaterKind
+signOf forbids = lessKind
+signOf obliges = caretKind
+
+-- what stands behind the pattern: "For `^`: q = `.*-p` first"
+abbrev pub storeProgram : RuleKind → List ℕ
+storeProgram restricts = storePatternCode ∷ []
+storeProgram forbids = storePatternCode ∷ []
+storeProgram obliges = complementCode ∷ storePatternCode ∷ []
+
+-- A line that begins as one of the two kinds that need a context, and the row of codes that stands behind its pattern.
+pub record Sister (s row : List ℕ) : Type 0 where
+  pub kind : RuleKind
+  pub needs : needsContext kind ≡ true
+  pub sign : kindOf (getD s 0 0) ≡ signOf kind
+  pub row-is : row ≡ storeProgram kind

@@ -2,6 +2,7 @@
 // whose brackets and contexts are counted already.
 use book::codes::ALL_CODE;
 use book::codes::COMPLEMENT_CODE;
+use book::codes::EITHER_CODE;
 use book::codes::ERASE_CODE;
 use book::codes::JOIN_CODE;
 use book::codes::MARK_CODE;
@@ -11,8 +12,10 @@ use book::codes::RIGHT_CODE;
 use book::codes::STORE_PATTERN_CODE;
 use book::codes::STORE_RIGHT_CODE;
 use book::codes::WITHOUT_CODE;
+use book::kinds::CARET_KIND;
 use book::kinds::EQUALS_KIND;
 use book::kinds::GREATER_KIND;
+use book::kinds::LESS_KIND;
 use book::kinds::NAME_KIND;
 use book::kinds::SLASH_KIND;
 use book::kinds::UNDERSCORE_KIND;
@@ -21,16 +24,19 @@ use lexer::Cursor;
 use lexer::kinds::KindTable;
 use lexer::kinds::kind;
 use signs::Spot;
+use signs::put;
 ghost use mathlib.Core.Path.{_≡_};
+ghost use mathlib.Core.List.{[], _∷_, _++_};
 ghost use Prim.Native.Nat.{_+_, _*_, _-_, _≤_};
 ghost use lib.ListN.{length, getD};
 ghost use Rattle.book.specs.Kind.{kindOf, equalsKind, greaterKind, underscoreKind};
 ghost use Rattle.book.specs.Text.{countOf};
+ghost use Rattle.book.specs.Program.{contextProgram};
 ghost use Rattle.lexer.specs.Kinds.{Kinds};
-ghost use Rattle.forms.specs.Forms.{Row, Room, ReadsThen, ReadsRight, ReadsContext, Ruled, ReadsContexts, ReadsForm};
+ghost use Rattle.forms.specs.Forms.{Row, Room, ReadsThen, ReadsRight, ReadsContext, Going, ReadsContexts, ReadsRest, Sister, ReadsForm};
 
-// The programs of specs/Program.antt of `book`.
-const PATTERN_PROGRAM: [u8; 10] = [
+// The programs of specs/Program.antt of `book`. What stands behind the pattern: of `>`, of `<`, of `^`.
+const RESTRICTING_PROGRAM: [u8; 10] = [
     STORE_PATTERN_CODE,
     ALL_CODE,
     MARK_CODE,
@@ -43,7 +49,11 @@ const PATTERN_PROGRAM: [u8; 10] = [
     JOIN_CODE,
 ];
 
-const CONTEXT_PROGRAM: [u8; 10] = [
+const FORBIDDING_PROGRAM: [u8; 1] = [STORE_PATTERN_CODE];
+
+const OBLIGING_PROGRAM: [u8; 2] = [COMPLEMENT_CODE, STORE_PATTERN_CODE];
+
+const CONTEXT_PROGRAM: [u8; 9] = [
     STORE_RIGHT_CODE,
     MARK_CODE,
     JOIN_CODE,
@@ -53,7 +63,6 @@ const CONTEXT_PROGRAM: [u8; 10] = [
     JOIN_CODE,
     RIGHT_CODE,
     JOIN_CODE,
-    WITHOUT_CODE,
 ];
 
 const FINISH_PROGRAM: [u8; 3] = [ERASE_CODE, COMPLEMENT_CODE, MEET_CODE];
@@ -92,10 +101,10 @@ fn choice_then(kinds: &KindTable, line: &[u8], out: &mut [u8], c: Spot, row: &[u
     Made::Done(Spot { cursor, pos })
 }
 
-// "`_`, a choice": with X, l, r on the stack, l M p M r is taken from X.
+// "`_`, a choice": with l, r on the stack, l M p M r is made.
 fn right(kinds: &KindTable, line: &[u8], out: &mut [u8], c: Spot) -> Made
     requires { ⌜ Kinds (now kinds) ⌝ }
-    requires { ⌜ c .pos + 2 * (length (now line) - c .cursor .at) + 10 ≤ length (now out) ⌝ }
+    requires { ⌜ c .pos + 2 * (length (now line) - c .cursor .at) + 9 ≤ length (now out) ⌝ }
     ensures { λ r. ⌜ ReadsRight (now (line .entry)) (now (out .entry)) c (now (out .exit)) r ⌝ }
 {
     let behind = c.cursor;
@@ -113,8 +122,8 @@ fn right(kinds: &KindTable, line: &[u8], out: &mut [u8], c: Spot) -> Made
 // "a choice, `_`, a choice"
 fn context(kinds: &KindTable, line: &[u8], out: &mut [u8], c: Spot) -> Made
     requires { ⌜ Kinds (now kinds) ⌝ }
-    requires { ⌜ c .pos + 2 * (length (now line) - c .cursor .at) + 10 ≤ length (now out) ⌝ }
-    ensures { λ r. ⌜ ReadsContext (now (line .entry)) (now (out .entry)) c (now (out .exit)) r ⌝ }
+    requires { ⌜ c .pos + 2 * (length (now line) - c .cursor .at) + 9 ≤ length (now out) ⌝ }
+    ensures { λ r. ⌜ ReadsContext (now (line .entry)) (now (out .entry)) c contextProgram (now (out .exit)) r ⌝ }
 {
     let Made::Done(n) = choice::choice(kinds, line, out, c) else {
         return Made::Refused;
@@ -122,11 +131,23 @@ fn context(kinds: &KindTable, line: &[u8], out: &mut [u8], c: Spot) -> Made
     right(kinds, line, out, n)
 }
 
-// "then per context `/`, a choice, `_`, a choice", up to the line's end
-fn contexts(kinds: &KindTable, line: &[u8], out: &mut [u8], c: Spot) -> Made
+// The same behind other contexts: "then X becomes X minus it", or "`|` of those so far with it".
+fn further(kinds: &KindTable, line: &[u8], out: &mut [u8], c: Spot, operator: u8) -> Made
     requires { ⌜ Kinds (now kinds) ⌝ }
-    requires { ⌜ Ruled (now line) (now out) c ⌝ }
-    ensures { λ r. ⌜ ReadsContexts (now (line .entry)) (now (out .entry)) c (now (out .exit)) r ⌝ }
+    requires { ⌜ c .pos + 2 * (length (now line) - c .cursor .at) + 10 ≤ length (now out) ⌝ }
+    ensures { λ r. ⌜ ReadsContext (now (line .entry)) (now (out .entry)) c (contextProgram ++ (operator ∷ [])) (now (out .exit)) r ⌝ }
+{
+    let Made::Done(n) = context(kinds, line, out, c) else {
+        return Made::Refused;
+    };
+    Made::Done(put(out, n, operator))
+}
+
+// "then per context `/`, a choice, `_`, a choice", up to the line's end
+fn contexts(kinds: &KindTable, line: &[u8], out: &mut [u8], c: Spot, operator: u8) -> Made
+    requires { ⌜ Kinds (now kinds) ⌝ }
+    requires { ⌜ Going (now line) (now out) c operator ⌝ }
+    ensures { λ r. ⌜ ReadsContexts (now (line .entry)) (now (out .entry)) c operator (now (out .exit)) r ⌝ }
 {
     let mut here = c;
     loop {
@@ -141,7 +162,7 @@ fn contexts(kinds: &KindTable, line: &[u8], out: &mut [u8], c: Spot) -> Made
             return Made::Refused;
         }
         let next = t.next;
-        let Made::Done(n) = context(
+        let Made::Done(n) = further(
             kinds,
             line,
             out,
@@ -149,11 +170,25 @@ fn contexts(kinds: &KindTable, line: &[u8], out: &mut [u8], c: Spot) -> Made
                 cursor: next,
                 pos: here.pos,
             },
+            operator,
         ) else {
             return Made::Refused;
         };
         here = n;
     }
+}
+
+// The contexts up to the line's end, and the last codes of a rule.
+fn rest(kinds: &KindTable, line: &[u8], out: &mut [u8], c: Spot, operator: u8) -> Code
+    requires { ⌜ Kinds (now kinds) ⌝ }
+    requires { ⌜ Going (now line) (now out) c operator ⌝ }
+    ensures { λ r. ⌜ ReadsRest (now (line .entry)) (now (out .entry)) c (now (out .exit)) r ⌝ }
+{
+    let Made::Done(n) = contexts(kinds, line, out, c, operator) else {
+        return Code::Malformed;
+    };
+    let last = FINISH_PROGRAM;
+    Code::Rule(put_row(out, n.pos, &last))
 }
 
 // "a rule, `>`, a choice, then per context ..": behind the `>`
@@ -168,15 +203,40 @@ fn rule(kinds: &KindTable, line: &[u8], out: &mut [u8]) -> Code
         cursor: Cursor { at: 1 },
         pos: 0,
     };
-    let row = PATTERN_PROGRAM;
+    let row = RESTRICTING_PROGRAM;
     let Made::Done(p) = choice_then(kinds, line, out, start, &row) else {
         return Code::Malformed;
     };
-    let Made::Done(n) = contexts(kinds, line, out, p) else {
+    rest(kinds, line, out, p, WITHOUT_CODE)
+}
+
+// "A line `<` in a rule's form", "a line `^`": behind that sign, with the row of codes that stands behind the pattern. "Both need at least one context."
+fn sister(kinds: &KindTable, line: &[u8], out: &mut [u8], row: &[u8]) -> Code
+    requires { ⌜ Kinds (now kinds) ⌝ }
+    requires { ⌜ Room (now line) (now out) ⌝ }
+    requires { ⌜ Sister (now line) (now row) ⌝ }
+    requires { ⌜ countOf underscoreKind (now line) ≤ 4 ⌝ }
+    ensures { λ r. ⌜ ReadsForm (now (line .entry)) (now (out .entry)) (now (out .exit)) r ⌝ }
+{
+    let start = Spot {
+        cursor: Cursor { at: 1 },
+        pos: 0,
+    };
+    let Made::Done(p) = choice_then(kinds, line, out, start, row) else {
         return Code::Malformed;
     };
-    let last = FINISH_PROGRAM;
-    Code::Rule(put_row(out, n.pos, &last))
+    let behind = p.cursor;
+    let t = behind.token(kinds, line);
+    let k = t.kind;
+    if k != SLASH_KIND {
+        return Code::Malformed;
+    }
+    let cursor = t.next;
+    let pos = p.pos;
+    let Made::Done(n) = context(kinds, line, out, Spot { cursor, pos }) else {
+        return Code::Malformed;
+    };
+    rest(kinds, line, out, n, EITHER_CODE)
 }
 
 // "a definition, `=`, a name, a choice": behind the `=`
@@ -228,6 +288,14 @@ pub fn form(kinds: &KindTable, line: &[u8], out: &mut [u8]) -> Code
     }
     if k == GREATER_KIND {
         return rule(kinds, line, out);
+    }
+    if k == LESS_KIND {
+        let row = FORBIDDING_PROGRAM;
+        return sister(kinds, line, out, &row);
+    }
+    if k == CARET_KIND {
+        let row = OBLIGING_PROGRAM;
+        return sister(kinds, line, out, &row);
     }
     Code::Malformed
 }

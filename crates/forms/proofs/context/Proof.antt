@@ -10,7 +10,7 @@ choice-requires : tie.Need-choice-requires
 choice-requires c κs = (c .before .before .before .pre .0, omega (arith, c .before .before .before .pre .1))
 
 returns : tie.Need-returns
-returns c = context-none _ _ _ _ (choice-bad (c .before .before .before .before .choice .ensures) (c .enum-told .given .1))
+returns c = context-none _ _ _ _ _ (choice-bad (c .before .before .before .before .choice .ensures) (c .enum-told .given .1))
 
 right-requires : tie.Need-right-requires
 right-requires c κs =

@@ -6,16 +6,16 @@ use lib.ListN.{length}
 use Rattle.lexer.proofs.TokenLaws.{past-token, past-end}
 use Rattle.signs.specs.Buffer.{Grown}
 use Rattle.signs.specs.BufferLaws.{grown-none, grown-more}
-use Rattle.forms.specs.Forms.{Ruled}
-use Rattle.forms.proofs.FormLaws.{rule-other, rule-half, rule-next, context-to, context-not, contexts-end, slash-token}
+use Rattle.forms.specs.Forms.{Going}
+use Rattle.forms.proofs.FormLaws.{going-end, going-other, going-half, going-next, context-to, context-not, slash-token}
 use Rattle.forms.proofs.contexts.Statement.{statement}
 use Rattle.forms.proofs.contexts.Tie as tie
 
 abbrev Inv-loop : tie.InvT-loop
-Inv-loop kinds line out₀ here₀ out here = Ruled line out here × (length out ≡ length out₀) × Grown out₀ (here₀ .pos) out (here .pos)
+Inv-loop kinds line out₀ operator here₀ out here = Going line out here operator × (length out ≡ length out₀) × Grown out₀ (here₀ .pos) out (here .pos)
 
 abbrev μ-loop : tie.MeasureT-loop
-μ-loop kinds line out₀ here₀ out here = length line - here .cursor .at
+μ-loop kinds line out₀ operator here₀ out here = length line - here .cursor .at
 
 loop-holds : tie.Need-loop-holds Inv-loop μ-loop
 loop-holds c = (c .before .before .pre .1, refl, grown-none _ _)
@@ -24,32 +24,32 @@ token-requires : tie.Need-token-requires Inv-loop μ-loop
 token-requires c κs = c .before .before .before .before .pre .0
 
 returns : tie.Need-returns Inv-loop μ-loop
-returns c = contexts-end (c .before .before .before .before .before .loop .inv .0) (past-end (c .before .before .before .token .ensures .start) (c .if1 .taken)) (c .before .before .before .before .before .loop .inv .2)
+returns c = going-end (c .before .before .before .before .before .loop .inv .0) (past-end (c .before .before .before .token .ensures .start) (c .if1 .taken)) (c .before .before .before .before .before .loop .inv .2)
 
 returns-2 : tie.Need-returns-2 Inv-loop μ-loop
-returns-2 c = rule-other (c .before .before .before .before .before .before .loop .inv .0) (past-token (c .before .before .before .before .token .ensures .start) (c .before .if1 .left)) (c .before .before .before .before .token .ensures .kind-is) (c .if2 .taken)
+returns-2 c = going-other (c .before .before .before .before .before .before .loop .inv .0) (past-token (c .before .before .before .before .token .ensures .start) (c .before .if1 .left)) (c .before .before .before .before .token .ensures .kind-is) (c .if2 .taken)
 
-context-requires : tie.Need-context-requires Inv-loop μ-loop
-context-requires c κs =
-    let d = c .before .before .before .before .before .before .before .before .loop .inv .0 in
+further-requires : tie.Need-further-requires Inv-loop μ-loop
+further-requires c κs =
+    let d = c .before .before .before .before .before .before .before .before .loop .inv .0 .ruled in
     let x = c .before .before .before .before .before .before .token .ensures .token (slash-token _ (c .before .before .if2 .left)) in
     (c .before .before .before .before .before .before .before .before .before .before .before .pre .0, omega (arith, d .room, d .few, x .falls))
 
 returns-3 : tie.Need-returns-3 Inv-loop μ-loop
 returns-3 c =
     let x = c .before .before .before .before .before .before .before .before .before .before .before .token .ensures .token (slash-token _ (c .before .before .before .before .before .before .before .if2 .left)) in
-    rule-half (c .before .before .before .before .before .before .before .before .before .before .before .before .before .loop .inv .0) x (c .before .before .before .before .before .before .before .if2 .left) (context-not (c .before .before .before .before .context .ensures) (c .enum-told .given .1))
+    going-half (c .before .before .before .before .before .before .before .before .before .before .before .before .before .loop .inv .0) x (c .before .before .before .before .before .before .before .if2 .left) (context-not (c .before .before .before .before .further .ensures) (c .enum-told .given .1))
 
 loop-less : tie.Need-loop-less Inv-loop μ-loop
 loop-less c =
     let x = c .before .before .before .before .before .before .before .before .before .before .before .before .token .ensures .token (slash-token _ (c .before .before .before .before .before .before .before .before .if2 .left)) in
-    omega (arith, x .falls, context-to (c .before .before .before .before .before .context .ensures) (c .before .n .given .1) .falls)
+    omega (arith, x .falls, context-to (c .before .before .before .before .before .further .ensures) (c .before .n .given .1) .falls)
 
 loop-again : tie.Need-loop-again Inv-loop μ-loop
 loop-again c =
     let x = c .before .before .before .before .before .before .before .before .before .before .before .before .token .ensures .token (slash-token _ (c .before .before .before .before .before .before .before .before .if2 .left)) in
-    let t = context-to (c .before .before .before .before .before .context .ensures) (c .before .n .given .1) in
-    (rule-next (c .before .before .before .before .before .before .before .before .before .before .before .before .before .before .loop .inv .0) x _ _ (c .before .before .before .before .before .before .before .before .if2 .left) t (c .before .before .before .before .before .context .kept .1 .1 .0), c .before .before .before .before .before .context .kept .1 .1 .0 ∙ c .before .before .before .before .before .before .before .before .before .before .before .before .before .before .loop .inv .1, grown-more (c .before .before .before .before .before .before .before .before .before .before .before .before .before .before .loop .inv .2) (t .grown))
+    let t = context-to (c .before .before .before .before .before .further .ensures) (c .before .n .given .1) in
+    (going-next (c .before .before .before .before .before .before .before .before .before .before .before .before .before .before .loop .inv .0) x (c .before .before .before .before .before .before .before .before .if2 .left) _ _ t (c .before .before .before .before .before .further .kept .1 .1 .0), c .before .before .before .before .before .further .kept .1 .1 .0 ∙ c .before .before .before .before .before .before .before .before .before .before .before .before .before .before .loop .inv .1, grown-more (c .before .before .before .before .before .before .before .before .before .before .before .before .before .before .loop .inv .2) (t .grown))
 
 pub contexts-spec : {M : Type 1} → statement M
 contexts-spec =
@@ -63,10 +63,10 @@ contexts-spec =
     returns
     (λ c. c .before .before .before .before .before .before .loop .inv .1)
     returns-2
-    context-requires
+    further-requires
     (λ c. c .match .keys1)
     (λ c. c .match .keys2)
-    (λ c. c .before .before .before .before .context .kept .1 .1 .0 ∙ c .before .before .before .before .before .before .before .before .before .before .before .before .before .loop .inv .1)
+    (λ c. c .before .before .before .before .further .kept .1 .1 .0 ∙ c .before .before .before .before .before .before .before .before .before .before .before .before .before .loop .inv .1)
     returns-3
     loop-less
     loop-again)

@@ -1,6 +1,7 @@
 -- `forms::form` meets its contract, by the kind of the line's first byte.
-use mathlib.Core.Path.{sym, _∙_}
+use mathlib.Core.Path.{refl, sym, _∙_}
 use borrow.Author.Needs.{needs}
+use Rattle.language.specs.Restriction.{forbids, obliges}
 use Rattle.forms.proofs.FormLaws.{form-empty, form-neither}
 use Rattle.forms.proofs.form.Statement.{statement}
 use Rattle.forms.proofs.form.Tie as tie
@@ -11,17 +12,17 @@ returns c = form-empty _ (c .if1 .taken)
 definition-requires : tie.Need-definition-requires
 definition-requires c κs = (c .before .before .before .before .before .before .before .pre .0, (c .before .before .before .before .before .before .before .pre .1 .0, sym (c .before .before .kind .ensures) ∙ c .before .if2 .taken))
 
-returns-2 : tie.Need-returns-2
-returns-2 c = c .before .before .definition .ensures
-
 rule-requires : tie.Need-rule-requires
 rule-requires c κs = (c .before .before .before .before .before .before .before .before .pre .0, (c .before .before .before .before .before .before .before .before .pre .1 .0, (sym (c .before .before .before .kind .ensures) ∙ c .before .if3 .taken, c .before .before .before .before .before .before .before .before .pre .1 .1)))
 
-returns-3 : tie.Need-returns-3
-returns-3 c = c .before .before .rule .ensures
+sister-requires : tie.Need-sister-requires
+sister-requires c κs = (c .before .before .before .before .before .before .before .before .before .before .pre .0, (c .before .before .before .before .before .before .before .before .before .before .pre .1 .0, (record { kind = forbids; needs = refl; sign = sym (c .before .before .before .before .before .kind .ensures) ∙ c .before .before .if4 .taken; row-is = refl }, c .before .before .before .before .before .before .before .before .before .before .pre .1 .1)))
 
-returns-4 : tie.Need-returns-4
-returns-4 c = form-neither _ _ (c .before .before .kind .ensures) (c .before .if2 .left) (c .if3 .left)
+sister-requires-2 : tie.Need-sister-requires-2
+sister-requires-2 c κs = (c .before .before .before .before .before .before .before .before .before .before .before .pre .0, (c .before .before .before .before .before .before .before .before .before .before .before .pre .1 .0, (record { kind = obliges; needs = refl; sign = sym (c .before .before .before .before .before .before .kind .ensures) ∙ c .before .before .if5 .taken; row-is = refl }, c .before .before .before .before .before .before .before .before .before .before .before .pre .1 .1)))
+
+returns-6 : tie.Need-returns-6
+returns-6 c = form-neither _ _ (c .before .before .before .before .kind .ensures) (c .before .before .before .if2 .left) (c .before .before .if3 .left) (c .before .if4 .left) (c .if5 .left)
 
 pub form-spec : {M : Type 1} → statement M
 form-spec =
@@ -32,8 +33,16 @@ form-spec =
     (λ c κs. c .before .before .before .before .pre .0)
     definition-requires
     (λ c. c .before .before .definition .kept .1 .1 .0)
-    returns-2
+    (λ c. c .before .before .definition .ensures)
     rule-requires
     (λ c. c .before .before .rule .kept .1 .1 .0)
-    returns-3
-    returns-4)
+    (λ c. c .before .before .rule .ensures)
+    (λ c. refl)
+    sister-requires
+    (λ c. c .before .before .sister .kept .1 .1 .0)
+    (λ c. c .before .before .sister .ensures)
+    (λ c. refl)
+    sister-requires-2
+    (λ c. c .before .before .sister2 .kept .1 .1 .0)
+    (λ c. c .before .before .sister2 .ensures)
+    returns-6)
