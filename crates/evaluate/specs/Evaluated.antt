@@ -11,13 +11,12 @@ use Rattle.automata.specs.Machine.{Machine}
 use Rattle.automata.specs.Stage.{Made, made, refused, thenMade}
 use Rattle.automata.specs.Basics.{nat-test}
 use Rattle.automata.specs.Stages.{Pairing, either, both, without, pairStage}
-use Rattle.language.specs.Restriction.{RuleKind, restricts, forbids, obliges}
-use Rattle.book.specs.LineGrammar.{Enough}
+use Rattle.language.specs.Restriction.{RuleKind, restricts, forbids, obliges, Some, Enough}
 use Rattle.language.specs.Expression.{Expr, letter, name, dot, empty, pair, join, star, plus, option, complement}
 use Rattle.language.specs.Evaluate.{evaluate, evaluateRule, patternOf}
 use Rattle.book.specs.Kind.{kindOf}
 use Rattle.book.specs.Text.{Form, define, rule, malformed}
-use Rattle.book.specs.Program.{pairCode, postfix, program, setProgram, contextsProgram}
+use Rattle.book.specs.Program.{pairCode, storePatternCode, postfix, program, contextsProgram, unionProgram, setProgram}
 use Rattle.book.specs.StackLaws.{heightAfter, Leaves, AllHeld, FormHeld}
 use Rattle.slots.specs.Slot.{Slot, slotMachine}
 use Rattle.codes.specs.Execute.{Store, Ran, ran, execute}
@@ -116,12 +115,14 @@ contexts-height : (n : ℕ) (o : Pairing) (cs : List (Expr × Expr)) → AllHeld
 contexts-height n o [] s = refl
 contexts-height n o ((l, r) ∷ cs) (a, b, s) = rw (postfix-height l (a .leaves), postfix-height r (b .leaves)) (pair-height o 0 (contextsProgram o cs) ∙ contexts-height n o cs s)
 
+union-height : (n : ℕ) (cs : List (Expr × Expr)) → AllHeld n cs → Some cs → heightOf 0 (unionProgram cs) ≡ 1
+union-height n [] s x = absurd x
+union-height n ((l, r) ∷ cs) (a, b, s) x = rw (postfix-height l (a .leaves), postfix-height r (b .leaves)) (contexts-height n either cs s)
+
 set-height : (n : ℕ) (kind : RuleKind) (cs : List (Expr × Expr)) → AllHeld n cs → Enough kind cs → heightOf 0 (setProgram kind cs) ≡ 1
 set-height n restricts cs s x = contexts-height n without cs s
-set-height n forbids [] s x = absurd x
-set-height n forbids ((l, r) ∷ cs) (a, b, s) x = rw (postfix-height l (a .leaves), postfix-height r (b .leaves)) (contexts-height n either cs s)
-set-height n obliges [] s x = absurd x
-set-height n obliges ((l, r) ∷ cs) (a, b, s) x = rw (postfix-height l (a .leaves), postfix-height r (b .leaves)) (contexts-height n either cs s)
+set-height n forbids cs s x = union-height n cs s x
+set-height n obliges cs s x = union-height n cs s x
 
 -- the program of a form that is one
 abbrev pub Formed : Form → Type 0
@@ -131,7 +132,7 @@ Formed malformed = ⊥
 
 pub program-height : (n : ℕ) (F : Form) → Formed F → FormHeld n F → heightOf 0 (program F) ≡ 1
 program-height n (define x e) t s = subst (λ cs. heightOf 0 cs ≡ 1) (append-nil (postfix e)) (postfix-height e (s .leaves) 0 [])
-program-height n (rule kind p cs) t (a, s, x) = postfix-height (patternOf kind p) (a .leaves) 0 (5 ∷ setProgram kind cs) ∙ set-height n kind cs s x
+program-height n (rule kind p cs) t (a, s, x) = postfix-height (patternOf kind p) (a .leaves) 0 (storePatternCode ∷ setProgram kind cs) ∙ set-height n kind cs s x
 program-height n malformed t s = absurd t
 
 -- ---- and that machine is what the line's stages make

@@ -11,21 +11,15 @@ use Rattle.automata.specs.Machine.{Machine}
 use Rattle.automata.specs.Stage.{Made, made, refused, after, thenMade, present}
 use Rattle.automata.specs.Given.{letterMachine, dotMachine, emptyMachine, allMachine, markMachine}
 use Rattle.automata.specs.Stages.{Pairing, either, both, without, pairStage, concatStage, starStage, eraseStage}
-use Rattle.language.specs.Restriction.{RuleKind, restricts, forbids, obliges}
-use Rattle.book.specs.LineGrammar.{Enough}
+use Rattle.language.specs.Restriction.{RuleKind, restricts, forbids, obliges, Some, Enough}
 use Rattle.language.specs.Expression.{Expr, letter, name, dot, empty, pair, join, star, plus, option, complement}
 use Rattle.language.specs.Environment.{lookup}
 use Rattle.language.specs.Evaluate.{column, evaluate, markedStages, contextStages, contextsBy, unionContexts, markedOf, patternOf, eraseAndExclude, evaluateRule}
 use Rattle.book.specs.Kind.{kindOf, isLetter, isName}
 use Rattle.book.specs.Text.{define, rule}
 use Rattle.book.specs.StackLaws.{Leaves}
-<<<<<<< ours
-use Rattle.book.specs.Program.{pairCode, joinCode, postfix, patternProgram, finishProgram, contextsProgram, program}
+use Rattle.book.specs.Program.{pairCode, joinCode, storePatternCode, storeRightCode, rightCode, allCode, postfix, contextProgram, finishProgram, contextsProgram, unionProgram, setProgram, program}
 use Rattle.codes.specs.Execute.{Store, Ran, ran, failed, stuck, afterRan, thenRan, pushMade, step, execute}
-=======
-use Rattle.book.specs.Program.{pairCode, joinCode, postfix, contextProgram, finishProgram, contextsProgram, unionProgram, setProgram, program}
-use Rattle.evaluate.specs.Execute.{Store, Ran, ran, failed, stuck, afterRan, thenRan, pushMade, step, execute}
->>>>>>> theirs
 
 abbrev pub AllLeaves : List (Expr × Expr) → Type 0
 AllLeaves [] = Unit {0}
@@ -108,6 +102,13 @@ module _ (fmt : Format) (ls : List ℕ) (env : List (ℕ × Machine)) (kept : Ma
   nothing-more (made cs M) P R = ap (λ l. made l M) (append-nil cs)
   nothing-more (refused r) P R = refl
 
+  -- one of two machines, with the second on top
+  pair-leaves : (o : Pairing) (q : List ℕ) (A B : Machine) (st : List Machine) (P R : Machine) → leaves (pairCode o ∷ q) (B ∷ A ∷ st) P R ≡ thenMade (pairStage fmt k o A B) (λ M. leaves q (M ∷ st) P R)
+  unfolding step
+  pair-leaves either q A B st P R = pushed 124 q (store (B ∷ A ∷ st) P R) st (pairStage fmt k either A B) refl
+  pair-leaves both q A B st P R = pushed 38 q (store (B ∷ A ∷ st) P R) st (pairStage fmt k both A B) refl
+  pair-leaves without q A B st P R = pushed 45 q (store (B ∷ A ∷ st) P R) st (pairStage fmt k without A B) refl
+
   -- EXPRESSIONS: their code leaves on top, behind the same counts, the machine that the expression keeps.
   pub expression-leaves : (e : Expr) → Leaves e → (q : List ℕ) (st : List Machine) (P R : Machine)
       → leaves (postfix e ++ q) st P R ≡ thenMade (evaluate fmt ls env e) (λ M. leaves q (M ∷ st) P R)
@@ -122,14 +123,9 @@ module _ (fmt : Format) (ls : List ℕ) (env : List (ℕ × Machine)) (kept : Ma
   expression-leaves (pair o e f) (h, g) q st P R =
       ap (λ l. leaves l st P R) (append-assoc (postfix e) (postfix f ++ (pairCode o ∷ [])) q ∙ ap (λ l. postfix e ++ l) (append-assoc (postfix f) (pairCode o ∷ []) q))
       ∙ expression-leaves e h (postfix f ++ (pairCode o ∷ q)) st P R
-      ∙ then-same (evaluate fmt ls env e) _ _ (λ A. expression-leaves f g (pairCode o ∷ q) (A ∷ st) P R ∙ then-same (evaluate fmt ls env f) _ _ (λ B. sign o A B)
+      ∙ then-same (evaluate fmt ls env e) _ _ (λ A. expression-leaves f g (pairCode o ∷ q) (A ∷ st) P R ∙ then-same (evaluate fmt ls env f) _ _ (λ B. pair-leaves o q A B st P R)
       ∙ sym (then-row (evaluate fmt ls env f) (λ B. pairStage fmt k o A B) (λ M. leaves q (M ∷ st) P R)))
       ∙ sym (then-row (evaluate fmt ls env e) (λ A. thenMade (evaluate fmt ls env f) λ B. pairStage fmt k o A B) (λ M. leaves q (M ∷ st) P R))
-    where
-      sign : (o : Pairing) (A B : Machine) → leaves (pairCode o ∷ q) (B ∷ A ∷ st) P R ≡ thenMade (pairStage fmt k o A B) (λ M. leaves q (M ∷ st) P R)
-      sign either A B = pushed 124 q (store (B ∷ A ∷ st) P R) st (pairStage fmt k either A B) refl
-      sign both A B = pushed 38 q (store (B ∷ A ∷ st) P R) st (pairStage fmt k both A B) refl
-      sign without A B = pushed 45 q (store (B ∷ A ∷ st) P R) st (pairStage fmt k without A B) refl
   expression-leaves (join e f) (h, g) q st P R =
       ap (λ l. leaves l st P R) (append-assoc (postfix e) (postfix f ++ (joinCode ∷ [])) q ∙ ap (λ l. postfix e ++ l) (append-assoc (postfix f) (joinCode ∷ []) q))
       ∙ expression-leaves e h (postfix f ++ (joinCode ∷ q)) st P R
@@ -194,17 +190,11 @@ module _ (fmt : Format) (ls : List ℕ) (env : List (ℕ × Machine)) (kept : Ma
   context-leaves c h g q st P R₀ f rest =
       expression-leaves (c .0) h _ st P R₀
       ∙ then-same (evaluate fmt ls env (c .0)) _ _ (λ L. expression-leaves (c .1) g _ (L ∷ st) P R₀
-      ∙ then-same (evaluate fmt ls env (c .1)) _ _ (λ B. stored 6 _ (store (B ∷ L ∷ st) P R₀) (store (L ∷ st) P B) refl
-      ∙ marked-leaves 4 B q L st P B (λ A. refl)
+      ∙ then-same (evaluate fmt ls env (c .1)) _ _ (λ B. stored storeRightCode _ (store (B ∷ L ∷ st) P R₀) (store (L ∷ st) P B) refl
+      ∙ marked-leaves rightCode B q L st P B (λ A. refl)
       ∙ then-same (markedStages fmt (length ls) L P B) _ _ (λ C. rest C B))
       ∙ sym (then-row (evaluate fmt ls env (c .1)) (λ B. markedStages fmt (length ls) L P B) f))
       ∙ sym (then-row (evaluate fmt ls env (c .0)) (λ L. thenMade (evaluate fmt ls env (c .1)) λ B. markedStages fmt (length ls) L P B) f)
-
-  pair-leaves : (o : Pairing) (q : List ℕ) (A B : Machine) (st : List Machine) (P R : Machine) → leaves (pairCode o ∷ q) (B ∷ A ∷ st) P R ≡ thenMade (pairStage fmt k o A B) (λ M. leaves q (M ∷ st) P R)
-  unfolding step
-  pair-leaves either q A B st P R = pushed 124 q (store (B ∷ A ∷ st) P R) st (pairStage fmt k either A B) refl
-  pair-leaves both q A B st P R = pushed 38 q (store (B ∷ A ∷ st) P R) st (pairStage fmt k both A B) refl
-  pair-leaves without q A B st P R = pushed 45 q (store (B ∷ A ∷ st) P R) st (pairStage fmt k without A B) refl
 
   contexts-leave : (o : Pairing) (cs : List (Expr × Expr)) → AllLeaves cs → (X P R : Machine) → leaves (contextsProgram o cs) (X ∷ []) P R ≡ thenMade (contextsBy fmt ls env o P cs X) finished
   unfolding contextsBy
@@ -215,31 +205,30 @@ module _ (fmt : Format) (ls : List ℕ) (env : List (ℕ × Machine)) (kept : Ma
       ∙ then-same (contextStages fmt ls env P c) _ _ (λ C. sym (then-row (pairStage fmt k o X C) (λ Y. contextsBy fmt ls env o P cs Y) finished))
       ∙ sym (then-row (contextStages fmt ls env P c) (λ C. thenMade (pairStage fmt k o X C) λ Y. contextsBy fmt ls env o P cs Y) finished)
 
-  union-leaves : (c : Expr × Expr) (cs : List (Expr × Expr)) → AllLeaves (c ∷ cs) → (P R : Machine) → leaves (unionProgram (c ∷ cs)) [] P R ≡ thenMade (unionContexts fmt ls env P (c ∷ cs)) finished
+  union-leaves : (cs : List (Expr × Expr)) → AllLeaves cs → Some cs → (P R : Machine) → leaves (unionProgram cs) [] P R ≡ thenMade (unionContexts fmt ls env P cs) finished
   unfolding unionContexts
-  union-leaves c cs (h, g, t) P R =
+  union-leaves [] t x P R = absurd x
+  union-leaves (c ∷ cs) (h, g, t) x P R =
       context-leaves c h g (contextsProgram either cs) [] P R (λ X. thenMade (contextsBy fmt ls env either P cs X) finished) (λ X B. contexts-leave either cs t X P B)
       ∙ sym (then-row (contextStages fmt ls env P c) (λ X. contextsBy fmt ls env either P cs X) finished)
 
   set-leaves : (kind : RuleKind) (cs : List (Expr × Expr)) → AllLeaves cs → Enough kind cs → (P R : Machine) → leaves (setProgram kind cs) [] P R ≡ thenMade (markedOf fmt ls env kind P cs) finished
   unfolding markedOf step
   set-leaves restricts cs t x P R =
-      given 1 _ (store [] P R) (allMachine (length ls)) refl
-      ∙ marked-leaves 1 (allMachine (length ls)) (contextsProgram without cs) (allMachine (length ls)) [] P R (λ A. refl)
+      given allCode _ (store [] P R) (allMachine (length ls)) refl
+      ∙ marked-leaves allCode (allMachine (length ls)) (contextsProgram without cs) (allMachine (length ls)) [] P R (λ A. refl)
       ∙ then-same (markedStages fmt (length ls) (allMachine (length ls)) P (allMachine (length ls))) _ _ (λ X. contexts-leave without cs t X P R)
       ∙ sym (then-row (markedStages fmt (length ls) (allMachine (length ls)) P (allMachine (length ls))) (λ X. contextsBy fmt ls env without P cs X) finished)
-  set-leaves forbids [] t x P R = absurd x
-  set-leaves forbids (c ∷ cs) t x P R = union-leaves c cs t P R
-  set-leaves obliges [] t x P R = absurd x
-  set-leaves obliges (c ∷ cs) t x P R = union-leaves c cs t P R
+  set-leaves forbids cs t x P R = union-leaves cs t x P R
+  set-leaves obliges cs t x P R = union-leaves cs t x P R
 
   -- RULES: their program leaves the book met with the rule.
   pub rule-leaves : (kind : RuleKind) (p : Expr) (cs : List (Expr × Expr)) → Leaves (patternOf kind p) → AllLeaves cs → Enough kind cs → (P₀ R₀ : Machine)
       → leaves (program (rule kind p cs)) [] P₀ R₀ ≡ thenMade (evaluateRule fmt ls env kind p cs) (λ R. pairStage fmt k both kept R)
   unfolding evaluateRule step
   rule-leaves kind p cs h t x P₀ R₀ =
-      expression-leaves (patternOf kind p) h (5 ∷ setProgram kind cs) [] P₀ R₀
-      ∙ then-same (evaluate fmt ls env (patternOf kind p)) _ _ (λ P. stored 5 _ (store (P ∷ []) P₀ R₀) (store [] P R₀) refl
+      expression-leaves (patternOf kind p) h (storePatternCode ∷ setProgram kind cs) [] P₀ R₀
+      ∙ then-same (evaluate fmt ls env (patternOf kind p)) _ _ (λ P. stored storePatternCode _ (store (P ∷ []) P₀ R₀) (store [] P R₀) refl
       ∙ set-leaves kind cs t x P R₀
       ∙ sym (then-row (markedOf fmt ls env kind P cs) (λ Y. eraseAndExclude fmt (length ls) Y) (λ R. pairStage fmt k both kept R)))
       ∙ sym (then-row (evaluate fmt ls env (patternOf kind p)) (λ P. thenMade (markedOf fmt ls env kind P cs) λ Y. eraseAndExclude fmt (length ls) Y) (λ R. pairStage fmt k both kept R))

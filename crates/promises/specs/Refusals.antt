@@ -5,16 +5,11 @@ use mathlib.Core.Logic.{_≢_}
 use mathlib.Core.List.{List, [], _∷_}
 use Prim.Native.Nat.{ℕ, suc, _≤_}
 use native.Mathlib.Omega.{arith}
-use lib.ListN.{length}
 use Rattle.automata.specs.Format.{Format}
 use Rattle.automata.specs.Automaton.{Automaton}
 use Rattle.automata.specs.Machine.{Machine}
 use Rattle.automata.specs.Stage.{Made, made, refused, after, StageResult, kept-one, too-many-sets, too-many-states}
-use Rattle.automata.specs.Given.{allMachine}
-use Rattle.automata.specs.Exactly.{Then, goes, fails, Given, given}
-use Rattle.language.specs.Restriction.{restricts}
-use Rattle.language.specs.Expression.{Expr, letter, name, dot, empty, pair, join, star, plus, option, complement}
-use Rattle.language.specs.Makes.{Makes, MakesMarked, MakesContexts, MakesRule}
+use Rattle.language.specs.Stagewise.{Stagewise, then-holds, expression-holds, rule-holds}
 use Rattle.book.specs.Text.{Line, Form, define, rule, malformed}
 use Rattle.book.specs.Line as L
 use Rattle.book.specs.Line.{LineRead, reads, stops, HeadRead, letters}
@@ -41,53 +36,16 @@ stage-numbered fmt k A r (kept-one n M C h s b) = tt
 stage-numbered fmt k A r (too-many-sets c) = (omega arith, omega arith)
 stage-numbered fmt k A r (too-many-states n M C h s b) = (omega arith, omega arith)
 
-given-numbered : (M : Machine) (r : Made) → Given M r → Numbered r
-given-numbered M r given = tt
-
-then-numbered : (P : Made → Type 0) (Q : Machine → Made → Type 0) → ((r : Made) → P r → Numbered r) → ((M : Machine) (r : Made) → Q M r → Numbered r) → (r : Made) → Then P Q r → Numbered r
-then-numbered P Q p q r (goes counts M s a b) = behind s (q M s b)
+numbered : (fmt : Format) → Stagewise fmt Numbered
+numbered fmt = record {
+  here = λ M. tt;
+  staged = λ k A r s. stage-numbered fmt k A r s;
+  behind = behind;
+}
   where
-    behind : (s : Made) → Numbered s → Numbered (after counts s)
-    behind (made more N) n = tt
-    behind (refused r) n = n
-then-numbered P Q p q r (fails n a) = p (refused n) a
-
-module _ (fmt : Format) (ls : List ℕ) (env : List (ℕ × Machine)) where
-  makes-numbered : (e : Expr) (r : Made) → Makes fmt ls env e r → Numbered r
-  makes-numbered (letter b) = given-numbered _
-  makes-numbered (name b) = given-numbered _
-  makes-numbered dot = given-numbered _
-  makes-numbered empty = given-numbered _
-  makes-numbered (pair o e f) = then-numbered _ _ (makes-numbered e) λ A. then-numbered _ _ (makes-numbered f) λ B. stage-numbered fmt _ _
-  makes-numbered (join e f) = then-numbered _ _ (makes-numbered e) λ A. then-numbered _ _ (makes-numbered f) λ B. stage-numbered fmt _ _
-  makes-numbered (star e) = then-numbered _ _ (makes-numbered e) λ A. stage-numbered fmt _ _
-  makes-numbered (plus e) = then-numbered _ _ (makes-numbered e) λ A. then-numbered _ _ (stage-numbered fmt _ _) λ B. stage-numbered fmt _ _
-  makes-numbered (option e) = then-numbered _ _ (makes-numbered e) λ A. stage-numbered fmt _ _
-  makes-numbered (complement e) = then-numbered _ _ (makes-numbered e) λ A. stage-numbered fmt _ _
-
-  marked-numbered : (K P R : Machine) (r : Made) → MakesMarked fmt ls env K P R r → Numbered r
-  marked-numbered K P R =
-      then-numbered _ _ (stage-numbered fmt _ _) λ A.
-      then-numbered _ _ (stage-numbered fmt _ _) λ B.
-      then-numbered _ _ (stage-numbered fmt _ _) λ C.
-      stage-numbered fmt _ _
-
-  contexts-numbered : (P : Machine) (cs : List (Expr × Expr)) (X : Machine) (r : Made) → MakesContexts fmt ls env P cs X r → Numbered r
-  contexts-numbered P [] X = given-numbered X
-  contexts-numbered P (c ∷ cs) X =
-      then-numbered _ _ (makes-numbered (c .0)) λ K.
-      then-numbered _ _ (makes-numbered (c .1)) λ R.
-      then-numbered _ _ (marked-numbered K P R) λ C.
-      then-numbered _ _ (stage-numbered fmt _ _) λ Y.
-      contexts-numbered P cs Y
-
-  rule-numbered : (p : Expr) (cs : List (Expr × Expr)) (r : Made) → MakesRule fmt ls env p cs r → Numbered r
-  rule-numbered p cs =
-      then-numbered _ _ (makes-numbered p) λ P.
-      then-numbered _ _ (marked-numbered (allMachine (length ls)) P (allMachine (length ls))) λ X.
-      then-numbered _ _ (contexts-numbered P cs X) λ Y.
-      then-numbered _ _ (stage-numbered fmt _ _) λ E.
-      stage-numbered fmt _ _
+    behind : (counts : List ℕ) (M : Machine) (r : Made) → Numbered (made counts M) → Numbered r → Numbered (after counts r)
+    behind counts M (made more N) m n = tt
+    behind counts M (refused r) m n = n
 
 -- ---- lines: 3 to 7
 
@@ -123,8 +81,8 @@ BookNumbered (stopped r at) = Between 3 9 r
 
 module _ (fmt : Format) where
   form-numbered : (ls : List ℕ) (d : Draft) (F : Form) (r : Made) → MakesLine fmt ls d F r → Numbered r
-  form-numbered ls d (define x e) = makes-numbered fmt ls (d .env) e
-  form-numbered ls d (rule restricts p cs) = then-numbered _ _ (rule-numbered fmt ls (d .env) p cs) λ R. stage-numbered fmt _ _
+  form-numbered ls d (define x e) = expression-holds fmt Numbered (numbered fmt) ls (d .env) e
+  form-numbered ls d (rule kind p cs) = then-holds fmt Numbered (numbered fmt) _ _ (rule-holds fmt Numbered (numbered fmt) ls (d .env) kind p cs) λ R. stage-numbered fmt _ _
   form-numbered ls d malformed = λ r m. absurd m
 
   lines-numbered : (ls : List ℕ) (lines : List Line) (at : ℕ) (d : Draft) (b : BookResult) → LinesSay fmt ls lines at d b → BookNumbered b
