@@ -9,7 +9,6 @@ use Rattle.automata.specs.Format.{narrow}
 use Rattle.automata.specs.Basics.{ltb-lt}
 use Rattle.automata.specs.Machine.{Machine}
 use Rattle.automata.specs.Stage.{made, refused}
-use Rattle.language.specs.Restriction.{restricts}
 use Rattle.language.specs.Environment.{namesOf}
 use Rattle.book.specs.Text.{Line, Form, define, rule, malformed}
 use Rattle.book.specs.Line.{LineRead, reads, stops, readLine}
@@ -60,7 +59,7 @@ module _ (ls : List ℕ) (d : Draft) (b : Book) (low high registers : List ℕ) 
     U .at,
     U .line,
   )
-  form-on place.Book F (P, cs, f) next p n stack low′ high′ registers′ registers″ few (counts, M, q, pk, H, R) K U = (
+  form-on place.Book F (kind, P, cs, f) next p n stack low′ high′ registers′ registers″ few (counts, M, q, pk, H, R) K U = (
     record { env = d .env; counts = d .counts ++ counts; kept = M },
     ap (compileForm narrow ls d) f
         ∙ ap (λ r. onMade r (λ counts M. on (record { env = d .env; counts = d .counts ++ counts; kept = M }))) (sym (ap (lineMade narrow ls (d .env) (d .kept)) f) ∙ q),
@@ -77,7 +76,7 @@ module _ (ls : List ℕ) (d : Draft) (b : Book) (low high registers : List ℕ) 
   form-off : (F : Form) (next : ℕ) (n : Next) (low′ high′ registers′ : List ℕ) → lineMade narrow ls (d .env) (d .kept) F ≡ refused (n .number) → FormSays ls d F b next low′ high′ registers′ false n
   unfolding compileForm
   form-off (define x e) next n low′ high′ registers′ q = ap (λ r. onMade r (λ counts M. on (record { env = (x, M) ∷ d .env; counts = d .counts ++ counts; kept = d .kept }))) q
-  form-off (rule restricts p cs) next n low′ high′ registers′ q = ap (λ r. onMade r (λ counts M. on (record { env = d .env; counts = d .counts ++ counts; kept = M }))) q
+  form-off (rule kind p cs) next n low′ high′ registers′ q = ap (λ r. onMade r (λ counts M. on (record { env = d .env; counts = d .counts ++ counts; kept = M }))) q
   form-off malformed next n low′ high′ registers′ q = ap (λ r. onMade r (λ counts M. on d)) q
 
 module _ (ls : List ℕ) (b : Book) (next len : ℕ) (code low high registers registers′ stack : List ℕ) (r : Evaluated) (E : Evaluates layout ls low high code len registers registers′ stack r) where
@@ -178,8 +177,8 @@ module _ (text ls : List ℕ) (b : Book) {o₀ : List ℕ} (o : List ℕ) (a : L
     ends = R .ends;
     says = λ d D.
         let (w, n) = ruled len next e in
-        goes (rule restricts (w .pattern) (w .contexts)) d next len low high registers low′ high′ registers′ (r .on) r (w .written) n D
-        (C .says d (rule restricts (w .pattern) (w .contexts)) (w .pattern, w .contexts, refl) D (written-program line ls b o len (rule restricts (w .pattern) (w .contexts)) d (D .names) (w .written)));
+        goes (rule (w .kind) (w .pattern) (w .contexts)) d next len low high registers low′ high′ registers′ (r .on) r (w .written) n D
+        (C .says d (rule (w .kind) (w .pattern) (w .contexts)) (w .kind, w .pattern, w .contexts, refl) D (written-program line ls b o len (rule (w .kind) (w .pattern) (w .contexts)) d (D .names) (w .written)));
   }
 
   line-stops : (k : ℕ) (n : Next) (low high registers low′ high′ registers′ : List ℕ) → a ≡ lineAnswer.the-variants.Refused k → (n .on ≡ false) × (n .number ≡ k)
@@ -216,9 +215,9 @@ module _ (text ls : List ℕ) (b : Book) {o₀ : List ℕ} (o : List ℕ) (a : L
       record {
         env = G .draft .env;
         kept = G .draft .kept;
-        form = rule restricts (w .pattern) (w .contexts);
+        form = rule (w .kind) (w .pattern) (w .contexts);
         stored = G .drafted .stored;
-        program = written-program line ls b o len (rule restricts (w .pattern) (w .contexts)) (G .draft) (G .drafted .names) (w .written);
+        program = written-program line ls b o len (rule (w .kind) (w .pattern) (w .contexts)) (G .draft) (G .drafted .names) (w .written);
         letters = G .letters;
         room = G .room;
       }

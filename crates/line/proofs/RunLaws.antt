@@ -13,13 +13,14 @@ use Rattle.automata.specs.Booleans.{and-left, and-right}
 use Rattle.automata.specs.Machine.{Machine}
 use Rattle.automata.specs.Stage.{made, refused}
 use Rattle.automata.specs.Stages.{Pairing, either, both, without}
-use Rattle.language.specs.Restriction.{restricts}
+use Rattle.language.specs.Restriction.{RuleKind, restricts, forbids, obliges}
+use Rattle.language.specs.Evaluate.{patternOf}
 use Rattle.language.specs.Expression.{Expr, letter, name, dot, empty, pair, join, star, plus, option, complement, member}
 use Rattle.language.specs.Environment.{namesOf, known, allKnown}
 use Rattle.book.specs.Kind.{kindOf, isLetter, isName}
 use Rattle.book.specs.Text.{Form, define, rule, malformed}
-use Rattle.book.specs.Program.{pairCode, postfix, patternProgram, contextProgram, contextsProgram, program}
-use Rattle.book.specs.StackLaws.{Leaves, highest, AllHeld, FormHeld, program-highest}
+use Rattle.book.specs.Program.{storePatternCode, pairCode, postfix, contextProgram, finishProgram, contextsProgram, unionProgram, setProgram, program}
+use Rattle.book.specs.StackLaws.{Leaves, highest, Held, AllHeld, FormHeld, program-highest}
 use Rattle.book.specs.LineLaws.{KnownForm}
 use Rattle.compiler.specs.Outcome.{most}
 use Rattle.slots.specs.Slot.{slotMachine}
@@ -73,19 +74,45 @@ module _ (ls ns : List ℕ) where
   expression-names (option e) h k cs A = subst (AllNames ns) (sym (append-assoc (postfix e) (63 ∷ []) cs)) (expression-names e h k (63 ∷ cs) (no-name 63 refl, A))
   expression-names (complement e) h k cs A = subst (AllNames ns) (sym (append-assoc (postfix e) (33 ∷ []) cs)) (expression-names e h k (33 ∷ cs) (no-name 33 refl, A))
 
-  contexts-names : (cs : List (Expr × Expr)) → AllHeld 17 cs → allKnown ls ns cs ≡ true → AllNames ns (contextsProgram cs)
-  contexts-names [] t k = (no-name 7 refl, (no-name 33 refl, (no-name 8 refl, tt)))
-  contexts-names (c ∷ cs) (h, g, t) k =
-      let a = and-left (known ls ns (c .0) && known ls ns (c .1)) (allKnown ls ns cs) k in
-      expression-names (c .0) (h .leaves) (and-left (known ls ns (c .0)) (known ls ns (c .1)) a) (postfix (c .1) ++ (contextProgram ++ contextsProgram cs))
-      (expression-names (c .1) (g .leaves) (and-right (known ls ns (c .0)) (known ls ns (c .1)) a) (contextProgram ++ contextsProgram cs)
-      (no-name 6 refl, (no-name 2 refl, (no-name 59 refl, (no-name 3 refl, (no-name 59 refl, (no-name 2 refl, (no-name 59 refl, (no-name 4 refl, (no-name 59 refl, (no-name 45 refl, contexts-names cs t (and-right (known ls ns (c .0) && known ls ns (c .1)) (allKnown ls ns cs) k))))))))))))
+  finish-names : AllNames ns finishProgram
+  finish-names = (no-name 7 refl, (no-name 33 refl, (no-name 8 refl, tt)))
+
+  -- one context, and what stands behind it
+  context-names : (c : Expr × Expr) → Held 17 (c .0) → Held 17 (c .1) → known ls ns (c .0) && known ls ns (c .1) ≡ true → (row : List ℕ) → AllNames ns row
+      → AllNames ns (postfix (c .0) ++ (postfix (c .1) ++ (contextProgram ++ row)))
+  context-names c h g a row A =
+      expression-names (c .0) (h .leaves) (and-left (known ls ns (c .0)) (known ls ns (c .1)) a) (postfix (c .1) ++ (contextProgram ++ row))
+      (expression-names (c .1) (g .leaves) (and-right (known ls ns (c .0)) (known ls ns (c .1)) a) (contextProgram ++ row)
+      (no-name 6 refl, (no-name 2 refl, (no-name 59 refl, (no-name 3 refl, (no-name 59 refl, (no-name 2 refl, (no-name 59 refl, (no-name 4 refl, (no-name 59 refl, A))))))))))
+
+  contexts-names : (o : Pairing) (cs : List (Expr × Expr)) → AllHeld 17 cs → allKnown ls ns cs ≡ true → AllNames ns (contextsProgram o cs)
+  contexts-names o [] t k = finish-names
+  contexts-names o (c ∷ cs) (h, g, t) k =
+      context-names c h g (and-left (known ls ns (c .0) && known ls ns (c .1)) (allKnown ls ns cs) k) (pairCode o ∷ contextsProgram o cs)
+      (sign o, contexts-names o cs t (and-right (known ls ns (c .0) && known ls ns (c .1)) (allKnown ls ns cs) k))
+
+  union-names : (cs : List (Expr × Expr)) → AllHeld 17 cs → allKnown ls ns cs ≡ true → AllNames ns (unionProgram cs)
+  union-names [] t k = finish-names
+  union-names (c ∷ cs) (h, g, t) k =
+      context-names c h g (and-left (known ls ns (c .0) && known ls ns (c .1)) (allKnown ls ns cs) k) (contextsProgram either cs)
+      (contexts-names either cs t (and-right (known ls ns (c .0) && known ls ns (c .1)) (allKnown ls ns cs) k))
+
+  set-names : (kind : RuleKind) (cs : List (Expr × Expr)) → AllHeld 17 cs → allKnown ls ns cs ≡ true → AllNames ns (setProgram kind cs)
+  set-names restricts cs t k =
+      (no-name 1 refl, (no-name 2 refl, (no-name 59 refl, (no-name 3 refl, (no-name 59 refl, (no-name 2 refl, (no-name 59 refl, (no-name 1 refl, (no-name 59 refl, contexts-names without cs t k)))))))))
+  set-names forbids cs t k = union-names cs t k
+  set-names obliges cs t k = union-names cs t k
+
+  known-pattern : (kind : RuleKind) (p : Expr) → known ls ns p ≡ true → known ls ns (patternOf kind p) ≡ true
+  known-pattern restricts p k = k
+  known-pattern forbids p k = k
+  known-pattern obliges p k = k
 
   form-names : (F : Form) → FormHeld 17 F → KnownForm ls ns F → AllNames ns (program F)
   form-names (define x e) h k = subst (AllNames ns) (append-nil (postfix e)) (expression-names e (h .leaves) k [] tt)
-  form-names (rule restricts p cs) (h, t) k =
-      expression-names p (h .leaves) (and-left (known ls ns p) (allKnown ls ns cs) k) (patternProgram ++ contextsProgram cs)
-      (no-name 5 refl, (no-name 1 refl, (no-name 2 refl, (no-name 59 refl, (no-name 3 refl, (no-name 59 refl, (no-name 2 refl, (no-name 59 refl, (no-name 1 refl, (no-name 59 refl, contexts-names cs t (and-right (known ls ns p) (allKnown ls ns cs) k)))))))))))
+  form-names (rule kind p cs) (h, t, x) k =
+      expression-names (patternOf kind p) (h .leaves) (known-pattern kind p (and-left (known ls ns p) (allKnown ls ns cs) k)) (storePatternCode ∷ setProgram kind cs)
+      (no-name storePatternCode refl, set-names kind cs t (and-right (known ls ns p) (allKnown ls ns cs) k))
   form-names malformed h k = absurd k
 
 greatest-most : (cs : List ℕ) → greatest cs ≡ most cs

@@ -6,7 +6,7 @@ use Prim.Native.Nat.{ℕ, suc, _+_, _*_, _≤_, _<_}
 use lib.ListN.{length, take}
 use Rattle.automata.specs.Format.{narrow}
 use Rattle.automata.specs.Machine.{Machine}
-use Rattle.language.specs.Restriction.{restricts}
+use Rattle.language.specs.Restriction.{RuleKind}
 use Rattle.language.specs.Expression.{Expr}
 use Rattle.language.specs.Environment.{namesOf}
 use Rattle.book.specs.Text.{Form, define, rule}
@@ -78,7 +78,7 @@ pub record CompilesForm (ls : List ℕ) (b : Book) (next len : ℕ) (code low hi
 -- A definition's machine is kept in its name's slot, a rule's is the book so far.
 abbrev pub IsForm : Place → Form → Type 0
 IsForm (place.Name x) F = (e : Expr) × (F ≡ define x e)
-IsForm place.Book F = (p : Expr) × (cs : List (Expr × Expr)) × (F ≡ rule restricts p cs)
+IsForm place.Book F = (kind : RuleKind) × (p : Expr) × (cs : List (Expr × Expr)) × (F ≡ rule kind p cs)
 
 -- The machine in front of the stack is kept at its place, and the book goes on behind the line; or it stops with the number of a refusal.
 abbrev pub Finishes : Told → Book → List ℕ → List ℕ → List ℕ → List ℕ → List ℕ → List ℕ → List ℕ → Next → Evaluated → Type 0

@@ -12,14 +12,15 @@ use lib.ListN.{length, take, drop, getD, length-take, length-drop}
 use Rattle.automata.specs.Booleans.{choose, and-true}
 use Rattle.automata.specs.Basics.{nat-test, LtCases, lt-cases}
 use Rattle.automata.specs.Stages.{Pairing, either, both, without}
-use Rattle.language.specs.Restriction.{restricts}
+use Rattle.language.specs.Restriction.{RuleKind, restricts, forbids, obliges}
+use Rattle.language.specs.Evaluate.{patternOf}
 use Rattle.language.specs.Expression.{Expr, star, plus, pair, empty, join, option, complement, letter, name, dot, member}
 use Rattle.language.specs.Environment.{known, allKnown}
 use Rattle.book.specs.Kind.{kindOf, nameKind, underscoreKind}
 use Rattle.book.specs.Text.{define, rule, malformed, formOf, tooDeep, countOf, lineTest, unless}
 use Rattle.book.specs.Line.{reads, stops, readLine, checkForm}
-use Rattle.book.specs.Program.{pairCode, postfix, program, contextsProgram}
-use Rattle.book.specs.StackLaws.{Leaves, AllHeld, FormHeld, line-held}
+use Rattle.book.specs.Program.{pairCode, postfix, program, contextProgram, contextsProgram, unionProgram, setProgram}
+use Rattle.book.specs.StackLaws.{Leaves, Held, AllHeld, FormHeld, line-held}
 use Rattle.scans.specs.Lines.{lineOf, lineAt, Ends}
 use Rattle.reader.specs.Names.{Holds}
 use Rattle.reader.specs.Known.{codeKnown, Knows}
@@ -57,16 +58,35 @@ module _ (ls ns : List ℕ) where
   known-code (option e) s cs = rw (append-assoc, known-code e s)
   known-code (complement e) s cs = rw (append-assoc, known-code e s)
 
-  contexts-known : (n : ℕ) (cs : List (Expr × Expr)) → AllHeld n cs → codeKnown ls ns (contextsProgram cs) ≡ allKnown ls ns cs
-  contexts-known n [] s = refl
-  contexts-known n ((l, r) ∷ cs) (a, b, s) =
-      rw (known-code l (a .leaves), known-code r (b .leaves)) (ap (λ t. known ls ns l && (known ls ns r && t)) (contexts-known n cs s) ∙ sym (and-assoc (known ls ns l) (known ls ns r) (allKnown ls ns cs)))
+  -- one context, and what stands behind it
+  context-known : (n : ℕ) (l r : Expr) → Held n l → Held n r → (row : List ℕ) (cs : List (Expr × Expr)) → codeKnown ls ns row ≡ allKnown ls ns cs
+      → codeKnown ls ns (postfix l ++ (postfix r ++ row)) ≡ allKnown ls ns ((l, r) ∷ cs)
+  context-known n l r a b row cs e =
+      rw (known-code l (a .leaves), known-code r (b .leaves)) (ap (λ t. known ls ns l && (known ls ns r && t)) e ∙ sym (and-assoc (known ls ns l) (known ls ns r) (allKnown ls ns cs)))
+
+  contexts-known : (n : ℕ) (o : Pairing) (cs : List (Expr × Expr)) → AllHeld n cs → codeKnown ls ns (contextsProgram o cs) ≡ allKnown ls ns cs
+  contexts-known n o [] s = refl
+  contexts-known n o ((l, r) ∷ cs) (a, b, s) = context-known n l r a b (contextProgram ++ (pairCode o ∷ contextsProgram o cs)) cs (pair-known o (contextsProgram o cs) ∙ contexts-known n o cs s)
+
+  union-known : (n : ℕ) (cs : List (Expr × Expr)) → AllHeld n cs → codeKnown ls ns (unionProgram cs) ≡ allKnown ls ns cs
+  union-known n [] s = refl
+  union-known n ((l, r) ∷ cs) (a, b, s) = context-known n l r a b (contextProgram ++ contextsProgram either cs) cs (contexts-known n either cs s)
+
+  set-known : (n : ℕ) (kind : RuleKind) (cs : List (Expr × Expr)) → AllHeld n cs → codeKnown ls ns (setProgram kind cs) ≡ allKnown ls ns cs
+  set-known n restricts cs s = contexts-known n without cs s
+  set-known n forbids cs s = union-known n cs s
+  set-known n obliges cs s = union-known n cs s
+
+  pattern-known : (kind : RuleKind) (p : Expr) → known ls ns (patternOf kind p) ≡ known ls ns p
+  pattern-known restricts p = refl
+  pattern-known forbids p = refl
+  pattern-known obliges p = refl
 
   define-known : (n x : ℕ) (e : Expr) → FormHeld n (define x e) → codeKnown ls ns (program (define x e)) ≡ known ls ns e
   define-known n x e s = ap (codeKnown ls ns) (sym (append-nil (postfix e))) ∙ known-code e (s .leaves) [] ∙ and-true (known ls ns e)
 
-  rule-known : (n : ℕ) (p : Expr) (cs : List (Expr × Expr)) → FormHeld n (rule restricts p cs) → codeKnown ls ns (program (rule restricts p cs)) ≡ known ls ns p && allKnown ls ns cs
-  rule-known n p cs (a, s) = rw (known-code p (a .leaves)) (ap (λ t. known ls ns p && t) (contexts-known n cs s))
+  rule-known : (n : ℕ) (kind : RuleKind) (p : Expr) (cs : List (Expr × Expr)) → FormHeld n (rule kind p cs) → codeKnown ls ns (program (rule kind p cs)) ≡ known ls ns p && allKnown ls ns cs
+  rule-known n kind p cs (a, s, x) = rw (known-code (patternOf kind p) (a .leaves), pattern-known kind p) (ap (λ t. known ls ns p && t) (set-known n kind cs s))
 
 -- a part of the buffer that starts at its first byte
 first-part : (o : List ℕ) (len : ℕ) → take (len - 0) (drop 0 o) ≡ take len o
@@ -139,14 +159,14 @@ module _ (s : List ℕ) (ended : Bool) (n : ℕ) (q : n ≡ lineTest (lineOf s e
           };
         }
 
-      module _ {len : ℕ} (d : Rules s o o′ len) {r : Bool} (k : Knows (take (len - 0) (drop 0 o′)) ls f r) where
-        held-rule : FormHeld 17 (rule restricts (d .pattern) (d .contexts))
+      module _ {len : ℕ} (d : Rules s o 0 o′ len) {r : Bool} (k : Knows (take (len - 0) (drop 0 o′)) ls f r) where
+        held-rule : FormHeld 17 (rule (d .kind) (d .pattern) (d .contexts))
         held-rule = subst (FormHeld 17) (d .form) (line-held (lineOf s ended) (sym q ∙ z))
 
         rule-is : (ns : List ℕ) → Holds f ns → known ls ns (d .pattern) && allKnown ls ns (d .contexts) ≡ r
-        rule-is ns h = sym (k .says ns h ∙ ap (codeKnown ls ns) (first-part o′ len ∙ d .code) ∙ rule-known ls ns 17 (d .pattern) (d .contexts) held-rule)
+        rule-is ns h = sym (k .says ns h ∙ ap (codeKnown ls ns) (first-part o′ len ∙ d .code) ∙ rule-known ls ns 17 (d .kind) (d .pattern) (d .contexts) held-rule)
 
-        rule-read : (ns : List ℕ) → readLine ls ns (lineOf s ended) ≡ unless (known ls ns (d .pattern) && allKnown ls ns (d .contexts)) (λ _. stops 6) (λ _. reads (rule restricts (d .pattern) (d .contexts)))
+        rule-read : (ns : List ℕ) → readLine ls ns (lineOf s ended) ≡ unless (known ls ns (d .pattern) && allKnown ls ns (d .contexts)) (λ _. stops 6) (λ _. reads (rule (d .kind) (d .pattern) (d .contexts)))
         unfolding checkForm
         rule-read ns = form-read ns ∙ ap (checkForm ls ns) (d .form)
 
@@ -156,6 +176,7 @@ module _ (s : List ℕ) (ended : Bool) (n : ℕ) (q : n ≡ lineTest (lineOf s e
         pub read-rule : r ≡ true → ReadsLine (lineOf s ended) ls f o o′ (answer.the-variants.Rule len)
         read-rule e = record {
           says = record {
+            kind = d .kind;
             pattern = d .pattern;
             contexts = d .contexts;
             written = record {
@@ -175,7 +196,7 @@ module _ {s o o′ : List ℕ} {r : Code} (d : ReadsForm s o o′ r) where
   pub form-name : {x len : ℕ} → r ≡ code.the-variants.Define x len → Defines s o o′ x len
   form-name e = rw e at (d .says)
 
-  pub form-rules : {len : ℕ} → r ≡ code.the-variants.Rule len → Rules s o o′ len
+  pub form-rules : {len : ℕ} → r ≡ code.the-variants.Rule len → Rules s o 0 o′ len
   form-rules e = rw e at (d .says)
 
   pub form-not : r ≡ code.the-variants.Malformed → formOf s ≡ malformed

@@ -4,7 +4,7 @@ use mathlib.Core.Bool.{true}
 use mathlib.Core.List.{List}
 use Prim.Native.Nat.{ℕ, suc, _≤_}
 use lib.ListN.{length, take, drop}
-use Rattle.language.specs.Restriction.{restricts}
+use Rattle.language.specs.Restriction.{RuleKind}
 use Rattle.language.specs.Expression.{Expr}
 use Rattle.book.specs.Kind.{isName}
 use Rattle.book.specs.Text.{Line, Form, define, rule}
@@ -38,9 +38,10 @@ pub record WrittenName (l : Line) (letters : List ℕ) (f : Names) (o o′ : Lis
   pub written : Written l letters f o o′ len (define x body)
 
 pub record WrittenRule (l : Line) (letters : List ℕ) (f : Names) (o o′ : List ℕ) (len : ℕ) : Type 0 where
+  pub kind : RuleKind
   pub pattern : Expr
   pub contexts : List (Expr × Expr)
-  pub written : Written l letters f o o′ len (rule restricts pattern contexts)
+  pub written : Written l letters f o o′ len (rule kind pattern contexts)
 
 abbrev pub LineSays : Line → List ℕ → Names → List ℕ → List ℕ → Answer → Type 0
 LineSays l letters f o o′ (answer.the-variants.Define x len) = WrittenName l letters f o o′ x len
