@@ -18,7 +18,7 @@ use Rattle.automata.specs.Live.{live, liveRound, liveNext}
 use Rattle.automata.specs.Stage.{Made, made, refused, stage, keep, Counts, StageResult, kept-one, too-many-sets, too-many-states}
 use Rattle.automata.specs.Given.{allMachine, markMachine}
 use Rattle.automata.specs.Stages.{pairStage, concatStage, starStage, eraseStage}
-use Rattle.language.specs.Evaluate.{evaluate, markedStages, minusContexts, eraseAndExclude, evaluateRule}
+use Rattle.language.specs.Evaluate.{evaluate, markedStages, contextStages, contextsBy, unionContexts, markedOf, eraseAndExclude, evaluateRule}
 use Rattle.card.specs.Mark.{marks}
 use Rattle.card.specs.Layout.{encode, contentsTest, lettersOf, marksOf, movesOf, machineOf}
 use Rattle.card.specs.Load.{loadTest, insideTest, rowInside, marksTest}
@@ -68,6 +68,34 @@ twoContexts = 12 ∷ 0 ∷ 3 ∷ 0 ∷ 15 ∷ 0 ∷ 8 ∷ 0 ∷ 23 ∷ 0 ∷ 24 
 abbrev pub overlapping : List ℕ
 overlapping = 12 ∷ 0 ∷ 2 ∷ 0 ∷ 14 ∷ 0 ∷ 4 ∷ 0 ∷ 18 ∷ 0 ∷ 8 ∷ 0 ∷ 97 ∷ 98 ∷ 1 ∷ 1 ∷ 1 ∷ 2 ∷ 1 ∷ 2 ∷ 3 ∷ 2 ∷ 0 ∷ 2 ∷ 3 ∷ 3 ∷ []
 
+-- `<b / .*a _ .*`: no `b` behind an `a`
+abbrev pub noBBehindA : List ℕ
+noBBehindA = 12 ∷ 0 ∷ 2 ∷ 0 ∷ 14 ∷ 0 ∷ 3 ∷ 0 ∷ 17 ∷ 0 ∷ 6 ∷ 0 ∷ 97 ∷ 98 ∷ 1 ∷ 1 ∷ 2 ∷ 1 ∷ 0 ∷ 1 ∷ 2 ∷ 2 ∷ 2 ∷ []
+
+-- `<a / b _ b`: all but `bab`
+abbrev pub notBab : List ℕ
+notBab = 12 ∷ 0 ∷ 2 ∷ 0 ∷ 14 ∷ 0 ∷ 5 ∷ 0 ∷ 19 ∷ 0 ∷ 10 ∷ 0 ∷ 97 ∷ 98 ∷ 1 ∷ 1 ∷ 1 ∷ 1 ∷ 0 ∷ 1 ∷ 2 ∷ 1 ∷ 1 ∷ 3 ∷ 1 ∷ 1 ∷ 4 ∷ 1 ∷ 1 ∷ []
+
+-- `<a / a _ b / b _ a`: all but `aab` and `baa`
+abbrev pub twoForbidden : List ℕ
+twoForbidden = 12 ∷ 0 ∷ 2 ∷ 0 ∷ 14 ∷ 0 ∷ 7 ∷ 0 ∷ 21 ∷ 0 ∷ 14 ∷ 0 ∷ 97 ∷ 98 ∷ 1 ∷ 1 ∷ 1 ∷ 1 ∷ 1 ∷ 1 ∷ 0 ∷ 1 ∷ 2 ∷ 3 ∷ 4 ∷ 5 ∷ 4 ∷ 4 ∷ 6 ∷ 4 ∷ 4 ∷ 6 ∷ 4 ∷ 4 ∷ 4 ∷ []
+
+-- `^a / a _ b / b _ a`: from an `a` to a `b`, and from a `b` to an `a`, one `a`
+abbrev pub twoObliged : List ℕ
+twoObliged = 12 ∷ 0 ∷ 2 ∷ 0 ∷ 14 ∷ 0 ∷ 9 ∷ 0 ∷ 23 ∷ 0 ∷ 18 ∷ 0 ∷ 97 ∷ 98 ∷ 1 ∷ 1 ∷ 1 ∷ 1 ∷ 0 ∷ 0 ∷ 1 ∷ 1 ∷ 0 ∷ 1 ∷ 2 ∷ 3 ∷ 4 ∷ 5 ∷ 6 ∷ 7 ∷ 7 ∷ 7 ∷ 4 ∷ 6 ∷ 6 ∷ 8 ∷ 6 ∷ 7 ∷ 4 ∷ 8 ∷ 6 ∷ []
+
+-- `^b / a _ .*`: "every cut", also that with nothing between: no plan starts with an `a`
+abbrev pub noAAtFirst : List ℕ
+noAAtFirst = 12 ∷ 0 ∷ 2 ∷ 0 ∷ 14 ∷ 0 ∷ 3 ∷ 0 ∷ 17 ∷ 0 ∷ 6 ∷ 0 ∷ 97 ∷ 98 ∷ 1 ∷ 2 ∷ 1 ∷ 1 ∷ 2 ∷ 1 ∷ 1 ∷ 2 ∷ 2 ∷ []
+
+-- `<@ / a _ b`: all but `ab`
+abbrev pub notAb : List ℕ
+notAb = 12 ∷ 0 ∷ 2 ∷ 0 ∷ 14 ∷ 0 ∷ 4 ∷ 0 ∷ 18 ∷ 0 ∷ 8 ∷ 0 ∷ 97 ∷ 98 ∷ 1 ∷ 1 ∷ 1 ∷ 0 ∷ 1 ∷ 2 ∷ 2 ∷ 3 ∷ 2 ∷ 2 ∷ 2 ∷ 2 ∷ []
+
+-- the three kinds, as in mixedBook
+abbrev pub mixed : List ℕ
+mixed = 12 ∷ 0 ∷ 2 ∷ 0 ∷ 14 ∷ 0 ∷ 4 ∷ 0 ∷ 18 ∷ 0 ∷ 8 ∷ 0 ∷ 97 ∷ 98 ∷ 1 ∷ 2 ∷ 1 ∷ 0 ∷ 1 ∷ 2 ∷ 1 ∷ 1 ∷ 3 ∷ 2 ∷ 1 ∷ 2 ∷ []
+
 -- ---- the cases
 
 -- books of several cases
@@ -89,6 +117,13 @@ twoBook = ":abc\n>b / a _ a / c _ c\n"
 
 abbrev pub twoPlans : List (String × Reply Verdict)
 twoPlans = ("aba", verdict allowed) ∷ ("ab", verdict (unfinished 1)) ∷ ("abc", verdict (hopeless 3)) ∷ []
+
+-- the three kinds: an `a` only behind a `b`; no `aa`; a `b` at the end, if there is anything
+abbrev pub mixedBook : String
+mixedBook = ":ab\n>a / .*b _ .*\n<aa / .* _ .*\n^(.*b)? / @ _ @\n"
+
+abbrev pub mixedPlans : List (String × Reply Verdict)
+mixedPlans = ("", verdict allowed) ∷ ("bab", verdict allowed) ∷ ("ba", verdict (unfinished 1)) ∷ ("a", verdict (hopeless 1)) ∷ ("baa", verdict (hopeless 3)) ∷ []
 
 -- the documented lengths, but that the first, or the last, is one less
 abbrev pub firstShort : List ℕ
@@ -114,6 +149,19 @@ cases =
     ∷ compiles ":ab\n>@ / .* _ .*\n" (card everything 6)
     ∷ compiles ":ab\n>aa / .*b _ .*\n" (card overlapping 11)
     ∷ compiles twoBook (card twoContexts 16)
+    -- `<` and `^`: one context and two, and `<` where every cut fits, which is `>` without contexts
+    ∷ compiles ":ab\n<a/b_b\n" (card notBab 8)
+    ∷ compiles ":ab\n<b / .*a _ .*\n" (card noBBehindA 8)
+    ∷ compiles ":ab\n<a / .* _ .*\n" (card noA 7)
+    ∷ compiles ":ab\n<a/a_b/b_a\n" (card twoForbidden 12)
+    ∷ compiles ":ab\n^a/a_b/b_a\n" (card twoObliged 14)
+    -- with an empty middle
+    ∷ compiles ":ab\n^b / .*a _ .*\n" (card noA 9)
+    ∷ compiles ":ab\n^b / a _ .*\n" (card noAAtFirst 9)
+    ∷ compiles ":ab\n<@ / a _ b\n" (card notAb 7)
+    -- the three kinds in one book
+    ∷ compiles mixedBook (card mixed 9)
+    ∷ judges mixedBook mixedPlans
     -- a definition's stages count
     ∷ compiles ":ab\n=Aaaaaaa\n>a\n" (card noA 9)
     -- no rule: everything, with the peak of the definitions; no bytes, and what can be judged there
@@ -149,6 +197,7 @@ cases =
     -- 4: four `_` and five, in every line
     ∷ compiles ":ab\n>a/a_b/a_b/a_b/a_b\n" (card noA 11)
     ∷ compiles ":ab\n>a/a_b/a_b/a_b/a_b/a_b\n" (stop 4 2)
+    ∷ compiles ":ab\n<a/a_b/a_b/a_b/a_b/a_b\n" (stop 4 2)
     ∷ compiles ":ab\n=A____\n" (stop 5 2)
     ∷ compiles ":ab\n=A_____\n" (stop 4 2)
     ∷ compiles ":_____\n" (stop 4 1)
@@ -162,7 +211,6 @@ cases =
     ∷ compiles ":ab \n>a\n" (stop 5 1)
     ∷ compiles ":ab\r\n>a\r\n" (stop 5 1)
     ∷ compiles ":ab\n=A1a\n" (stop 5 2)
-    ∷ compiles ":ab\n<a/b_b\n" (stop 5 2)
     ∷ compiles ":ab\n>()\n" (stop 5 2)
     ∷ compiles ":ab\n>a|\n" (stop 5 2)
     ∷ compiles ":ab\n>!*a\n" (stop 5 2)
@@ -173,28 +221,48 @@ cases =
     ∷ compiles ":" (stop 5 1)
     ∷ compiles "\n" (stop 5 1)
     ∷ compiles ":ab\n:ab\n" (stop 5 2)
+    -- 5: "Both need at least one context"; their signs stand first in a later line
+    ∷ compiles ":ab\n<a\n" (stop 5 2)
+    ∷ compiles ":ab\n^a\n" (stop 5 2)
+    ∷ compiles ":ab\n<c\n" (stop 5 2)
+    ∷ compiles ":ab\n>a<b\n" (stop 5 2)
+    ∷ compiles ":a<b\n" (stop 5 1)
+    ∷ compiles ":ab\n=A^\n" (stop 5 2)
     -- 5 before 6, 6 before 7, a name's own line does not define it
     ∷ compiles ":ab\n>c|\n" (stop 5 2)
     ∷ compiles ":ab\n>c\n" (stop 6 2)
+    ∷ compiles ":ab\n<c/a_b\n" (stop 6 2)
     ∷ compiles ":ab\n=Aa\n=Ac\n" (stop 6 3)
     ∷ compiles ":ab\n=AA\n" (stop 6 2)
     ∷ compiles ":ab\n=Aa\n=AA\n" (stop 7 3)
     ∷ compiles ":ab\n=Aa\n=A(\n" (stop 5 3)
     ∷ []
 
--- ---- cards of several cases, each computed once
+-- ---- cards of several cases, and dear ones, each computed once
 
 first-card : Holds (compiles firstBook (card firstCard 9))
-unfolding explore exploreFrom listing turn addTo add classes settle rounds refine firsts smallest smallestBy tabulated smallestOf subset gains pair-test stage keep pairStage concatStage starStage eraseStage lineTest formOf readHead readLine checkForm evaluate markedStages minusContexts eraseAndExclude evaluateRule compileForm compileLine compileLines compileHead compileText compileBook outcome cardOf restrict encode marks live liveRound liveNext loadTest contentsTest insideTest rowInside marksTest numberedTest reducedTest judge asked distance lettersOf marksOf movesOf machineOf unless alphabetTest rowNumbered seen across
+unfolding explore exploreFrom listing turn addTo add classes settle rounds refine firsts smallest smallestBy tabulated smallestOf subset gains pair-test stage keep pairStage concatStage starStage eraseStage lineTest formOf readHead readLine checkForm evaluate markedStages contextStages contextsBy unionContexts markedOf eraseAndExclude evaluateRule compileForm compileLine compileLines compileHead compileText compileBook outcome cardOf restrict encode marks live liveRound liveNext loadTest contentsTest insideTest rowInside marksTest numberedTest reducedTest judge asked distance lettersOf marksOf movesOf machineOf unless alphabetTest rowNumbered seen across
 first-card = refl
 
 nothing-card : Holds (compiles nothingBook (card nothing 8))
-unfolding explore exploreFrom listing turn addTo add classes settle rounds refine firsts smallest smallestBy tabulated smallestOf subset gains pair-test stage keep pairStage concatStage starStage eraseStage lineTest formOf readHead readLine checkForm evaluate markedStages minusContexts eraseAndExclude evaluateRule compileForm compileLine compileLines compileHead compileText compileBook outcome cardOf restrict encode marks live liveRound liveNext loadTest contentsTest insideTest rowInside marksTest numberedTest reducedTest judge asked distance lettersOf marksOf movesOf machineOf unless alphabetTest rowNumbered seen across
+unfolding explore exploreFrom listing turn addTo add classes settle rounds refine firsts smallest smallestBy tabulated smallestOf subset gains pair-test stage keep pairStage concatStage starStage eraseStage lineTest formOf readHead readLine checkForm evaluate markedStages contextStages contextsBy unionContexts markedOf eraseAndExclude evaluateRule compileForm compileLine compileLines compileHead compileText compileBook outcome cardOf restrict encode marks live liveRound liveNext loadTest contentsTest insideTest rowInside marksTest numberedTest reducedTest judge asked distance lettersOf marksOf movesOf machineOf unless alphabetTest rowNumbered seen across
 nothing-card = refl
 
 two-card : Holds (compiles twoBook (card twoContexts 16))
-unfolding explore exploreFrom listing turn addTo add classes settle rounds refine firsts smallest smallestBy tabulated smallestOf subset gains pair-test stage keep pairStage concatStage starStage eraseStage lineTest formOf readHead readLine checkForm evaluate markedStages minusContexts eraseAndExclude evaluateRule compileForm compileLine compileLines compileHead compileText compileBook outcome cardOf restrict encode marks live liveRound liveNext loadTest contentsTest insideTest rowInside marksTest numberedTest reducedTest judge asked distance lettersOf marksOf movesOf machineOf unless alphabetTest rowNumbered seen across
+unfolding explore exploreFrom listing turn addTo add classes settle rounds refine firsts smallest smallestBy tabulated smallestOf subset gains pair-test stage keep pairStage concatStage starStage eraseStage lineTest formOf readHead readLine checkForm evaluate markedStages contextStages contextsBy unionContexts markedOf eraseAndExclude evaluateRule compileForm compileLine compileLines compileHead compileText compileBook outcome cardOf restrict encode marks live liveRound liveNext loadTest contentsTest insideTest rowInside marksTest numberedTest reducedTest judge asked distance lettersOf marksOf movesOf machineOf unless alphabetTest rowNumbered seen across
 two-card = refl
+
+two-forbidden : Holds (compiles ":ab\n<a/a_b/b_a\n" (card twoForbidden 12))
+unfolding explore exploreFrom listing turn addTo add classes settle rounds refine firsts smallest smallestBy tabulated smallestOf subset gains pair-test stage keep pairStage concatStage starStage eraseStage lineTest formOf readHead readLine checkForm evaluate markedStages contextStages contextsBy unionContexts markedOf eraseAndExclude evaluateRule compileForm compileLine compileLines compileHead compileText compileBook outcome cardOf restrict encode marks live liveRound liveNext loadTest contentsTest insideTest rowInside marksTest numberedTest reducedTest judge asked distance lettersOf marksOf movesOf machineOf unless alphabetTest rowNumbered seen across
+two-forbidden = refl
+
+two-obliged : Holds (compiles ":ab\n^a/a_b/b_a\n" (card twoObliged 14))
+unfolding explore exploreFrom listing turn addTo add classes settle rounds refine firsts smallest smallestBy tabulated smallestOf subset gains pair-test stage keep pairStage concatStage starStage eraseStage lineTest formOf readHead readLine checkForm evaluate markedStages contextStages contextsBy unionContexts markedOf eraseAndExclude evaluateRule compileForm compileLine compileLines compileHead compileText compileBook outcome cardOf restrict encode marks live liveRound liveNext loadTest contentsTest insideTest rowInside marksTest numberedTest reducedTest judge asked distance lettersOf marksOf movesOf machineOf unless alphabetTest rowNumbered seen across
+two-obliged = refl
+
+mixed-card : Holds (compiles mixedBook (card mixed 9))
+unfolding explore exploreFrom listing turn addTo add classes settle rounds refine firsts smallest smallestBy tabulated smallestOf subset gains pair-test stage keep pairStage concatStage starStage eraseStage lineTest formOf readHead readLine checkForm evaluate markedStages contextStages contextsBy unionContexts markedOf eraseAndExclude evaluateRule compileForm compileLine compileLines compileHead compileText compileBook outcome cardOf restrict encode marks live liveRound liveNext loadTest contentsTest insideTest rowInside marksTest numberedTest reducedTest judge asked distance lettersOf marksOf movesOf machineOf unless alphabetTest rowNumbered seen across
+mixed-card = refl
 
 by-card : (text c : List ℕ) (peak : ℕ) (plans : List (String × Reply Verdict)) → Holds (answered text documented ample (card c peak))
     → map (λ p. judge narrow c (bytesOf (p .0))) plans ≡ map (λ p. p .1) plans → Holds (judged text plans)
@@ -207,6 +275,10 @@ first-judged = by-card (bytesOf firstBook) firstCard 9 firstPlans first-card ref
 two-judged : Holds (judges twoBook twoPlans)
 unfolding loadTest contentsTest insideTest rowInside marksTest numberedTest reducedTest rowNumbered seen across alphabetTest lettersOf marksOf movesOf machineOf unless marks live liveRound liveNext classes settle rounds refine firsts judge asked distance
 two-judged = by-card (bytesOf twoBook) twoContexts 16 twoPlans two-card refl
+
+mixed-judged : Holds (judges mixedBook mixedPlans)
+unfolding loadTest contentsTest insideTest rowInside marksTest numberedTest reducedTest rowNumbered seen across alphabetTest lettersOf marksOf movesOf machineOf unless marks live liveRound liveNext classes settle rounds refine firsts judge asked distance
+mixed-judged = by-card (bytesOf mixedBook) mixed 9 mixedPlans mixed-card refl
 
 -- ---- "every plan hopeless 0"
 
@@ -236,7 +308,7 @@ counted k n A r (too-many-sets c) e = absurd (omega arith)
 counted k n A r (too-many-states i N C h s b) e = absurd (omega arith)
 
 five : countOf (concatStage narrow 3 (allMachine 2) (markMachine 2)) ≡ 5
-unfolding explore exploreFrom listing turn addTo add classes settle rounds refine firsts smallest smallestBy tabulated smallestOf subset gains pair-test stage keep pairStage concatStage starStage eraseStage lineTest formOf readHead readLine checkForm evaluate markedStages minusContexts eraseAndExclude evaluateRule compileForm compileLine compileLines compileHead compileText compileBook outcome cardOf restrict encode marks live liveRound liveNext loadTest contentsTest insideTest rowInside marksTest numberedTest reducedTest judge asked distance lettersOf marksOf movesOf machineOf unless alphabetTest rowNumbered seen across
+unfolding explore exploreFrom listing turn addTo add classes settle rounds refine firsts smallest smallestBy tabulated smallestOf subset gains pair-test stage keep pairStage concatStage starStage eraseStage lineTest formOf readHead readLine checkForm evaluate markedStages contextStages contextsBy unionContexts markedOf eraseAndExclude evaluateRule compileForm compileLine compileLines compileHead compileText compileBook outcome cardOf restrict encode marks live liveRound liveNext loadTest contentsTest insideTest rowInside marksTest numberedTest reducedTest judge asked distance lettersOf marksOf movesOf machineOf unless alphabetTest rowNumbered seen across
 five = refl
 
 five-sets : Holds (joining 2 5)
@@ -244,10 +316,11 @@ five-sets = counted 3 4 _ (concatStage narrow 3 (allMachine 2) (markMachine 2)) 
 
 -- THE CASES hold.
 pub cases-hold : AllHold cases
-unfolding explore exploreFrom listing turn addTo add classes settle rounds refine firsts smallest smallestBy tabulated smallestOf subset gains pair-test stage keep pairStage concatStage starStage eraseStage lineTest formOf readHead readLine checkForm evaluate markedStages minusContexts eraseAndExclude evaluateRule compileForm compileLine compileLines compileHead compileText compileBook outcome cardOf restrict encode marks live liveRound liveNext loadTest contentsTest insideTest rowInside marksTest numberedTest reducedTest judge asked distance lettersOf marksOf movesOf machineOf unless alphabetTest rowNumbered seen across
+unfolding explore exploreFrom listing turn addTo add classes settle rounds refine firsts smallest smallestBy tabulated smallestOf subset gains pair-test stage keep pairStage concatStage starStage eraseStage lineTest formOf readHead readLine checkForm evaluate markedStages contextStages contextsBy unionContexts markedOf eraseAndExclude evaluateRule compileForm compileLine compileLines compileHead compileText compileBook outcome cardOf restrict encode marks live liveRound liveNext loadTest contentsTest insideTest rowInside marksTest numberedTest reducedTest judge asked distance lettersOf marksOf movesOf machineOf unless alphabetTest rowNumbered seen across
 cases-hold =
-    first-card and first-judged and refl and refl and nothing-card and always-hopeless and refl and refl and
-    two-judged and five-sets and refl and refl and two-card and refl and refl and refl and refl and refl and refl and refl and refl and refl and refl and refl and refl and refl and refl and refl and refl and
-    refl and refl and refl and refl and refl and refl and refl and refl and refl and refl and refl and refl and refl and refl and refl and refl and
-    refl and refl and refl and refl and refl and refl and refl and refl and refl and refl and refl and refl and refl and refl and refl and refl and
-    refl and refl and refl and refl and refl and refl and refl and refl and refl and refl and none
+    first-card and first-judged and refl and refl and nothing-card and always-hopeless and refl and refl and two-judged and five-sets and refl and refl and
+    two-card and refl and refl and refl and two-forbidden and two-obliged and refl and refl and refl and mixed-card and mixed-judged and refl and refl and
+    refl and refl and refl and refl and refl and refl and refl and refl and refl and refl and refl and refl and refl and refl and refl and refl and refl and
+    refl and refl and refl and refl and refl and refl and refl and refl and refl and refl and refl and refl and refl and refl and refl and refl and refl and
+    refl and refl and refl and refl and refl and refl and refl and refl and refl and refl and refl and refl and refl and refl and refl and refl and refl and
+    refl and refl and refl and refl and refl and refl and refl and refl and refl and refl and refl and refl and none
