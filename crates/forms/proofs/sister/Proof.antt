@@ -3,7 +3,8 @@ use mathlib.Core.Path.{_∙_, ap, sym}
 use native.Mathlib.Omega.{arith}
 use lib.ListN.{length}
 use Rattle.signs.specs.BufferLaws.{grown-more}
-use Rattle.forms.proofs.FormLaws.{rule-none, sister-start, sister-short, rule-half, first-other, first-next, form-not, from-rest, then-to, then-not, context-to, context-not, slash-token}
+use Rattle.contexts.proofs.ContextLaws.{rule-half, context-to, context-not, slash-token}
+use Rattle.forms.proofs.FormLaws.{rule-none, sister-start, sister-short, first-other, first-next, form-not, from-rest, then-to, then-not}
 use Rattle.forms.proofs.sister.Statement.{statement}
 use Rattle.forms.proofs.sister.Tie as tie
 

@@ -1,10 +1,10 @@
--- `forms::choice_then` meets its contract: a choice that is read has the row behind its code.
+-- `contexts::choice_then` meets its contract: a choice that is read has the row behind its code.
 use mathlib.Core.Path.{_∙_}
 use native.Mathlib.Omega.{arith}
 use Rattle.choice.specs.ReadingLaws.{read-to, choice-bad}
-use Rattle.forms.proofs.FormLaws.{then-bad, then-done}
-use Rattle.forms.proofs.choice_then.Statement.{statement}
-use Rattle.forms.proofs.choice_then.Tie as tie
+use Rattle.contexts.proofs.ContextLaws.{then-bad, then-done}
+use Rattle.contexts.proofs.choice_then.Statement.{statement}
+use Rattle.contexts.proofs.choice_then.Tie as tie
 
 choice-requires : tie.Need-choice-requires
 choice-requires c κs = (c .before .before .before .before .pre .0, omega (arith, c .before .before .before .before .pre .1))

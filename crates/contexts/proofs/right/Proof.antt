@@ -1,9 +1,9 @@
--- `forms::right` meets its contract: each answer is one case of `rightOf`.
+-- `contexts::right` meets its contract: each answer is one case of `rightOf`.
 use mathlib.Core.Path.{refl}
 use native.Mathlib.Omega.{arith}
-use Rattle.forms.proofs.FormLaws.{right-other, right-read}
-use Rattle.forms.proofs.right.Statement.{statement}
-use Rattle.forms.proofs.right.Tie as tie
+use Rattle.contexts.proofs.ContextLaws.{right-other, right-read}
+use Rattle.contexts.proofs.right.Statement.{statement}
+use Rattle.contexts.proofs.right.Tie as tie
 
 token-requires : tie.Need-token-requires
 token-requires c κs = c .before .before .before .pre .0

@@ -1,10 +1,10 @@
--- `forms::put_row` meets its contract: the codes passed stand behind the code so far.
+-- `contexts::put_row` meets its contract: the codes passed stand behind the code so far.
 use Prim.Native.Nat.{_-_}
 use borrow.Author.Needs.{needs}
 use lib.ListN.{length}
-use Rattle.forms.proofs.FormLaws.{Filled, row-start, row-next, row-end}
-use Rattle.forms.proofs.put_row.Statement.{statement}
-use Rattle.forms.proofs.put_row.Tie as tie
+use Rattle.contexts.proofs.ContextLaws.{Filled, row-start, row-next, row-end}
+use Rattle.contexts.proofs.put_row.Statement.{statement}
+use Rattle.contexts.proofs.put_row.Tie as tie
 
 abbrev Inv-loop : tie.InvT-loop
 Inv-loop out₀ pos row i₀ out i = Filled out₀ row pos out i

@@ -1,4 +1,4 @@
--- `forms::contexts` meets its contract: as the loop passes a context, what is left of the rule's form stays the same.
+-- `contexts::contexts` meets its contract: as the loop passes a context, what is left of the rule's form stays the same.
 use mathlib.Core.Path.{_≡_, refl, _∙_}
 use Prim.Native.Nat.{_-_}
 use native.Mathlib.Omega.{arith}
@@ -6,10 +6,10 @@ use lib.ListN.{length}
 use Rattle.lexer.proofs.TokenLaws.{past-token, past-end}
 use Rattle.signs.specs.Buffer.{Grown}
 use Rattle.signs.specs.BufferLaws.{grown-none, grown-more}
-use Rattle.forms.specs.Forms.{Going}
-use Rattle.forms.proofs.FormLaws.{going-end, going-other, going-half, going-next, context-to, context-not, slash-token}
-use Rattle.forms.proofs.contexts.Statement.{statement}
-use Rattle.forms.proofs.contexts.Tie as tie
+use Rattle.contexts.specs.Contexts.{Going}
+use Rattle.contexts.proofs.ContextLaws.{going-end, going-other, going-half, going-next, context-to, context-not, slash-token}
+use Rattle.contexts.proofs.contexts.Statement.{statement}
+use Rattle.contexts.proofs.contexts.Tie as tie
 
 abbrev Inv-loop : tie.InvT-loop
 Inv-loop kinds line out₀ operator here₀ out here = Going line out here operator × (length out ≡ length out₀) × Grown out₀ (here₀ .pos) out (here .pos)

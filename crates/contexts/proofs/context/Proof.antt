@@ -1,10 +1,10 @@
--- `forms::context` meets its contract: each answer is one case of `contextOf`.
+-- `contexts::context` meets its contract: each answer is one case of `contextOf`.
 use mathlib.Core.Path.{_∙_}
 use native.Mathlib.Omega.{arith}
 use Rattle.choice.specs.ReadingLaws.{read-to, choice-bad}
-use Rattle.forms.proofs.FormLaws.{context-none, context-read}
-use Rattle.forms.proofs.context.Statement.{statement}
-use Rattle.forms.proofs.context.Tie as tie
+use Rattle.contexts.proofs.ContextLaws.{context-none, context-read}
+use Rattle.contexts.proofs.context.Statement.{statement}
+use Rattle.contexts.proofs.context.Tie as tie
 
 choice-requires : tie.Need-choice-requires
 choice-requires c κs = (c .before .before .before .pre .0, omega (arith, c .before .before .before .pre .1))

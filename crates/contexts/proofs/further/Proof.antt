@@ -1,9 +1,9 @@
--- `forms::further` meets its contract: a context, and one code more.
+-- `contexts::further` meets its contract: a context, and one code more.
 use mathlib.Core.Path.{_∙_}
 use native.Mathlib.Omega.{arith}
-use Rattle.forms.proofs.FormLaws.{context-to, context-not, further-none, further-done}
-use Rattle.forms.proofs.further.Statement.{statement}
-use Rattle.forms.proofs.further.Tie as tie
+use Rattle.contexts.proofs.ContextLaws.{context-to, context-not, further-none, further-done}
+use Rattle.contexts.proofs.further.Statement.{statement}
+use Rattle.contexts.proofs.further.Tie as tie
 
 context-requires : tie.Need-context-requires
 context-requires c κs = (c .before .before .before .pre .0, omega (arith, c .before .before .before .pre .1))

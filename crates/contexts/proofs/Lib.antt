@@ -1,0 +1,2 @@
+-- Laws that the proofs cite, here and in `forms`.
+pub mod ContextLaws
