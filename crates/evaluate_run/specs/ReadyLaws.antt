@@ -12,7 +12,6 @@ use lib.ListN.{length, getD, take}
 use Rattle.automata.specs.Basics.{LtCases, lt-cases}
 use Rattle.automata.specs.Machine.{Machine}
 use Rattle.book.specs.Kind.{isName}
-use Rattle.language.specs.Restriction.{restricts}
 use Rattle.book.specs.Text.{define, rule}
 use Rattle.book.specs.StackLaws.{highest, program-highest}
 use Rattle.reader.specs.Answers.{ReadsNext}
@@ -40,7 +39,7 @@ module _ {s : List ℕ} {at : ℕ} {letters : List ℕ} {f : Names} {o₀ o : Li
   pub read-rule : {len next : ℕ} → r ≡ Rule len next → Coded o len × (at < next)
   read-rule e =
       let (W, n) = rule-read d e in
-      (record { form = rule restricts (W .pattern) (W .contexts); formed = tt; held = W .written .held; code-is = W .written .code; fits = W .written .fits }, omega (arith, d .ends .from, n))
+      (record { form = rule (W .kind) (W .pattern) (W .contexts); formed = tt; held = W .written .held; code-is = W .written .code; fits = W .written .fits }, omega (arith, d .ends .from, n))
 
 -- ---- slots
 
