@@ -173,8 +173,8 @@ module _ (fmt : Format) (text : List ℕ) (ls : List ℕ) (d : Draft) (e : compi
   pub accepted-alphabet : LettersOf fmt (linesOf text) ls
   accepted-alphabet = book-letters fmt (linesOf text) (done ls d) (accepted-says fmt text ls d e) .1
 
-  -- THE DEMAND. A plan of the book's letters is accepted exactly when, for every rule and every cut of the plan into left, middle and right with the
-  -- middle in the rule's pattern, one listed context has both that left and that right.
+  -- THE DEMAND. A plan of the book's letters is accepted exactly when every rule's demand on the cuts of the plan into left, middle and right is met: "A
+  -- book allows what all three kinds allow".
   pub accepted-iff : (w : Word) → Over (length ls) w → (accepts (automaton (d .kept)) w ≡ true) ↔ Obeys (bookRules (linesOf text)) w
   accepted-iff w o = (
     λ t. obeys-sound (bookRules (linesOf text)) w (and-right (allWords (length (bookLetters (linesOf text))) w) (obeys (bookRules (linesOf text)) w) (sym (accepted-exact w o) ∙ t)),

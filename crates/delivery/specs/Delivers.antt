@@ -80,7 +80,7 @@ pub record Accepted (text plan c : List ℕ) (peak : ℕ) (old new : List ℕ) (
   -- "The verdict now carries the fewest further letters after which the plan is allowed."
   pub owed : Known (lettersIn text) plan → (k : ℕ) → (reply ≡ answered (unfinished k)) ↔ OwedAfter text plan k
   -- demand 2 of this plan: "exactly when, for every rule in the book and every cut of the plan into left, middle and right with the middle in the
-  -- rule's pattern, one listed context has both that left and that right"
+  -- rule's pattern, one listed context has both that left and that right"; of the sister rules, what their kind demands of the cuts
   pub obeys : Known (lettersIn text) plan → (reply ≡ answered allowed) ↔ Obeys (bookRules (linesOf text)) (columns (lettersIn text) plan)
   -- of any other plan: "27 in judging adds how many letters precede the first foreign one"
   pub foreign : (j : ℕ) → ForeignAfter text plan j → reply ≡ Reply.refused 27 j

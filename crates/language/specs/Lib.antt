@@ -1,4 +1,4 @@
--- Sets of plans: expressions, the context restriction, the marked construction, and what each stage, expression and rule accepts.
+-- Sets of plans: expressions, the three kinds of rules, the marked construction, and what each stage, expression and rule accepts.
 pub mod Cuts
 pub mod Language
 pub mod Restriction

@@ -43,7 +43,7 @@ obeys (r ∷ rs) w = demands (r .kind) (r .pattern) (r .contexts) w && obeys rs 
 
 -- ---- the same in words
 
--- Of every rule: for every cut v, x, y with x in the pattern one listed context has both v and y.
+-- Of every rule what its kind demands of every cut.
 abbrev pub Obeys : List Rule → Word → Type 0
 Obeys [] w = Unit {0}
 Obeys (r ∷ rs) w = Demands (r .kind) (r .pattern) (r .contexts) w × Obeys rs w

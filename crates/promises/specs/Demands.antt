@@ -70,7 +70,8 @@ module _ (fmt : Format) (s : Sound fmt) (two : 2 ≤ fmt .mostStates) (needs tex
   -- ---- demand 2
 
   -- DEMAND 2: "The card of an accepted book allows a plan of its letters exactly when, for every rule in the book and every cut of the plan into left,
-  -- middle and right with the middle in the rule's pattern, one listed context has both that left and that right."
+  -- middle and right with the middle in the rule's pattern, one listed context has both that left and that right." Of the sister rules, what their kind
+  -- demands of the cuts: "A book allows what all three kinds allow".
   pub demand-two : (plan : List ℕ) → Known (bookLetters (linesOf text)) plan → (cardAllows fmt c plan ≡ true) ↔ Obeys (bookRules (linesOf text)) (columns (bookLetters (linesOf text)) plan)
   demand-two plan k = (
     λ t. obeys-sound (bookRules (linesOf text)) w (and-right (allWords (length ls) w) (obeys (bookRules (linesOf text)) w) (sym (demand-three .plans plan) ∙ t)),
