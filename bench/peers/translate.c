@@ -95,38 +95,47 @@ static char *part(const Line *line, int i) {
     return b.text;
 }
 
-static void marked(Buffer *b, const char *l, const char *p, const char *r) {
-    const char *piece[] = {"[", l, " MM ", p, " MM ", r, "]"};
-    for (int i = 0; i < 7; i++) put(b, piece[i]);
+static void put_all(Buffer *b, const char *const *piece, int count) {
+    for (int i = 0; i < count; i++) put(b, piece[i]);
+}
+
+// The contexts of a restriction, which reach both ends of the day.
+static void restriction(Buffer *b, char *const *p, int parts) {
+    put_all(b, (const char *[]){"All & [", p[0], " =>"}, 3);
+    for (int i = 1; i < parts; i += 2) put_all(b, (const char *[]){i > 1 ? ", .#. " : " .#. ", p[i], " _ ", p[i + 1], " .#."}, 5);
+    put(b, "]");
+}
+
+// The cuts that a rule rules out, the sign at each side of the middle: of `>` those with p there, less each context; of `<` and `^` those of all contexts,
+// with p or with what is not in p.
+static void cuts(Buffer *b, int kind, char *const *p, int parts, const char *side) {
+    const char *before = kind == OBLIGES ? "[All - " : "", *behind = kind == OBLIGES ? "]" : "", *sign = "";
+    if (kind == RESTRICTS) {
+        put_all(b, (const char *[]){"All", side, p[0], side, "All"}, 5);
+        sign = " - ";
+    }
+    for (int i = 1; i < parts; i += 2) {
+        put_all(b, (const char *[]){sign, p[i], side, before, p[0], behind, side, p[i + 1]}, 8);
+        sign = kind == RESTRICTS ? " - " : " | ";
+    }
 }
 
 static char *rule(const Line *line, int form) {
     char *p[MOST_PARTS];
+    const int contexts = line->parts > 1, parts = line->parts;
     Buffer b = {0};
-    for (int i = 0; i < line->parts; i++) p[i] = part(line, i);
-    if (line->parts == 1) {
-        put(&b, "All - [All ");
-        put(&b, p[0]);
-        put(&b, " All]");
-    } else if (form == RESTRICTION) {
-        put(&b, "All & [");
-        put(&b, p[0]);
-        put(&b, " =>");
-        for (int i = 1; i < line->parts; i += 2) {
-            const char *piece[] = {i > 1 ? ", .#. " : " .#. ", p[i], " _ ", p[i + 1], " .#."};
-            for (int j = 0; j < 5; j++) put(&b, piece[j]);
-        }
+    for (int i = 0; i < parts; i++) p[i] = part(line, i);
+    if (form == RESTRICTION && line->kind == RESTRICTS && contexts) restriction(&b, p, parts);
+    else if (form == RESTRICTION || !contexts) {
+        put(&b, "All - [");
+        cuts(&b, line->kind, p, parts, " ");
         put(&b, "]");
     } else {
         put(&b, form == TWO_MARKS ? "All - `[[" : "All - [[[");
-        marked(&b, "All", p[0], "All");
-        for (int i = 1; i < line->parts; i += 2) {
-            put(&b, " - ");
-            marked(&b, p[i], p[0], p[i + 1]);
-        }
+        cuts(&b, line->kind, p, parts, " MM ");
         put(&b, form == TWO_MARKS ? "], MM, 0]" : "] .o. [MM:0 | Sigma]*].l]");
     }
-    for (int i = 0; i < line->parts; i++) free(p[i]);
+    for (int i = 0; i < parts; i++) free(p[i]);
     return b.text;
 }
 
