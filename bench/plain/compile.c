@@ -8,7 +8,7 @@ typedef struct {
     int m, k;
     uint8_t letters[26], column[256], defined[26];
     int peak, number;
-    Machine names[26], all, mark, book, pattern, right, left, marked, rest;
+    Machine names[26], all, mark, book, pattern, left, marked, rest;
     Machine made[HEIGHT];          // the machines that a line makes
     const Machine *stack[HEIGHT];  // made ones, or a name's without a copy
 } Book;
