@@ -1,5 +1,5 @@
-// Names are written NameA to NameZ, the letters Sigma, all plans All, the mark MM. Brackets stand only where they are needed, because foma's parser has a
-// deepest nesting.
+// Names are written NameA to NameZ, the letters Sigma, all plans All, the mark MM. What `<` and `^` rule out in the middle is defined ahead of each such rule,
+// as Name0, since each context has it. Brackets stand only where they are needed, because foma's parser has a deepest nesting.
 #include "translate.h"
 #include <stdio.h>
 #include <stdlib.h>
@@ -106,18 +106,21 @@ static void restriction(Buffer *b, char *const *p, int parts) {
     put(b, "]");
 }
 
-// The cuts that a rule rules out, the sign at each side of the middle: of `>` those with p there, less each context; of `<` and `^` those of all contexts,
-// with p or with what is not in p.
+static char *middle(const Line *line) {
+    Buffer b = {0};
+    char *p = part(line, 0);
+    if (line->kind == OBLIGES) put(&b, "All - ");
+    put(&b, p);
+    free(p);
+    return b.text;
+}
+
+// The cuts that a rule rules out, the sign at each side of the middle: of `>` those with p there, less each context; of `<` and `^` those of all contexts.
 static void cuts(Buffer *b, int kind, char *const *p, int parts, const char *side) {
-    const char *before = kind == OBLIGES ? "[All - " : "", *behind = kind == OBLIGES ? "]" : "", *sign = "";
-    if (kind == RESTRICTS) {
-        put_all(b, (const char *[]){"All", side, p[0], side, "All"}, 5);
-        sign = " - ";
-    }
-    for (int i = 1; i < parts; i += 2) {
-        put_all(b, (const char *[]){sign, p[i], side, before, p[0], behind, side, p[i + 1]}, 8);
-        sign = kind == RESTRICTS ? " - " : " | ";
-    }
+    const char *x = kind == RESTRICTS ? p[0] : "Name0";
+    if (kind == RESTRICTS) put_all(b, (const char *[]){"All", side, x, side, "All"}, 5);
+    for (int i = 1; i < parts; i += 2)
+        put_all(b, (const char *[]){kind == RESTRICTS ? " - " : i > 1 ? " | " : "", p[i], side, x, side, p[i + 1]}, 6);
 }
 
 static char *rule(const Line *line, int form) {
@@ -165,6 +168,7 @@ int translate(const Text *text, int form, Script *out) {
         if (!stop) return 0;
         plain_read(at, (size_t)(stop - at), 1, letters, m, defined, &line);
         if (line.number) return 0;
+        if (line.kind == FORBIDS || line.kind == OBLIGES) out->line[out->count++] = (Regex){'0', middle(&line)};
         Regex *r = &out->line[out->count++];
         r->name = line.name;
         r->regex = spaced(line.name ? part(&line, 0) : rule(&line, form), at, stop);

@@ -10,7 +10,7 @@
 enum { RESTRICTION, TWO_MARKS, TWO_MARKS_COMPOSED };
 
 typedef struct {
-    int name;    // of a definition, else 0
+    int name;    // of a definition, A to Z, or 0 as a digit; else 0
     char *regex; // without the closing `;`
 } Regex;
 
