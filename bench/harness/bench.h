@@ -33,6 +33,8 @@ Texts read_texts(const char *folder); // the books of a folder, by name
 Texts large_texts(void);              // those made here, as long as a text may be
 Texts seeded_texts(void);             // those made here from a seed
 Texts ruleless_texts(void);           // those without rules or without bytes; compared, not timed
+Texts kind_texts(void);               // small ones of the three kinds of rules, and lines of theirs that are refused; likewise
+Texts random_texts(void);             // many small ones from a seed, a byte of some altered; likewise
 void refine_by(int method);           // how plain C refines classes from now on
 Texts find_text(const char *folder, const char *name);
 

@@ -162,9 +162,9 @@ static void nothing_card(int m, Judging *j) {
 int same_factors(const char *folder, int *compared) {
     static Judging j;
     int differ = 0;
-    Texts sets[] = {read_texts(folder), seeded_texts(), ruleless_texts()};
+    Texts sets[] = {read_texts(folder), seeded_texts(), ruleless_texts(), kind_texts()};
     begin_seed(200);
-    for (int s = 0; s < 3; s++)
+    for (int s = 0; s < 4; s++)
         for (int i = 0; i < sets[s].count; i++)
             if (text_card(&sets[s].text[i], &j)) differ += all_plans(&j, compared);
     for (int m = 1; m <= 26; m += 5) nothing_card(m, &j), differ += all_plans(&j, compared);

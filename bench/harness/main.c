@@ -7,7 +7,7 @@
 enum { SETS = 3 };
 
 static int check(const char *folder) {
-    Texts sets[] = {read_texts(folder), large_texts(), seeded_texts(), ruleless_texts()};
+    Texts sets[] = {read_texts(folder), large_texts(), seeded_texts(), ruleless_texts(), kind_texts(), random_texts()};
     int differ = 0, all = 0;
     for (int s = 0; s < (int)(sizeof sets / sizeof *sets); s++) {
         differ += same_cards(&sets[s]);

@@ -157,9 +157,9 @@ static int all_of(Judging *j, int *compared) {
 int same_owed(const char *folder, int *compared) {
     static Judging j;
     int differ = 0;
-    Texts sets[] = {read_texts(folder), seeded_texts(), ruleless_texts()};
+    Texts sets[] = {read_texts(folder), seeded_texts(), ruleless_texts(), kind_texts()};
     begin_seed(500);
-    for (int s = 0; s < 3; s++)
+    for (int s = 0; s < 4; s++)
         for (int i = 0; i < sets[s].count; i++)
             if (text_card(&sets[s].text[i], &j)) differ += all_of(&j, compared);
     for (int states = 1; states <= 2; states++)

@@ -1,5 +1,5 @@
 // Books and cards made from a seed, so that nothing is tuned to one text: listed words, complements in brackets, random rows of letters, words that
-// collapse; counters that go up and down, random machines that are already smallest, machines with few classes.
+// collapse, rules of the three kinds; counters that go up and down, random machines that are already smallest, machines with few classes.
 #include "bench.h"
 #include <stdio.h>
 #include <stdlib.h>
@@ -66,6 +66,16 @@ static void collapsing(char *out, int size) {
     }
 }
 
+// Three rules, one of each kind: a word needs one letter or another ahead of it; a letter and a word are forbidden from a letter to the next of another, in up
+// to four contexts; what lies between two letters, if anything, holds one of two others.
+static void three_kinds(char *out, int size) {
+    char c[24];
+    for (int i = 0; i < 24; i++) c[i] = letter(size);
+    out += sprintf(out, ":%.*s\n>%c%c / .*%c _ .* / .*%c _ .*\n<%c|%c%c", size, ALPHABET, c[0], c[1], c[2], c[3], c[4], c[5], c[6]);
+    for (int i = 1 + below(4); i > 0; i--) out += sprintf(out, " / .*%c(.-%c)* _ .*", c[6 + 2 * i], c[7 + 2 * i]);
+    sprintf(out, "\n^@|.*(%c|%c).* / .*%c _ %c.* / .*%c%c _ @\n", c[16], c[17], c[18], c[19], c[20], c[21]);
+}
+
 typedef struct {
     const char *name;
     void (*make)(char *out, int size);
@@ -75,6 +85,7 @@ typedef struct {
 static const Shape shapes[] = {
     {"listed-words-26", listed_words, 0}, {"complements-6", complements, 6}, {"row-10", row, 10},      {"row-40", row, 40},
     {"row-110", row, 110},                {"collapsing-3", collapsing, 3},   {"collapsing-5", collapsing, 5},
+    {"three-kinds-6", three_kinds, 6},    {"three-kinds-26", three_kinds, 26},
 };
 
 // The first of the seed's texts that is accepted.
@@ -89,6 +100,58 @@ Texts seeded_texts(void) {
             shapes[i].make((char *)t->text, shapes[i].size);
             t->length = strlen((char *)t->text);
         } while (plain_compile(t->text, t->length, card, CARD).number);
+    }
+    return out;
+}
+
+// ---- random lines
+
+static char *text(char *out, const char *s) { return out + sprintf(out, "%s", s); }
+
+static char *sign(char *out, const char *of) {
+    *out = of[below((int)strlen(of))];
+    return out + 1;
+}
+
+// Operations nest so deep at most.
+static char *expression(char *out, int m, int depth) {
+    static const char *const atoms[] = {".", "@", ".*", "(..)*", ".*a", "!a"};
+    const int form = below(depth ? 8 : 3);
+    if (form < 2) return out + sprintf(out, "%c", letter(m));
+    if (form == 2) return text(out, atoms[below(6)]);
+    out = text(expression(text(out, form == 3 ? "!(" : "("), m, depth - 1), ")");
+    if (form == 3) return out;
+    if (form == 4) return sign(out, "*+?");
+    if (form == 5) out = sign(out, "|&-");
+    return text(expression(text(out, "("), m, depth - 1), ")");
+}
+
+// Up to three rules of any kind; a few `<` and `^` have no context.
+static void random_rules(char *out, int m) {
+    out += sprintf(out, ":%.*s\n", m, ALPHABET);
+    for (int rules = 1 + below(3); rules > 0; rules--) {
+        out = sign(out, "><^");
+        const int least = out[-1] != RESTRICTS && below(16) ? 1 : 0;
+        out = expression(out, m, 2);
+        for (int i = least + below(5 - least); i > 0; i--) {
+            out = expression(text(out, " / "), m, 2);
+            out = expression(text(out, " _ "), m, 2);
+        }
+        out = text(out, "\n");
+    }
+}
+
+Texts random_texts(void) {
+    enum { COUNT = 400 };
+    static const char signs[] = "<^>=/_|&-!*+?().@ abA\n";
+    Texts out = {0, calloc(COUNT, sizeof(Text))};
+    for (int i = 0; i < COUNT; i++) {
+        Text *t = &out.text[out.count++];
+        begin_seed(1000 + (uint32_t)i);
+        random_rules((char *)t->text, 1 + below(4));
+        t->length = strlen((char *)t->text);
+        if (i % 4 == 0) t->text[below((int)t->length)] = (uint8_t)signs[below((int)sizeof signs - 1)];
+        snprintf(t->name, sizeof t->name, "random-%d", i);
     }
     return out;
 }

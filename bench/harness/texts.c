@@ -1,4 +1,4 @@
-// The books: those of the folder, large texts made here, each as long as a text may be, and texts without rules.
+// The books: those of the folder, large texts made here, each as long as a text may be, texts without rules, and lines of the three kinds of rules.
 #define _GNU_SOURCE
 #include "bench.h"
 #include <dirent.h>
@@ -60,6 +60,18 @@ static void short_rules(Text *t) {
     }
 }
 
+// Some 560 rules, `<` and `^` in turns: each rules out a pair of letters that no other does, as a letter forbidden behind another, or by what may follow one.
+static void sister_rules(Text *t) {
+    char rule[64];
+    put(t, ":" ALPHABET "\n");
+    for (int i = 0;; i++) {
+        const char a = (char)('a' + i % 26), b = (char)('a' + (i / 26 + i) % 26), c = (char)('a' + (i + 1) % 26);
+        snprintf(rule, sizeof rule, i % 2 ? "^@|(.-%c).* / .*%c _ .* / .*%c _ .*\n" : "<%c / .*%c _ .* / .*%c _ .*\n", b, a, c);
+        if (t->length + strlen(rule) > MOST_TEXT) break;
+        put(t, rule);
+    }
+}
+
 #define DOTS13 "............."
 #define DOTS17 "................."
 
@@ -86,6 +98,7 @@ static const Recipe recipes[] = {
 Texts large_texts(void) {
     Texts out = {0, calloc(16, sizeof(Text))};
     short_rules(begin(&out, "16k-short-rules"));
+    sister_rules(begin(&out, "16k-sister-rules"));
     for (size_t i = 0; i < sizeof recipes / sizeof *recipes; i++) {
         const Recipe *r = &recipes[i];
         Text *t = begin(&out, r->name);
@@ -95,8 +108,16 @@ Texts large_texts(void) {
     return out;
 }
 
+typedef const char *const Named[2]; // a name and a text
+
+static Texts named_texts(const Named *named, size_t count) {
+    Texts out = {0, calloc(count, sizeof(Text))};
+    for (size_t i = 0; i < count; i++) put(begin(&out, named[i][0]), named[i][1]);
+    return out;
+}
+
 // Accepted ones first: by the definitions alone peaks of 0, 3, 4, 5 and 512. Then those that stop at a line.
-static const char *const ruleless[][2] = {
+static Named ruleless[] = {
     {"no-bytes", ""},
     {"no-rule-2", ":ab\n"},
     {"no-rule-26", ":" ALPHABET "\n"},
@@ -112,11 +133,78 @@ static const char *const ruleless[][2] = {
     {"no-rule-taken", ":ab\n=Aa\n=Ab\n"},
 };
 
-Texts ruleless_texts(void) {
-    Texts out = {0, calloc(sizeof ruleless / sizeof *ruleless, sizeof(Text))};
-    for (size_t i = 0; i < sizeof ruleless / sizeof *ruleless; i++) put(begin(&out, ruleless[i][0]), ruleless[i][1]);
-    return out;
-}
+Texts ruleless_texts(void) { return named_texts(ruleless, sizeof ruleless / sizeof *ruleless); }
+
+#define A10 "aaaaaaaaaa"
+#define A23 A10 A10 "aaa"
+#define A24 A23 "a"
+#define A60 A10 A10 A10 A10 A10 A10
+#define A117 A60 A24 A23 A10
+#define CROWD "(" A23 ")*&(" A24 ")*"
+
+// Accepted ones first. Then lines that are spoiled, deep, crowded with contexts or have a stranger; then 8 or 9, by the order of stages.
+static Named kinds[] = {
+    {"forbids", ":ab\n<b / .*a _ .*\n"},
+    {"obliges", ":ab\n^b / .*a _ .*\n"},
+    {"obliges-at-the-start", ":ab\n^b / a _ .*\n"},
+    {"forbids-two-contexts", ":ab\n<a/a_b/b_a\n"},
+    {"obliges-two-contexts", ":ab\n^a/a_b/b_a\n"},
+    {"forbids-a-gap", ":ab\n<@ / a _ b\n"},
+    {"obliges-the-day", ":ab\n^(ab)* / @ _ @\n"},
+    {"obliges-nothing", ":ab\n^a&b / .* _ .*\n"},
+    {"forbids-everything", ":ab\n<.* / .* _ .*\n"},
+    {"forbids-nothing", ":ab\n<a&b / .* _ .*\n"},
+    {"obliges-anything", ":ab\n^.* / .* _ .*\n"},
+    {"three-kinds", ":abc\n=A .*a\n>b / A _ .*\n< c / A _ .* / @_ .*\n^ @|.*b.* / A _ @\n"},
+    {"kinds-by-names", ":abc\n=A a|b\n=B A*c\n<A / B _ B / .*A _ @\n^!B / A _ .*\n>AB\n"},
+    {"kinds-with-spaces", ":ab\n<  a / a _ b  \n^ b|a a/ a _b / b_ a\n"},
+    {"kinds-four-contexts", ":ab\n<a/a_a/b_b/a_b/b_a\n^a|b/a_a/b_b/a_b/b_a\n"},
+    {"kinds-four-brackets", ":ab\n<((((a))))/((((a))))_((((b))))\n^((((a))))/((((a))))_((((b))))\n"},
+    {"forbids-without-context", ":ab\n<a\n"},
+    {"obliges-without-context", ":ab\n>a\n^a\n"},
+    {"forbids-no-pattern", ":ab\n<\n"},
+    {"obliges-no-pattern", ":ab\n^/a_b\n"},
+    {"spoiled-before-stranger", ":ab\n<c\n"},
+    {"forbids-half-a-context", ":ab\n<a/a\n"},
+    {"obliges-half-a-context", ":ab\n^a/a_\n"},
+    {"forbids-two-sides", ":ab\n<a/a_b_b\n"},
+    {"forbids-twice", ":ab\n<<a/a_b\n"},
+    {"obliges-twice", ":ab\n^^a/a_b\n"},
+    {"forbids-inside", ":ab\n>a<b/a_b\n"},
+    {"obliges-inside", ":ab\n<a^b/a_b\n"},
+    {"forbids-at-a-side", ":ab\n^a/<a_b\n"},
+    {"obliges-at-the-end", ":ab\n<a/a_b^\n"},
+    {"forbids-in-brackets", ":ab\n<a/(<a)_b\n"},
+    {"forbids-in-a-definition", ":ab\n=A<a\n"},
+    {"obliges-as-a-name", ":ab\n=^a\n"},
+    {"obliges-in-a-definition", ":ab\n=A a^b\n"},
+    {"forbids-behind-a-space", ":ab\n <a/a_b\n"},
+    {"forbids-in-line-1", ":a<b\n"},
+    {"forbids-as-line-1", "<a/a_b\n"},
+    {"forbids-without-end", ":ab\n<a/a_b"},
+    {"obliges-without-end", ":ab\n^c/a_b"},
+    {"forbids-deep", ":ab\n<(((((a)))))/a_b\n"},
+    {"forbids-deep-and-spoiled", ":ab\n<^(((((\n"},
+    {"forbids-five-contexts", ":ab\n<a/a_a/b_b/a_b/b_a/a_a\n"},
+    {"obliges-five-sides", ":ab\n^_____\n"},
+    {"forbids-a-stranger", ":ab\n<c/a_b\n"},
+    {"obliges-a-stranger", ":ab\n^a/a_A\n"},
+    {"forbids-beside-a-stranger", ":ab\n<a/c_b\n"},
+    {"pattern-over-120-states", ":a\n<" A117 "aa/" CROWD "_a\n"},
+    {"pattern-crowded", ":a\n^" CROWD "/" A117 "aa_a\n"},
+    {"complement-over-120-states", ":a\n^" A117 "a/" CROWD "_a\n"},
+    {"complement-of-120-states", ":a\n^" A117 "/" CROWD "_a\n"},
+    {"left-over-120-states", ":a\n<a/" A117 "aa_" CROWD "\n"},
+    {"left-crowded", ":a\n^a/" CROWD "_" A117 "aa\n"},
+    {"right-before-joins", ":a\n<" A60 "/" A60 "_" CROWD "\n"},
+    {"joins-before-next-context", ":a\n<" A60 "/" A60 "_a/" CROWD "_a\n"},
+    {"complement-joined", ":a\n^" A60 "/" A60 "_a/" CROWD "_a\n"},
+    {"union-crowded", ":a\n<a/(" A23 ")*_@/(" A24 ")*_@/" A117 "aa_a\n"},
+    {"union-before-next-context", ":a\n^a/(" A23 ")*_@/(" A24 ")*_@/" A117 "aa_a\n"},
+    {"first-context-alone", ":a\n<a/(" A23 ")*_@/" A117 "aa_@/(" A24 ")*_@\n"},
+};
+
+Texts kind_texts(void) { return named_texts(kinds, sizeof kinds / sizeof *kinds); }
 
 Texts find_text(const char *folder, const char *name) {
     Texts sets[3] = {read_texts(folder), large_texts(), seeded_texts()};

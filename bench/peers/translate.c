@@ -1,5 +1,5 @@
-// Names are written NameA to NameZ, the letters Sigma, all plans All, the mark MM. Brackets stand only where they are needed, because foma's parser has a
-// deepest nesting.
+// Names are written NameA to NameZ, the letters Sigma, all plans All, the mark MM. What `<` and `^` rule out in the middle is defined ahead of each such rule,
+// as Name0, since each context has it. Brackets stand only where they are needed, because foma's parser has a deepest nesting.
 #include "translate.h"
 #include <stdio.h>
 #include <stdlib.h>
@@ -95,38 +95,50 @@ static char *part(const Line *line, int i) {
     return b.text;
 }
 
-static void marked(Buffer *b, const char *l, const char *p, const char *r) {
-    const char *piece[] = {"[", l, " MM ", p, " MM ", r, "]"};
-    for (int i = 0; i < 7; i++) put(b, piece[i]);
+static void put_all(Buffer *b, const char *const *piece, int count) {
+    for (int i = 0; i < count; i++) put(b, piece[i]);
+}
+
+// The contexts of a restriction, which reach both ends of the day.
+static void restriction(Buffer *b, char *const *p, int parts) {
+    put_all(b, (const char *[]){"All & [", p[0], " =>"}, 3);
+    for (int i = 1; i < parts; i += 2) put_all(b, (const char *[]){i > 1 ? ", .#. " : " .#. ", p[i], " _ ", p[i + 1], " .#."}, 5);
+    put(b, "]");
+}
+
+static char *middle(const Line *line) {
+    Buffer b = {0};
+    char *p = part(line, 0);
+    if (line->kind == OBLIGES) put(&b, "All - ");
+    put(&b, p);
+    free(p);
+    return b.text;
+}
+
+// The cuts that a rule rules out, the sign at each side of the middle: of `>` those with p there, less each context; of `<` and `^` those of all contexts.
+static void cuts(Buffer *b, int kind, char *const *p, int parts, const char *side) {
+    const char *x = kind == RESTRICTS ? p[0] : "Name0";
+    if (kind == RESTRICTS) put_all(b, (const char *[]){"All", side, x, side, "All"}, 5);
+    for (int i = 1; i < parts; i += 2)
+        put_all(b, (const char *[]){kind == RESTRICTS ? " - " : i > 1 ? " | " : "", p[i], side, x, side, p[i + 1]}, 6);
 }
 
 static char *rule(const Line *line, int form) {
     char *p[MOST_PARTS];
+    const int contexts = line->parts > 1, parts = line->parts;
     Buffer b = {0};
-    for (int i = 0; i < line->parts; i++) p[i] = part(line, i);
-    if (line->parts == 1) {
-        put(&b, "All - [All ");
-        put(&b, p[0]);
-        put(&b, " All]");
-    } else if (form == RESTRICTION) {
-        put(&b, "All & [");
-        put(&b, p[0]);
-        put(&b, " =>");
-        for (int i = 1; i < line->parts; i += 2) {
-            const char *piece[] = {i > 1 ? ", .#. " : " .#. ", p[i], " _ ", p[i + 1], " .#."};
-            for (int j = 0; j < 5; j++) put(&b, piece[j]);
-        }
+    for (int i = 0; i < parts; i++) p[i] = part(line, i);
+    if (form == RESTRICTION && line->kind == RESTRICTS && contexts) restriction(&b, p, parts);
+    else if (form == RESTRICTION || !contexts) {
+        put(&b, "All - [");
+        cuts(&b, line->kind, p, parts, " ");
         put(&b, "]");
     } else {
         put(&b, form == TWO_MARKS ? "All - `[[" : "All - [[[");
-        marked(&b, "All", p[0], "All");
-        for (int i = 1; i < line->parts; i += 2) {
-            put(&b, " - ");
-            marked(&b, p[i], p[0], p[i + 1]);
-        }
+        cuts(&b, line->kind, p, parts, " MM ");
         put(&b, form == TWO_MARKS ? "], MM, 0]" : "] .o. [MM:0 | Sigma]*].l]");
     }
-    for (int i = 0; i < line->parts; i++) free(p[i]);
+    for (int i = 0; i < parts; i++) free(p[i]);
     return b.text;
 }
 
@@ -156,6 +168,7 @@ int translate(const Text *text, int form, Script *out) {
         if (!stop) return 0;
         plain_read(at, (size_t)(stop - at), 1, letters, m, defined, &line);
         if (line.number) return 0;
+        if (line.kind == FORBIDS || line.kind == OBLIGES) out->line[out->count++] = (Regex){'0', middle(&line)};
         Regex *r = &out->line[out->count++];
         r->name = line.name;
         r->regex = spaced(line.name ? part(&line, 0) : rule(&line, form), at, stop);

@@ -8,7 +8,7 @@ typedef struct {
     int m, k;
     uint8_t letters[26], column[256], defined[26];
     int peak, number;
-    Machine names[26], all, mark, book, pattern, right, left, marked, rest;
+    Machine names[26], all, mark, book, pattern, left, marked, rest;
     Machine made[HEIGHT];          // the machines that a line makes
     const Machine *stack[HEIGHT];  // made ones, or a name's without a copy
 } Book;
@@ -102,18 +102,33 @@ static int marked(Book *b, const Machine *l, const Machine *r, Machine *out) {
         && stage(b, JOIN, out, r, out);
 }
 
-static int rule(Book *b, const Line *line) {
-    const uint8_t *code = line->code;
-    const Machine *m = evaluate(b, code, code + line->ends[0]);
+// p; of `^` the plans that are not in it.
+static int pattern(Book *b, const Line *line) {
+    const Machine *m = evaluate(b, line->code, line->code + line->ends[0]);
     if (!m) return 0;
+    if (line->kind == OBLIGES) return stage(b, WITHOUT, &b->all, m, &b->pattern);
     copy(&b->pattern, m, b->k);
-    if (!marked(b, &b->all, &b->all, &b->rest)) return 0;
-    for (int i = 1; i < line->parts; i += 2) {
-        if (!(m = evaluate(b, code + line->ends[i - 1], code + line->ends[i]))) return 0;
-        copy(&b->left, m, b->k);
-        if (!(m = evaluate(b, code + line->ends[i], code + line->ends[i + 1]))) return 0;
-        if (!marked(b, &b->left, m, &b->marked) || !stage(b, WITHOUT, &b->rest, &b->marked, &b->rest)) return 0;
-    }
+    return 1;
+}
+
+// Context i: l, r, then l M p M r.
+static int context(Book *b, const Line *line, int i, Machine *out) {
+    const uint8_t *code = line->code;
+    const size_t *end = &line->ends[2 * i];
+    const Machine *m = evaluate(b, code + end[0], code + end[1]);
+    if (!m) return 0;
+    copy(&b->left, m, b->k);
+    m = evaluate(b, code + end[1], code + end[2]);
+    return m && marked(b, &b->left, m, out);
+}
+
+// The cuts that a rule rules out: of `>` those with p in the middle, less each context; of `<` and `^` the first context's, and each further one's.
+static int rule(Book *b, const Line *line) {
+    const int less = line->kind == RESTRICTS, contexts = line->parts / 2;
+    if (!pattern(b, line)) return 0;
+    if (!(less ? marked(b, &b->all, &b->all, &b->rest) : context(b, line, 0, &b->rest))) return 0;
+    for (int i = less ? 0 : 1; i < contexts; i++)
+        if (!context(b, line, i, &b->marked) || !stage(b, less ? WITHOUT : EITHER, &b->rest, &b->marked, &b->rest)) return 0;
     return stage(b, ERASE, &b->rest, 0, &b->rest) && stage(b, WITHOUT, &b->all, &b->rest, &b->rest)
         && stage(b, BOTH, &b->book, &b->rest, &b->book);
 }

@@ -62,12 +62,14 @@ int plain_hopcroft(int n, int k, const void *next, int wide, const uint8_t *acce
 size_t plain_card(const Machine *book, const uint8_t *letters, int m, uint8_t *card, size_t room);
 
 // A line in postfix. Codes are the text's own bytes: letters, names, `.`, `@`, `*`, `+`, `?`, `!`, `|`, `&`, `-`, and JOINED for a join. A rule's
-// expressions stand one after another; ends holds where each ends.
+// expressions stand one after another; ends holds where each ends. A rule's kind is its line's first byte.
 enum { JOINED = ' ', MOST_PARTS = 10 };
+enum { RESTRICTS = '>', FORBIDS = '<', OBLIGES = '^' };
 
 typedef struct {
     int number; // 0, or 3 to 7
     int name;   // of a definition, else 0
+    int kind;   // of a rule, else 0
     int parts;
     size_t ends[MOST_PARTS];
     uint8_t code[2 * MOST_TEXT];

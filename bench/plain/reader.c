@@ -92,13 +92,16 @@ static int sign(Reader *r, int c) {
     return 1;
 }
 
-static void rule(Reader *r, Line *out) {
+// `<` and `^` need a context.
+static void rule(Reader *r, Line *out, int kind) {
+    out->kind = kind;
     part(r, out);
     while (sign(r, '/')) {
         part(r, out);
         if (!sign(r, '_')) r->spoiled = 1;
         else part(r, out);
     }
+    if (kind != RESTRICTS && out->parts == 1) r->spoiled = 1;
 }
 
 static void definition(Reader *r, Line *out) {
@@ -124,7 +127,7 @@ static int counts(const uint8_t *line, size_t length) {
 }
 
 void plain_read(const uint8_t *line, size_t length, int ended, const uint8_t *letters, int m, const uint8_t *defined, Line *out) {
-    out->name = out->parts = 0;
+    out->name = out->kind = out->parts = 0;
     out->number = counts(line, length);
     if (out->number) return;
     Reader r = {.at = line + 1, .end = line + length, .code = out->code};
@@ -133,7 +136,7 @@ void plain_read(const uint8_t *line, size_t length, int ended, const uint8_t *le
     r.known['.'] = r.known['@'] = 1;
     if (!ended || length == 0) r.spoiled = 1;
     else if (line[0] == '=') definition(&r, out);
-    else if (line[0] == '>') rule(&r, out);
+    else if (line[0] == RESTRICTS || line[0] == FORBIDS || line[0] == OBLIGES) rule(&r, out, line[0]);
     else r.spoiled = 1;
     if (r.spoiled || peek(&r) != -1) out->number = 5;
     else if (r.stranger) out->number = 6;
