@@ -113,21 +113,23 @@ fn later_line(bytes: &[u8]) -> Option<Hint> {
         };
         return at(column + 1, format!("this sign stands only at the beginning of a line{power}"));
     }
-    if bytes[0] == b'=' {
-        match name_of(bytes) {
-            Some((_, b'A'..=b'Z')) => {}
-            Some((column, name @ b'a'..=b'z')) => {
-                let capital = name.to_ascii_uppercase() as char;
-                return at(column, format!("a name is one capital letter: write ={capital}, then what it means"));
-            }
-            Some((column, _)) => return at(column, "a definition is = and one capital letter, then what it means"),
-            None => return whole("a definition is = and one capital letter, then what it means, as in =A ab"),
+    let definition = if bytes[0] == b'=' { definition(bytes) } else { None };
+    definition.or_else(|| unbalanced(bytes)).or_else(|| contexts(bytes)).or_else(|| gap(bytes)).or_else(|| alone(bytes))
+}
+
+/// A definition's name, and that it has no contexts.
+fn definition(bytes: &[u8]) -> Option<Hint> {
+    match name_of(bytes) {
+        Some((_, b'A'..=b'Z')) => {}
+        Some((column, name @ b'a'..=b'z')) => {
+            let capital = name.to_ascii_uppercase() as char;
+            return at(column, format!("a name is one capital letter: write ={capital}, then what it means"));
         }
-        if let Some(column) = bytes.iter().position(|byte| b"/_".contains(byte)) {
-            return at(column, "a definition has no contexts; only a rule has");
-        }
+        Some((column, _)) => return at(column, "a definition is = and one capital letter, then what it means"),
+        None => return whole("a definition is = and one capital letter, then what it means, as in =A ab"),
     }
-    unbalanced(bytes).or_else(|| contexts(bytes)).or_else(|| gap(bytes)).or_else(|| alone(bytes))
+    let column = bytes.iter().position(|byte| b"/_".contains(byte))?;
+    at(column, "a definition has no contexts; only a rule has")
 }
 
 /// Does a rule begin so?

@@ -83,8 +83,7 @@ fn sides(text: &[u8]) -> Vec<String> {
 fn of_rule<'a>(sign: u8, rule: &'a [u8], names: &'a Names) -> impl Iterator<Item = String> + 'a {
     let open = |part: &[u8]| choice(&mut Cursor(part), names).open;
     let mut parts = rule.split(|&byte| byte == b'/');
-    let obliged = sign == b'^' && parts.clone().next().is_some_and(|pattern| !open(pattern));
-    parts.next();
+    let obliged = !open(parts.next().unwrap_or_default()) && sign == b'^';
     let sides = parts.flat_map(|context| context.split(|&byte| byte == b'_').zip([Side::Left, Side::Right]));
     sides.filter_map(move |(side, which)| match open(side) {
         false => Some(which.closed(side, if sign == b'^' { "middle" } else { "pattern" })),
