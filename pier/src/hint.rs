@@ -94,33 +94,47 @@ fn later_line(bytes: &[u8]) -> Option<Hint> {
     match bytes.first() {
         None => return whole("an empty line: take it out (a book has no blank lines)"),
         Some(b' ') => return at(0, "a line may not begin with a space"),
-        Some(b'=' | b'>') => {}
         Some(b'\t') => return at(0, "a tab: a line may not begin with a space or a tab"),
-        Some(_) => {
-            return at(0, "a line below line 1 begins with = (a definition) or > (a rule); there are no comments")
-        }
+        Some(_) => {}
+    }
+    if let Some((column, words)) = stray::operator(bytes).filter(|_| stray::is_sign(bytes[0])) {
+        return at(column, words);
+    }
+    if bytes[0] != b'=' && !is_rule(bytes) {
+        return at(0, "a line below line 1 begins with = (a definition), or >, < or ^ (a rule); there are no comments");
     }
     if let Some(column) = bytes.iter().position(|&byte| !stray::is_sign(byte)) {
         return at(column, stray::words(bytes, column));
     }
-    if let Some(column) = bytes.iter().skip(1).position(|byte| b":=>".contains(byte)) {
-        return at(column + 1, "this sign stands only at the beginning of a line");
+    if let Some(column) = bytes.iter().skip(1).position(|byte| b":=><^".contains(byte)) {
+        let power = match bytes[column + 1] {
+            b'^' => "; a repetition is written *, + or ?, or the part as often as it stands",
+            _ => "",
+        };
+        return at(column + 1, format!("this sign stands only at the beginning of a line{power}"));
     }
-    if bytes[0] == b'=' {
-        match name_of(bytes) {
-            Some((_, b'A'..=b'Z')) => {}
-            Some((column, name @ b'a'..=b'z')) => {
-                let capital = name.to_ascii_uppercase() as char;
-                return at(column, format!("a name is one capital letter: write ={capital}, then what it means"));
-            }
-            Some((column, _)) => return at(column, "a definition is = and one capital letter, then what it means"),
-            None => return whole("a definition is = and one capital letter, then what it means, as in =A ab"),
+    let definition = if bytes[0] == b'=' { definition(bytes) } else { None };
+    definition.or_else(|| unbalanced(bytes)).or_else(|| contexts(bytes)).or_else(|| gap(bytes)).or_else(|| alone(bytes))
+}
+
+/// A definition's name, and that it has no contexts.
+fn definition(bytes: &[u8]) -> Option<Hint> {
+    match name_of(bytes) {
+        Some((_, b'A'..=b'Z')) => {}
+        Some((column, name @ b'a'..=b'z')) => {
+            let capital = name.to_ascii_uppercase() as char;
+            return at(column, format!("a name is one capital letter: write ={capital}, then what it means"));
         }
-        if let Some(column) = bytes.iter().position(|byte| b"/_".contains(byte)) {
-            return at(column, "a definition has no contexts; only a rule has");
-        }
+        Some((column, _)) => return at(column, "a definition is = and one capital letter, then what it means"),
+        None => return whole("a definition is = and one capital letter, then what it means, as in =A ab"),
     }
-    unbalanced(bytes).or_else(|| contexts(bytes)).or_else(|| gap(bytes))
+    let column = bytes.iter().position(|byte| b"/_".contains(byte))?;
+    at(column, "a definition has no contexts; only a rule has")
+}
+
+/// Does a rule begin so?
+pub fn is_rule(line: &[u8]) -> bool {
+    line.first().is_some_and(|sign| b"><^".contains(sign))
 }
 
 /// The first place where a letter, a name, `.`, `@` or a bracket is missing.
@@ -137,7 +151,17 @@ fn gap(bytes: &[u8]) -> Option<Hint> {
             _ => return at(column, "something is missing before this sign (the empty plan is written @)"),
         }
     }
-    at(bytes.len(), "something is missing at the end (the empty plan is written @)")
+    at(bytes.len(), "something is missing at the end (the empty plan is written @)").filter(|_| missing)
+}
+
+/// A forbidding or obliging rule without a context.
+fn alone(bytes: &[u8]) -> Option<Hint> {
+    let text = match bytes[0] {
+        b'<' => "a rule with < needs a context: write / .* _ .* behind it if the pattern may never stand",
+        b'^' => "a rule with ^ needs a context: write / @ _ @ behind it if the pattern is the whole day",
+        _ => return None,
+    };
+    at(bytes.len(), text)
 }
 
 fn unbalanced(bytes: &[u8]) -> Option<Hint> {
@@ -253,7 +277,7 @@ mod tests {
 
     #[test]
     fn each_common_error_is_named_at_its_place() {
-        let cases: [(&str, u64, usize, Option<usize>, &str); 31] = [
+        let cases: [(&str, u64, usize, Option<usize>, &str); 42] = [
             ("\n", 5, 1, None, "line 1 is empty"),
             (":ab\n>(((((a)))))\n", 3, 2, Some(5), "fifth open"),
             (":ab\n>a/a_a/a_a/a_a/a_a/a_a\n", 4, 2, Some(20), "fifth _"),
@@ -276,6 +300,17 @@ mod tests {
             (":ab\n=N1 ab\n", 5, 2, Some(2), "behind a name"),
             ("\u{C}\0\u{2}\0\n", 5, 1, None, "as a card does"),
             (":ab\n>a>b\n", 5, 2, Some(2), "beginning"),
+            (":ab\n<a/b_<b\n", 5, 2, Some(5), "beginning"),
+            (":ab\n^a^b/b_b\n", 5, 2, Some(2), "a repetition is written"),
+            (":ab\n<a\n", 5, 2, Some(2), "< needs a context: write / .* _ .*"),
+            (":ab\n^c*\n", 5, 2, Some(3), "^ needs a context: write / @ _ @"),
+            (":ab\n<a|\n", 5, 2, Some(3), "at the end"),
+            (":ab\n^a/b\n", 5, 2, None, "lacks its _"),
+            (":ab\n<c/a_b\n", 6, 2, Some(1), "c is not among"),
+            (":ab\nb => a _ b\n", 5, 2, Some(2), "=> is written >"),
+            (":ab\n<= b / a _ b\n", 5, 2, Some(0), "<= is written ^"),
+            (":ab\n>b /<= a _ b\n", 5, 2, Some(3), "/<= is written <"),
+            (":ab\n# b => a\n", 5, 2, Some(0), "no comments"),
             (":ab\n=n ab\n", 5, 2, Some(1), "write =N"),
             (":ab\n=A a_b\n", 5, 2, Some(4), "no contexts"),
             (":ab\n>(a\n", 5, 2, Some(1), "not closed"),
@@ -314,16 +349,17 @@ mod tests {
     #[test]
     fn every_refused_line_has_a_hint() {
         use crate::proved::{compile, Compiled};
-        let signs = b"ab ab AB c.@!*+?|&-()/_\n\n=>:1\r\xFF";
+        let signs = b"ab ab AB c.@!*+?|&-()/_\n\n=><^:1\r\xFF";
         let mut seed = 1u64;
         let mut refused = [0; 8];
-        for _ in 0..4000 {
-            let mut text = b":ab\n>".to_vec();
+        for round in 0..6000 {
+            let mut text = b":ab\n".to_vec();
+            text.push(b"><^"[round % 3]);
             for _ in 0..30 {
                 seed = seed.wrapping_mul(6364136223846793005).wrapping_add(1442695040888963407);
                 text.push(signs[(seed >> 33) as usize % signs.len()]);
                 if text.ends_with(b"\n") && seed >> 62 != 0 {
-                    text.extend_from_slice(if seed >> 63 == 0 { b">" } else { b"=A" });
+                    text.extend_from_slice([&b">"[..], b"<", b"^", b"=A"][(seed >> 60) as usize % 4]);
                 }
             }
             if let Some(Compiled::Refused { number: number @ 3..=7, line }) = compile(&text) {

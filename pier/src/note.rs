@@ -1,6 +1,7 @@
 //! Notes for slips that compile: a side that describes a whole stretch of the
-//! day, a book that allows every plan, or none, a book without a rule or without
-//! anything. They are guesses, not proved.
+//! day, an obliging rule whose middle may end anywhere, a book that allows every
+//! plan, or none, a book without a rule or without anything. They are guesses, not
+//! proved.
 
 use crate::compile::Made;
 use crate::{card, files, hint};
@@ -36,7 +37,7 @@ fn whole(text: &[u8], marks: &[u8]) -> Option<String> {
         )),
         [card::HOPELESS] => Some("this book allows no plan at all, not even the empty one".into()),
         [card::PLAN_MAY_END] if !has_rule(text) => {
-            Some("this book has no rule (a line that begins with >): it allows every plan".into())
+            Some("this book has no rule (a line that begins with >, < or ^): it allows every plan".into())
         }
         [card::PLAN_MAY_END] => Some("this book allows every plan: its rules rule out nothing".into()),
         _ => None,
@@ -44,7 +45,7 @@ fn whole(text: &[u8], marks: &[u8]) -> Option<String> {
 }
 
 fn has_rule(text: &[u8]) -> bool {
-    text.split(|&byte| byte == b'\n').any(|line| line.starts_with(b">"))
+    text.split(|&byte| byte == b'\n').any(hint::is_rule)
 }
 
 /// What of an expression matters here. `open`: some alternative has at one of its
@@ -59,7 +60,7 @@ struct Shape {
 /// The definitions so far, by capital letter.
 type Names = [Shape; 26];
 
-/// A note for each side that is closed at both ends.
+/// The notes on the rules, line by line.
 fn sides(text: &[u8]) -> Vec<String> {
     let mut names = Names::default();
     let mut notes = Vec::new();
@@ -68,17 +69,26 @@ fn sides(text: &[u8]) -> Vec<String> {
         let bytes: Vec<u8> = bytes.iter().copied().filter(|&byte| byte != b' ').collect();
         match bytes[..] {
             [b'=', name, ref meaning @ ..] => names[usize::from(name - b'A')] = choice(&mut Cursor(meaning), &names),
-            [b'>', ref rule @ ..] => {
-                for context in rule.split(|&byte| byte == b'/').skip(1) {
-                    let sides = context.split(|&byte| byte == b'_').zip([Side::Left, Side::Right]);
-                    let closed = sides.filter(|(side, _)| !choice(&mut Cursor(side), &names).open);
-                    notes.extend(closed.map(|(side, which)| which.note(line, side)));
-                }
+            [sign, ref rule @ ..] if hint::is_rule(&bytes) => {
+                notes.extend(of_rule(sign, rule, &names).map(|note| format!("line {line}: {note}")))
             }
             _ => {}
         }
     }
     notes
+}
+
+/// A note for each side that is closed at both ends; in an obliging rule with a
+/// closed pattern also for each side that lets the middle begin or end anywhere.
+fn of_rule<'a>(sign: u8, rule: &'a [u8], names: &'a Names) -> impl Iterator<Item = String> + 'a {
+    let open = |part: &[u8]| choice(&mut Cursor(part), names).open;
+    let mut parts = rule.split(|&byte| byte == b'/');
+    let obliged = !open(parts.next().unwrap_or_default()) && sign == b'^';
+    let sides = parts.flat_map(|context| context.split(|&byte| byte == b'_').zip([Side::Left, Side::Right]));
+    sides.filter_map(move |(side, which)| match open(side) {
+        false => Some(which.closed(side, if sign == b'^' { "middle" } else { "pattern" })),
+        true => which.loose(side).filter(|_| obliged),
+    })
 }
 
 #[derive(Clone, Copy)]
@@ -88,7 +98,7 @@ enum Side {
 }
 
 impl Side {
-    fn note(self, line: usize, side: &[u8]) -> String {
+    fn closed(self, side: &[u8], middle: &str) -> String {
         let text = String::from_utf8_lossy(side);
         let part = if side.iter().any(|byte| b"|&-".contains(byte)) { format!("({text})") } else { text.to_string() };
         let (which, place, wider) = match self {
@@ -96,9 +106,26 @@ impl Side {
             Side::Right => ("right", "behind", format!("{part}.*")),
         };
         format!(
-            "line {line}: the {which} side {text} describes the whole rest of the day {place} the pattern; \
+            "the {which} side {text} describes the whole rest of the day {place} the {middle}; \
              write {wider} if more may stand there"
         )
+    }
+
+    /// On a side that is open towards the middle.
+    fn loose(self, side: &[u8]) -> Option<String> {
+        const EVERY: &str = "so every middle must be of the pattern, however short or long";
+        let text = String::from_utf8_lossy(side);
+        match self {
+            Side::Left if side.ends_with(b".*") => Some(format!(
+                "the left side {text} lets the middle begin anywhere, {EVERY}; end it with what comes before, \
+                 or write @ for the beginning of the day"
+            )),
+            Side::Right if side.starts_with(b".*") => Some(format!(
+                "the right side {text} lets the middle end anywhere, {EVERY}; begin it with what comes next, \
+                 or write @ for the end of the day"
+            )),
+            _ => None,
+        }
     }
 }
 
@@ -186,6 +213,7 @@ mod tests {
         }
         assert_eq!(whole(b":ab\n>a\n", &[1, 2]), None);
         assert!(sides(b"").is_empty() && sides(b":ab\n").is_empty());
+        assert!(has_rule(b":ab\n=A a\n<A / .*b _ .*\n") && has_rule(b":ab\n^(ab)* / @ _ @\n"));
     }
 
     #[test]
@@ -206,6 +234,8 @@ mod tests {
             (">b / C _ .*", "write .*C if"),
             (">b / .* _ .* / .* _ a", "the right side a "),
             (">b / .. _ .*", "the left side .. "),
+            ("<b / a _ .*", "before the pattern; write .*a if"),
+            ("^b.* / .*a _ @ / a _ @", "before the middle; write .*a if"),
         ] {
             let notes = of(rule);
             assert!(
@@ -214,6 +244,22 @@ mod tests {
             );
         }
         assert_eq!(of(">b / a _ c").len(), 2);
+    }
+
+    #[test]
+    fn loose_sides_of_an_obliging_rule_are_noted() {
+        for (rule, side) in [
+            ("^b / .*a _ .*", "the right side .* lets the middle end anywhere"),
+            ("^C / .*a.* _ b.*", "the left side .*a.* lets the middle begin anywhere"),
+            ("^A / .*a _ .*c.*", "begin it with what comes next, or write @"),
+        ] {
+            let notes = of(rule);
+            assert!(
+                notes.len() == 1 && notes[0].starts_with("line 5: ") && notes[0].contains(side),
+                "{rule} {notes:?}"
+            );
+        }
+        assert_eq!(of("^a / .* _ .*").len(), 2);
     }
 
     #[test]
@@ -227,6 +273,11 @@ mod tests {
             ">b / C|.*aC _ .*",
             ">b / !(.*a.*) _ .*a!(b)",
             ">b / (...)* _ (.*a)",
+            "<b / .*a _ .*",
+            "^A / @ _ @",
+            "^C|.*a.* / .*a _ a.*",
+            "^b.* / .*a _ @",
+            "^.*b.* / .*a _ .*",
         ] {
             assert!(of(rule).is_empty(), "{rule} {:?}", of(rule));
         }

@@ -18,7 +18,7 @@ const CHARACTERS: [(&[u8], &str); 13] = [
 ];
 
 /// Signs of other notations.
-const SIGNS: [(&[u8], &str); 11] = [
+const SIGNS: [(&[u8], &str); 9] = [
     (b"[]", "brackets are round, ( and )"),
     (b"{}", "brackets are round, ( and ), and a part that stands n times is written n times"),
     (b"#", "there are no comments: keep the text about a book in a file beside it"),
@@ -27,14 +27,28 @@ const SIGNS: [(&[u8], &str); 11] = [
     (b",", "alternatives are written |, contexts begin with /"),
     (b";", "nothing stands at the end of a line"),
     (b"\\", "there is no escaping: letters are a to z"),
-    (b"^", "a repetition is written *, + or ?, or the part as often as it stands"),
-    (b"<", "a rule begins with > and has no <"),
     (b"$", "the end of the day is written @ on the right side"),
+];
+
+/// The signs of two-level rules, the longer ones first.
+const OPERATORS: [(&[u8], &str); 4] = [
+    (b"/<=", "/<= is written <: the line begins with <, then pattern / left _ right"),
+    (b"<=>", "<=> is two lines: one begins with >, one with ^, then pattern / left _ right"),
+    (b"=>", "=> is written >: the line begins with >, then pattern / left _ right"),
+    (b"<=", "<= is written ^: the line begins with ^, then pattern / left _ right"),
 ];
 
 /// May this byte stand in a book, apart from line ends?
 pub fn is_sign(byte: u8) -> bool {
-    byte.is_ascii_alphabetic() || b" :=>/_|&-!*+?.@()".contains(&byte)
+    byte.is_ascii_alphabetic() || b" :=><^/_|&-!*+?.@()".contains(&byte)
+}
+
+/// The first sign of a two-level rule in the line, and what to write. No book holds one.
+pub fn operator(bytes: &[u8]) -> Option<(usize, &'static str)> {
+    (0..bytes.len()).find_map(|column| {
+        let found = OPERATORS.iter().find(|(operator, _)| bytes[column..].starts_with(operator));
+        found.map(|&(_, words)| (column, words))
+    })
 }
 
 /// A character that an editor put in, if one stands at this place.
@@ -89,5 +103,20 @@ mod tests {
             let found = words(bytes, column);
             assert!(found.contains(expected), "{found}");
         }
+    }
+
+    #[test]
+    fn signs_of_two_level_rules_are_named() {
+        for (line, column, expected) in [
+            ("b => a _ c", 2, "=> is written >"),
+            ("b <= a _ c", 2, "<= is written ^"),
+            ("b /<= a _ c", 2, "/<= is written <"),
+            ("b <=> a _ c", 2, "<=> is two lines"),
+            (">b/a_c=>b", 6, "=> is written >"),
+        ] {
+            let (found, words) = operator(line.as_bytes()).expect("an operator");
+            assert!(found == column && words.starts_with(expected), "{line}: {words}");
+        }
+        assert_eq!(operator(b"<b / a _ c"), None);
     }
 }

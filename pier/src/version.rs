@@ -21,7 +21,8 @@ which kinds of card and rule it knows, as does pier --version.
 /// The kinds of card.
 pub const CARDS: &[&str] = &["of 0 to 26 letters and 1 to 120 states"];
 /// The kinds of rule, by the sign that begins the line.
-pub const RULES: &[&str] = &["> (the pattern only in its contexts)"];
+pub const RULES: &[&str] =
+    &["> (the pattern only in its contexts)", "< (never in its contexts)", "^ (nothing else in its contexts)"];
 
 /// The kit's own line, which `build` hands over.
 fn kit() -> &'static str {

@@ -14,7 +14,7 @@ while read -r peak definitions; do
 states  1
 bytes   17
 peak    $peak of 512" "$(cat out)"
-    check "its note: $definitions" "bare.book: note: this book has no rule (a line that begins with >): it allows every plan" "$(cat err)"
+    check "its note: $definitions" "bare.book: note: this book has no rule (a line that begins with >, < or ^): it allows every plan" "$(cat err)"
     check "its card: $definitions" "$(bytes all.card)" "$(bytes bare.card)"
 done <<'TABLE'
 0
@@ -36,7 +36,7 @@ check "trying it" "ab	allowed
 (empty)	allowed
 bbbb	allowed
 ab?c	refused 27" "$(cat out)"
-check "with the note first" "bare.book: note: this book has no rule (a line that begins with >): it allows every plan
+check "with the note first" "bare.book: note: this book has no rule (a line that begins with >, < or ^): it allows every plan
 pier: 1 of 4 plans refused; the first is plan 4: c after 2 letters is not on the card" "$(cat err)"
 
 # The empty book.

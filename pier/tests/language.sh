@@ -52,6 +52,45 @@ done <<'TABLE'
 >a/!(.*a.*)|.*b!(.*a.*)_.*;>b/.*a!(.*b.*)_.* -,a,acb,aba b,aa,abb
 >x/.*_.?.?y.* xy,xay,xaay x,xaaay
 >a+/.*b_.* -,b,ba a,baa
+<x/.*a_.* -,xa,abx ax,bax
+<x/.*a.*_.* xa,x ax,abx
+<x/.*a!(.*b.*)_.* xa,abx ax,acx,abax
+<x/.*y_y.* yx,xy,yaxy yxy,ayxyb
+<x/@_.*/.*_@ -,axa x,xa,ax
+<x/.*y.*_.*/.*_.*y.* -,axa,y xy,yx,yax
+<a/b_b a,ba,babb bab
+^(ab)*/@_@ -,ab,abab a,ba,abb
+^x.*|@/@_@ -,x,xa a,ax
+^(a|b)*|.*x.*/@_x.* x,abx,axcx,c cx,acxa
+^(x|y)*|.*b.*/.*a_b.* ab,axyb,cac,abcab acb,axcb
+^x*y*|.*b.*/.*a_b.* ab,axxyb,abab,ayx ayxb
+^y*|.*x.*/.*x_@ -,x,axyy,axaxy xa,xya
+^.*b.*/.*a_@ -,cab,acb ac,bac,abaca
+^b.*/.*a_@ b,ab,abc ac,acb
+^b/.*a_.* -,b,cb abc,ac
+^x*/.*a_b.* ab,axxb,ba abab,acb
+>x/.*a_.*;<x/.*_y.*;^(a|x|y)*/@_@ -,ax,yaxa x,axy,axc
+^(a|x)*/@_@;>x/.*a_.*;<x/.*_a.* -,ax,aax x,axa,axb
+TABLE
+
+# Other words, the same card: books (their lines separated by ;) in pairs.
+while read -r one other; do
+    printf ':abcxy\n%s\n' "${one//;/$'\n'}" | pier compile - -o one.card >/dev/null 2>&1 || wrong "rules $one"
+    printf ':abcxy\n%s\n' "${other//;/$'\n'}" | pier compile - -o other.card >/dev/null 2>&1 || wrong "rules $other"
+    check "$one is $other" "$(cksum <one.card)" "$(cksum <other.card)"
+    rm -f one.card other.card
+done <<'TABLE'
+>x <x/.*_.*
+>xa|y <xa|y/.*_.*
+<x/.*a_b.* >x/!(.*a)_.*/.*_!(b.*)
+<x/.*a_b.* ^!(x)/.*a_b.*
+^x*y*|.*b.*/.*a_b.* <!(x*y*|.*b.*)/.*a_b.*
+^(ab)*/@_@ >!((ab)*)/.+_.*/.*_.+
+<x/.*a_.*/.*_b.* <x/.*a_.*;<x/.*_b.*
+<x/.*a_.*/.*_b.* >x/!(.*a)_!(b.*)
+^x*/.*a_b.*/.*b_a.* ^x*/.*a_b.*;^x*/.*b_a.*
+^(a|x)*/@_@;>x/.*a_.*;<x/.*_a.* <x/.*_a.*;^(a|x)*/@_@;>x/.*a_.*
+=Nxy*;<N/.*a_b.* <xy*/.*a_b.*
 TABLE
 
 # The sizes.
@@ -61,4 +100,13 @@ while read -r rule states peak; do
     printf ':ab\n%s\n' "$rule" >set.book
     check "size of $rule" "states  $states peak    $peak of 512" \
         "$(pier compile set.book -o set.card | sed -n '2p;4p' | tr '\n' ' ' | sed 's/ $//')"
+done <sizes
+sed -n 's/^| `\([<^][^`]*\)` | \([0-9]*\) | `\(>[^`]*\)` | \([0-9]*\) | \([0-9]*\) |$/\1;\2;\3;\4;\5/p' "$top/docs/GUIDE.md" >sizes
+[ "$(wc -l <sizes)" -ge 3 ] || wrong "the guide's sizes of the other kinds"
+while IFS=';' read -r rule peak same other states; do
+    check "sizes of $rule" "states  $states peak    $peak of 512 states  $states peak    $other of 512" \
+        "$(for words in "$rule" "$same"; do printf ':ab\n%s\n' "$words" | pier compile - -o set.card 2>/dev/null; cksum <set.card >>cards; done \
+            | sed -n '2p;4p;6p;8p' | tr '\n' ' ' | sed 's/ $//')"
+    check "and one card" 1 "$(sort -u cards | wc -l)"
+    rm -f cards
 done <sizes

@@ -1,17 +1,34 @@
 //! The samples' expected replies once more, from what the books mean: allowed by
 //! trying every cut of the plan, what is owed by trying every continuation,
-//! shorter ones first, hopeless by derivatives, the shortest stretch by trying
-//! every stretch from every derivative. No stage and no card is made here.
+//! shorter ones first, hopeless by derivatives, rule by rule, the shortest stretch
+//! by trying every stretch from every state. No stage and no card is made here.
 
 #![cfg(feature = "reference")]
 
 use reference::derivative::Derivatives;
-use reference::machine::Machine;
+use reference::machine::{explore, Machine};
+use reference::minimise::minimise;
 use reference::pieces;
 use reference::reader::read_book;
-use reference::syntax::Book;
+use reference::syntax::{Book, Line, Rule};
 use std::fs;
 use std::path::Path;
+
+/// Each rule by its derivatives, and then all of them side by side.
+fn machine(book: &Book) -> Machine {
+    let alone = |kept: &Rule| {
+        let kept_line = |line: &&Line| !matches!(line, Line::Rule(rule) if rule != kept);
+        let lines = book.lines.iter().filter(kept_line).cloned().collect();
+        let derivatives = Derivatives::of(&Book { alphabet: book.alphabet.clone(), lines });
+        minimise(&derivatives.machine(1_000).ok().expect("few derivatives"))
+    };
+    let rules: Vec<Machine> = book.rules().map(alone).collect();
+    let step = |states: &Vec<usize>, symbol: usize| {
+        rules.iter().zip(states).map(|(rule, &state)| rule.next[state][symbol]).collect()
+    };
+    let accepting = |states: &Vec<usize>| rules.iter().zip(states).all(|(rule, &state)| rule.accepting[state]);
+    explore(book.alphabet.len(), 10_000, vec![0; rules.len()], step, accepting).ok().expect("few states")
+}
 
 fn columns(book: &Book, plan: &[u8]) -> Option<Vec<usize>> {
     plan.iter().map(|letter| book.alphabet.iter().position(|known| known == letter)).collect()
@@ -73,7 +90,7 @@ fn expected_replies_are_what_the_books_mean() {
         }
         books += 1;
         let book = read_book(&fs::read(&path).unwrap()).expect("a well-formed book");
-        let machine = Derivatives::of(&book).machine(10_000).ok().expect("few derivatives");
+        let machine = machine(&book);
         let plans = fs::read(path.with_extension("plans")).expect("its plans");
         let plans: Vec<&[u8]> = plans.strip_suffix(b"\n").unwrap().split(|&byte| byte == b'\n').collect();
         let compare = |expected: String, found: fn(&Book, &Machine, &[u8]) -> String| {
