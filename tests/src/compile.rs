@@ -167,24 +167,61 @@ impl Workshop {
     }
 }
 
+/// What is to be erased; none before the first context of `<` and `^`.
+pub type Marked = Result<Option<Machine>, u8>;
+
+/// The parts of a rule's recipe.
+impl Workshop {
+    /// p; for `^`, q = `.*-p` in its place.
+    pub fn middles(&mut self, rule: &Rule) -> Made {
+        let p = self.choice(&rule.pattern)?;
+        match rule.kind {
+            RuleKind::Restricts | RuleKind::Forbids => Ok(p),
+            RuleKind::Obliges => self.difference(&given::all_words(self.symbols), &p),
+        }
+    }
+
+    /// For `>`, X = `.*` M p M `.*`.
+    pub fn before_contexts(&mut self, kind: RuleKind, p: &Machine) -> Marked {
+        let (all, mark) = (given::all_words(self.symbols), given::mark(self.symbols));
+        match kind {
+            RuleKind::Restricts => self.joined(&[&all, &mark, p, &mark, &all]).map(Some),
+            RuleKind::Forbids | RuleKind::Obliges => Ok(None),
+        }
+    }
+
+    /// For `>`, those so far minus a context's l M p M r; for `<` and `^`, from
+    /// the second on, `|` of those so far with it.
+    pub fn with_context(&mut self, kind: RuleKind, so_far: Option<Machine>, fitting: Machine) -> Marked {
+        match (kind, so_far) {
+            (_, None) => Ok(Some(fitting)),
+            (RuleKind::Restricts, Some(so_far)) => self.difference(&so_far, &fitting).map(Some),
+            (RuleKind::Forbids | RuleKind::Obliges, Some(so_far)) => self.union(&so_far, &fitting).map(Some),
+        }
+    }
+
+    /// E = erase; `.*-E`.
+    pub fn excluding(&mut self, marked: Option<Machine>) -> Made {
+        let e = self.erase(&marked.expect("`<` and `^` have a context"))?;
+        self.difference(&given::all_words(self.symbols), &e)
+    }
+}
+
 /// How the machine of one rule's allowed plans is made.
 pub type RuleRecipe = fn(&mut Workshop, &Rule) -> Made;
 
-/// The recipe of document 01: p; X; each context's sides, joins and minus;
-/// erase; `.*-E`.
+/// The recipe of document 01 and, for `<` and `^`, of W4.
 pub fn rule(workshop: &mut Workshop, rule: &Rule) -> Made {
-    let all = given::all_words(workshop.symbols);
     let mark = given::mark(workshop.symbols);
-    let p = workshop.choice(&rule.pattern)?;
-    let mut x = workshop.joined(&[&all, &mark, &p, &mark, &all])?;
+    let p = workshop.middles(rule)?;
+    let mut marked = workshop.before_contexts(rule.kind, &p)?;
     for (left, right) in &rule.contexts {
         let l = workshop.choice(left)?;
         let r = workshop.choice(right)?;
         let fitting = workshop.joined(&[&l, &mark, &p, &mark, &r])?;
-        x = workshop.difference(&x, &fitting)?;
+        marked = workshop.with_context(rule.kind, marked, fitting)?;
     }
-    let e = workshop.erase(&x)?;
-    workshop.difference(&all, &e)
+    workshop.excluding(marked)
 }
 
 /// An accepted book.

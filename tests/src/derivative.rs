@@ -2,9 +2,10 @@
 //!
 //! An expression is kept in a normal form (unions and intersections as sets
 //! of parts), so it has finitely many derivatives. A rule's derivative keeps
-//! three things: the contexts' left sides after the letters read, the
-//! patterns that have begun (by which left sides held at their beginning),
-//! and what the letters still to come must be. No mark is needed.
+//! three things: the contexts' left sides after the letters read, the middles
+//! that have begun (by which left sides held at their beginning), and what the
+//! letters still to come must be. A middle that counts is one in the pattern;
+//! for `^`, one that isn't. No mark is needed.
 
 use crate::machine::{explore, Machine, TooMany};
 use crate::syntax::*;
@@ -185,7 +186,9 @@ impl Store {
 
 /// A rule with its sides in the store.
 struct StoredRule {
-    pattern: Id,
+    kind: RuleKind,
+    /// The middles that count.
+    middles: Id,
     lefts: Vec<Id>,
     rights: Vec<Id>,
 }
@@ -195,7 +198,7 @@ struct StoredRule {
 struct Standing {
     /// The left sides' derivatives.
     lefts: Vec<Id>,
-    /// Patterns begun, by the contexts whose left side held there.
+    /// Middles begun, by the contexts whose left side held there.
     begun: BTreeMap<Vec<usize>, Id>,
     /// What the rest of the plan must be.
     due: Id,
@@ -220,11 +223,18 @@ impl Derivatives {
                     let id = choice(&mut store, &names, body);
                     names.insert(*name, id);
                 }
-                Line::Rule(rule) => rules.push(StoredRule {
-                    pattern: choice(&mut store, &names, &rule.pattern),
-                    lefts: rule.contexts.iter().map(|(l, _)| choice(&mut store, &names, l)).collect(),
-                    rights: rule.contexts.iter().map(|(_, r)| choice(&mut store, &names, r)).collect(),
-                }),
+                Line::Rule(rule) => {
+                    let pattern = choice(&mut store, &names, &rule.pattern);
+                    rules.push(StoredRule {
+                        kind: rule.kind,
+                        middles: match rule.kind {
+                            RuleKind::Restricts | RuleKind::Forbids => pattern,
+                            RuleKind::Obliges => store.complement(pattern),
+                        },
+                        lefts: rule.contexts.iter().map(|(l, _)| choice(&mut store, &names, l)).collect(),
+                        rights: rule.contexts.iter().map(|(_, r)| choice(&mut store, &names, r)).collect(),
+                    })
+                }
             }
         }
         Derivatives { store: RefCell::new(store), alphabet: book.alphabet.clone(), rules }
@@ -252,20 +262,25 @@ impl Derivatives {
         )
     }
 
-    /// A pattern may begin here, and one that is complete here lays on the
-    /// rest of the plan that one of its contexts' right sides holds it.
+    /// A middle may begin here, and one that is complete here lays on the rest
+    /// of the plan that one of its contexts' right sides holds it; for `<` and
+    /// `^`, that none does.
     fn at_this_place(&self, rule: &StoredRule, mut standing: Standing) -> Standing {
         let store = &mut *self.store.borrow_mut();
         let held: Vec<usize> =
             (0..standing.lefts.len()).filter(|&index| store.nullable(standing.lefts[index])).collect();
         let before = standing.begun.get(&held).copied();
-        let begun = store.union(before.into_iter().chain([rule.pattern]));
+        let begun = store.union(before.into_iter().chain([rule.middles]));
         standing.begun.insert(held, begun);
-        for (contexts, &pattern) in &standing.begun {
-            if store.nullable(pattern) {
+        for (contexts, &middles) in &standing.begun {
+            if store.nullable(middles) {
                 let rights: Vec<Id> = contexts.iter().map(|&index| rule.rights[index]).collect();
                 let one_of_them = store.union(rights);
-                standing.due = store.intersection([standing.due, one_of_them]);
+                let laid_on = match rule.kind {
+                    RuleKind::Restricts => one_of_them,
+                    RuleKind::Forbids | RuleKind::Obliges => store.complement(one_of_them),
+                };
+                standing.due = store.intersection([standing.due, laid_on]);
             }
         }
         standing

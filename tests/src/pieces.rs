@@ -122,15 +122,21 @@ impl<'w> Word<'w> {
         Pieces::from_fn(self.word.len(), |i, j| i == j)
     }
 
-    /// Every cut into v, x, y with x in the pattern has one context with both
-    /// its sides.
+    /// Every cut into v, x, y is as the rule's kind wants it: x in the pattern
+    /// or not, v and y the two sides of one context or not.
     pub fn obeys(&self, rule: &Rule) -> bool {
         let end = self.word.len();
         let pattern = self.choice(&rule.pattern);
         let contexts: Vec<_> = rule.contexts.iter().map(|(l, r)| (self.choice(l), self.choice(r))).collect();
         (0..=end).all(|i| {
             (i..=end).all(|j| {
-                !pattern.holds(i, j) || contexts.iter().any(|(left, right)| left.holds(0, i) && right.holds(j, end))
+                let called = pattern.holds(i, j);
+                let fits = contexts.iter().any(|(left, right)| left.holds(0, i) && right.holds(j, end));
+                match rule.kind {
+                    RuleKind::Restricts => !called || fits,
+                    RuleKind::Forbids => !(called && fits),
+                    RuleKind::Obliges => !fits || called,
+                }
             })
         })
     }

@@ -135,13 +135,13 @@ fn later_line(bytes: &[u8]) -> Option<Line> {
             }
             Some(Line::Definition(*name, choice(body)?))
         }
-        b'>' => {
+        _ => {
+            let kind = RuleKind::of_sign(*sign)?;
             let mut parts = packed.split(|&byte| byte == b'/');
             let pattern = choice(parts.next()?)?;
             let contexts = parts.map(context).collect::<Option<Vec<_>>>()?;
-            Some(Line::Rule(Rule { pattern, contexts }))
+            (contexts.len() >= kind.fewest_contexts()).then_some(Line::Rule(Rule { kind, pattern, contexts }))
         }
-        _ => None,
     }
 }
 

@@ -48,9 +48,46 @@ pub enum Atom {
     Group(Choice),
 }
 
+/// What a rule says of a cut whose middle is in its pattern, or whose sides
+/// are both in one of its contexts.
+#[derive(Clone, Copy, PartialEq, Eq, Debug)]
+pub enum RuleKind {
+    /// `>`: the first only together with the second.
+    Restricts,
+    /// `<`: the two never together.
+    Forbids,
+    /// `^`: the second only together with the first.
+    Obliges,
+}
+
+impl RuleKind {
+    pub const ALL: [RuleKind; 3] = [RuleKind::Restricts, RuleKind::Forbids, RuleKind::Obliges];
+
+    /// The first byte of such a line.
+    pub fn sign(self) -> u8 {
+        match self {
+            RuleKind::Restricts => b'>',
+            RuleKind::Forbids => b'<',
+            RuleKind::Obliges => b'^',
+        }
+    }
+
+    pub fn of_sign(sign: u8) -> Option<RuleKind> {
+        RuleKind::ALL.into_iter().find(|kind| kind.sign() == sign)
+    }
+
+    pub fn fewest_contexts(self) -> usize {
+        match self {
+            RuleKind::Restricts => 0,
+            RuleKind::Forbids | RuleKind::Obliges => 1,
+        }
+    }
+}
+
 /// A pattern and its contexts (left, right).
 #[derive(Clone, PartialEq, Eq, Debug)]
 pub struct Rule {
+    pub kind: RuleKind,
     pub pattern: Choice,
     pub contexts: Vec<(Choice, Choice)>,
 }

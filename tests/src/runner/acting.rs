@@ -52,6 +52,9 @@ pub const COMPILING: &[&str] = &[
     "no input prints nothing",
     "no rule is refused",
     "a line end is no input",
+    "< and ^ exchanged",
+    "< and ^ are stray",
+    "a rule is one of >",
 ];
 
 /// While the input is no longer than this, what is ready is written before
@@ -156,6 +159,20 @@ pub fn compile(fault: &str) {
     match fault {
         "reads 16,384 bytes" => input.truncate(16_384),
         "a line end is no input" if input == b"\n" => input.clear(),
+        "< and ^ exchanged" => {
+            for byte in &mut input {
+                *byte = match byte {
+                    b'<' => b'^',
+                    b'^' => b'<',
+                    _ => *byte,
+                };
+            }
+        }
+        "< and ^ are stray" => {
+            for byte in input.iter_mut().filter(|byte| b"<^".contains(byte)) {
+                *byte = b'~';
+            }
+        }
         _ => {}
     }
     let mut output = card_or_line(&input);
@@ -172,13 +189,21 @@ pub fn compile(fault: &str) {
         "says nothing" => output.clear(),
         "no input is a spoiled line" if input.is_empty() => output = b"refused 5 line 1\n".to_vec(),
         "no input prints nothing" if input.is_empty() => output.clear(),
-        "no rule is refused" if !is_refusal && output != NO_LETTERS_CARD && !input.contains(&b'>') => {
+        "no rule is refused" if !is_refusal && output != NO_LETTERS_CARD && !has_rule(&input, b"><^") => {
             output = b"refused 10 line 0\n".to_vec();
+        }
+        "a rule is one of >" if !is_refusal && output != NO_LETTERS_CARD && !has_rule(&input, b">") => {
+            output = EVERYTHING_CARD.to_vec();
         }
         "crashes on a long book" if input.len() > 16_384 => std::process::abort(),
         _ => {}
     }
     write_output(fault, &output);
+}
+
+/// Whether a line begins with one of the signs.
+fn has_rule(text: &[u8], signs: &[u8]) -> bool {
+    text.split(|&byte| byte == b'\n').any(|line| line.first().is_some_and(|sign| signs.contains(sign)))
 }
 
 /// Reads to the end, calling `before` before each read; false where a read

@@ -9,9 +9,11 @@ use crate::limits;
 use crate::random_books;
 use crate::rng::Rng;
 use crate::shrink::shrink;
+use crate::sister_examples;
 use crate::tally::{hex, shown, Tally};
 use reference::card;
-use reference::reader::LONGEST_TEXT;
+use reference::reader::{self, LONGEST_TEXT};
+use reference::refusal::{Refusal, NESTED};
 
 /// Work buffers that a caller may be asked for.
 const MOST_BUFFERS: usize = 8;
@@ -49,6 +51,9 @@ impl Comparison<'_> {
                 for expression in [left, right] {
                     self.text(tally, expression, format!(":abc\n>{expression}/.*a_@|{expression}\n").as_bytes());
                 }
+            }
+            for (left, right, same) in sister_examples::alike() {
+                self.alike(tally, left, right, same);
             }
         });
         tally.group("compile: further books", |tally| {
@@ -89,6 +94,13 @@ impl Comparison<'_> {
             }),
             ("compile: random lines", 3000, random_books::soup),
         ];
+        let title = "compile: obliging rules worded as forbidding ones";
+        tally.group(title, |tally| {
+            let mut rng = tally.rng(title);
+            for _ in 0..self.effort.of(1000) {
+                self.reworded(tally, &random_books::book(&mut rng));
+            }
+        });
         for (title, usual, make) in kinds {
             tally.group(title, |tally| {
                 let mut rng = tally.rng(title);
@@ -161,6 +173,37 @@ impl Comparison<'_> {
         self.compare(tally, example.title, &request);
     }
 
+    /// Whether the product gives two books the same card, whatever the reference says.
+    fn alike(&self, tally: &mut Tally, left: &str, right: &str, same: bool) {
+        if tally.is_over() {
+            return;
+        }
+        let card = |text: &str| {
+            let found = self.answer(&self.request(text.as_bytes()));
+            (found.number, found.card_buffer[..(found.length as usize).min(found.card_buffer.len())].to_vec())
+        };
+        let (left_card, right_card) = (card(left), card(right));
+        tally.check((left_card == right_card) == same && left_card.0 + right_card.0 == 0, || {
+            format!("{left:?} and {right:?}: same is {same}\n  product: {left_card:?}\n  and      {right_card:?}")
+        });
+    }
+
+    /// `^p` has the contexts' stages behind those of `.*-p`, and so has
+    /// `<!(p)`: the product's two answers are one, peak and refusal included.
+    fn reworded(&self, tally: &mut Tally, text: &[u8]) {
+        let other = random_books::without_obliging(text);
+        let is_nested = |refusal: Refusal| refusal.number == NESTED;
+        if tally.is_over() || other == text || reader::read_book(&other).is_err_and(is_nested) {
+            return;
+        }
+        let [found, reworded] =
+            [text, &other[..]].map(|text| self.answer(&Request { rubbish: 0, ..self.request(text) }));
+        tally.check(found == reworded, || {
+            let (left, right) = (shown(text), shown(&other));
+            format!("{left} and {right}\n  product: {}\n  and      {}", told(&found), told(&reworded))
+        });
+    }
+
     fn answer(&self, request: &Request) -> Compiled {
         last_case::note(|| {
             let (text, bench, card) = (shown(&request.text), &request.bench, request.card_length);
@@ -202,6 +245,8 @@ impl Comparison<'_> {
     fn telling_texts() -> Vec<Vec<u8>> {
         vec![
             b":ab\n>b / .*a _ .*\n".to_vec(),
+            b":ab\n<b / .*a _ .*\n".to_vec(),
+            b":ab\n^b\n".to_vec(),
             vec![b' '; LONGEST_TEXT + 1],
             Vec::new(),
             b">".to_vec(),
@@ -236,12 +281,14 @@ impl Comparison<'_> {
     }
 
     fn card_buffers(&self, tally: &mut Tally) {
-        let books: [&[u8]; 9] = [
+        let books: [&[u8]; 11] = [
             b"",
             b":ab\n",
             b":ab\n=Aa+\n",
             b":ab\n>b / .*a _ .*\n",
             b":ab\n>a\n",
+            b":ab\n<a/b_b\n",
+            b":ab\n^a/a_b/b_a\n",
             b":a\n>@/a_.*\n",
             b":abcdefghijklmnopqrstuvwxyz\n>az/.*_.*b.*\n",
             b":abc\n>b / a _ a / c _ c\n",

@@ -11,6 +11,7 @@ use crate::random_books;
 use crate::random_cards;
 use crate::rng::Rng;
 use crate::shrink::shrink;
+use crate::sister_examples;
 use crate::tally::{hex, shown, Tally};
 use reference::board;
 use reference::compile::{compile, Lent};
@@ -330,7 +331,7 @@ pub fn both(tally: &mut Tally, compiler: &Program, judge: &Program, effort: Effo
         let mut rng = tally.rng("programs: compiled, then judged");
         let mut texts = Vec::new();
         if effort.fixed {
-            let listed = [examples::ruleless(), examples::owing()].concat();
+            let listed = [examples::ruleless(), examples::owing(), sister_examples::all()].concat();
             texts = listed.into_iter().map(|example| example.text).collect();
         }
         texts.extend((0..effort.of(100)).map(|_| random_books::book(&mut rng)));

@@ -1,5 +1,6 @@
 //! Books with the results that are due, worked out by hand from document 01.
 
+use crate::sister_examples;
 use reference::board::Verdict::{self, Allowed, Hopeless, Unfinished};
 
 /// What is due for a book; what isn't stated isn't compared.
@@ -17,21 +18,21 @@ pub struct Example {
 }
 
 impl Example {
-    fn peak(mut self, count: usize) -> Example {
+    pub fn peak(mut self, count: usize) -> Example {
         if let Due::Accepted { peak, .. } = &mut self.due {
             *peak = Some(count);
         }
         self
     }
 
-    fn card(mut self, bytes: &[u8]) -> Example {
+    pub fn card(mut self, bytes: &[u8]) -> Example {
         if let Due::Accepted { card, .. } = &mut self.due {
             *card = Some(bytes.to_vec());
         }
         self
     }
 
-    fn verdict(mut self, plan: &'static str, verdict: Verdict) -> Example {
+    pub fn verdict(mut self, plan: &'static str, verdict: Verdict) -> Example {
         if let Due::Accepted { verdicts, .. } = &mut self.due {
             verdicts.push((plan, verdict));
         }
@@ -39,12 +40,12 @@ impl Example {
     }
 }
 
-fn accepted(title: &'static str, text: impl AsRef<[u8]>) -> Example {
+pub fn accepted(title: &'static str, text: impl AsRef<[u8]>) -> Example {
     let due = Due::Accepted { peak: None, card: None, verdicts: Vec::new() };
     Example { title, text: text.as_ref().to_vec(), due }
 }
 
-fn refused(title: &'static str, text: impl AsRef<[u8]>, number: u8, line: usize) -> Example {
+pub fn refused(title: &'static str, text: impl AsRef<[u8]>, number: u8, line: usize) -> Example {
     Example { title, text: text.as_ref().to_vec(), due: Due::Refused { number, line } }
 }
 
@@ -77,6 +78,12 @@ pub const NOTHING_CARD: &[u8] =
 /// The card over a, b that allows every plan.
 pub const EVERYTHING_CARD: &[u8] =
     &[0x0C, 0x00, 0x02, 0x00, 0x0E, 0x00, 0x01, 0x00, 0x0F, 0x00, 0x02, 0x00, 0x61, 0x62, 0x01, 0x00, 0x00];
+
+/// The card over a, b that allows the empty plan alone.
+pub const ONLY_EMPTY_CARD: &[u8] = &[
+    0x0C, 0x00, 0x02, 0x00, 0x0E, 0x00, 0x02, 0x00, 0x10, 0x00, 0x04, 0x00, 0x61, 0x62, 0x01, 0x02, 0x01, 0x01, 0x01,
+    0x01,
+];
 
 /// The card of a text of no bytes: no letters, and the empty plan allowed.
 pub const NO_LETTERS_CARD: &[u8] = &[0x0C, 0x00, 0x00, 0x00, 0x0C, 0x00, 0x01, 0x00, 0x0D, 0x00, 0x00, 0x00, 0x01];
@@ -185,8 +192,6 @@ pub fn reading() -> Vec<Example> {
         refused("a definition that is never used", format!(":a\n=A {}\n>a\n", a(119)), 9, 2),
         refused("a digit", ":ab\n=A1a\n>a\n", 5, 2),
         refused("a digit as a letter", ":a1\n>a\n", 5, 1),
-        refused("a line that begins with <", ":ab\n<a/b_b\n", 5, 2),
-        refused("a line that begins with ^", ":ab\n^a/b_b\n", 5, 2),
         refused("a line that begins with a letter", ":ab\na\n", 5, 2),
         refused("empty brackets", ":ab\n>()\n", 5, 2),
         refused("an empty pattern", ":ab\n>\n", 5, 2),
@@ -368,9 +373,10 @@ pub fn owing() -> Vec<Example> {
     ]
 }
 
-/// All books above; those below take their time.
+/// All books above and those of the two sister kinds; those below take their
+/// time.
 pub fn quick() -> Vec<Example> {
-    [paper(), reading(), ruleless(), staging(), owing()].concat()
+    [paper(), reading(), ruleless(), staging(), owing(), sister_examples::all()].concat()
 }
 
 /// Books of thousands of stages.
@@ -426,5 +432,10 @@ pub fn counts() -> Vec<(String, usize, &'static str, usize)> {
         (":ab\n=A.*\n".into(), 0, "*", 4),
         (":ab\n=Aa+\n".into(), 1, "join", 5),
         (":ab\n=Aa?\n".into(), 0, "|", 3),
+        // q over a, b; then `|` of two contexts.
+        (":ab\n^a/a_b/b_a\n".into(), 0, "-", 4),
+        (":ab\n^a/a_b/b_a\n".into(), 9, "|", 14),
+        (":ab\n<a/a_b/b_a\n".into(), 8, "|", 12),
+        (":ab\n<@/@-@_@\n".into(), 5, "erase", 2),
     ]
 }

@@ -1,6 +1,7 @@
 //! What the two programs print, by the reference.
 
 use crate::examples::{EVERYTHING_CARD, FIRST_CARD, NO_LETTERS_CARD, NO_LETTERS_NOTHING_CARD};
+use crate::sister_examples::{NO_A_FIRST_CARD, NO_B_BEHIND_A_CARD};
 use reference::board::{judge, Refused, Verdict};
 use reference::compile::{compile, Lent};
 
@@ -85,6 +86,9 @@ pub fn compiled_out() -> Vec<(Bytes, Bytes)> {
         (b"", NO_LETTERS_CARD),
         (b":ab\n", EVERYTHING_CARD),
         (b":ab\n=Aa+\n", EVERYTHING_CARD),
+        (b":ab\n<b / .*a _ .*\n", NO_B_BEHIND_A_CARD),
+        (b":ab\n^b / a _ .*\n", NO_A_FIRST_CARD),
+        (b":ab\n>a\n^b\n", b"refused 5 line 3\n"),
         (b":ab", b"refused 5 line 1\n"),
         (b":", b"refused 5 line 1\n"),
         (b":\n", b"refused 5 line 1\n"),

@@ -105,7 +105,11 @@ pub fn line_form(line: &[u8]) -> Option<Vec<String>> {
         b'=' if packed.get(1)?.is_ascii_uppercase() => {
             Some(vec![format!("={}", packed[1] as char), choice_form(&packed[2..])?])
         }
-        b'>' => rule_form(&packed[1..]).map(|parts| [vec![">".into()], parts].concat()),
+        sign @ (b'>' | b'<' | b'^') => {
+            let parts = rule_form(&packed[1..])?;
+            let is_whole = *sign == b'>' || parts.len() > 1;
+            is_whole.then(|| [vec![(*sign as char).to_string()], parts].concat())
+        }
         _ => None,
     }
 }
@@ -132,7 +136,12 @@ pub fn tree_form(line: &Line) -> Vec<String> {
         Line::Alphabet(letters) => vec![String::from_utf8_lossy(letters).into()],
         Line::Definition(name, body) => vec![format!("={}", *name as char), choice(body)],
         Line::Rule(rule) => {
-            let mut parts = vec![">".to_string(), choice(&rule.pattern)];
+            let sign = match rule.kind {
+                RuleKind::Restricts => ">",
+                RuleKind::Forbids => "<",
+                RuleKind::Obliges => "^",
+            };
+            let mut parts = vec![sign.to_string(), choice(&rule.pattern)];
             for (left, right) in &rule.contexts {
                 parts.push(choice(left));
                 parts.push(choice(right));

@@ -27,6 +27,7 @@ mod planted_compilers;
 mod planted_factors;
 mod planted_lines;
 mod planted_mounted;
+mod planted_recipes;
 mod product;
 mod program;
 mod random_books;
@@ -40,6 +41,7 @@ mod self_meaning;
 mod self_mounted;
 mod self_planted;
 mod shrink;
+mod sister_examples;
 mod tally;
 
 use effort::Effort;

@@ -2,12 +2,12 @@
 //! have to find every one of them.
 
 use crate::entry::{answer, Buffer, CompileEntry, Compiled, Reference, Request};
+use crate::planted_recipes;
 use reference::board;
 use reference::card;
-use reference::compile::{compile_by, rule, Lent, Limits, Made, RuleRecipe, Workshop, LIMITS};
-use reference::machine::given;
+use reference::compile::{compile_by, rule, Lent, Limits, RuleRecipe, LIMITS};
 use reference::reader;
-use reference::syntax::Rule;
+use reference::syntax::RuleKind;
 
 /// A compiler whose answer is worked out by a function.
 pub struct Planted {
@@ -87,7 +87,7 @@ fn lines_of(text: &[u8]) -> Vec<Vec<u8>> {
 }
 
 pub fn all() -> Vec<Planted> {
-    [texts(), answers(), ruleless(), limits(), recipes(), cards(), buffers()].into_iter().flatten().collect()
+    [texts(), answers(), ruleless(), sisters(), limits(), recipes(), cards(), buffers()].into_iter().flatten().collect()
 }
 
 fn texts() -> Vec<Planted> {
@@ -95,8 +95,9 @@ fn texts() -> Vec<Planted> {
         text("compiles only the first rule", |text| {
             let mut rules = 0;
             let kept = lines_of(text).into_iter().filter(|line| {
-                rules += usize::from(line[0] == b'>');
-                line[0] != b'>' || rules == 1
+                let is_rule = RuleKind::of_sign(line[0]).is_some();
+                rules += usize::from(is_rule);
+                !is_rule || rules == 1
             });
             kept.collect::<Vec<_>>().concat()
         }),
@@ -129,6 +130,15 @@ fn texts() -> Vec<Planted> {
         text("knows no spaces", |text| text.iter().map(|&byte| if byte == b' ' { b'~' } else { byte }).collect()),
         text("a plus is a star", |text| text.iter().map(|&byte| if byte == b'+' { b'*' } else { byte }).collect()),
         text("a minus is an and", |text| text.iter().map(|&byte| if byte == b'-' { b'&' } else { byte }).collect()),
+        text("two signs are one", |text| {
+            let lines = lines_of(text).into_iter().map(|mut line| {
+                if is_sister(&line) && line.get(1) == Some(&line[0]) {
+                    line.remove(0);
+                }
+                line
+            });
+            lines.collect::<Vec<_>>().concat()
+        }),
         text("the sides swapped", |text| {
             let lines = lines_of(text).into_iter().map(|line| {
                 let ended = line.ends_with(b"\n");
@@ -373,6 +383,81 @@ fn ruleless() -> Vec<Planted> {
     ]
 }
 
+/// Faults in reading lines that begin with `<` and `^`.
+fn sisters() -> Vec<Planted> {
+    vec![
+        text("< is stray", |text| signs_changed(text, |sign| if sign == b'<' { b'~' } else { sign })),
+        text("^ is stray", |text| signs_changed(text, |sign| if sign == b'^' { b'~' } else { sign })),
+        text("< and ^ exchanged", |text| {
+            signs_changed(text, |sign| match sign {
+                b'<' => b'^',
+                b'^' => b'<',
+                _ => sign,
+            })
+        }),
+        text("sister rules rule out nothing", |text| {
+            let kept = lines_of(text).into_iter().filter(|line| !is_sister(line) || is_bare_sister(line));
+            kept.collect::<Vec<_>>().concat()
+        }),
+        text("only the first sister rule", |text| {
+            let mut sisters = 0;
+            let kept = lines_of(text).into_iter().filter(|line| {
+                sisters += usize::from(is_sister(line));
+                !is_sister(line) || sisters == 1
+            });
+            kept.collect::<Vec<_>>().concat()
+        }),
+        text("a sister rule without a context allows everything", |text| {
+            let lines = lines_of(text).into_iter().map(|line| match line.strip_suffix(b"\n") {
+                Some(body) if is_bare_sister(&line) => [b">", &body[1..], b"/.*_.*\n"].concat(),
+                _ => line,
+            });
+            lines.collect::<Vec<_>>().concat()
+        }),
+        text("a sister rule without a context is one of >", |text| {
+            let lines = lines_of(text).into_iter().map(|line| match is_bare_sister(&line) {
+                true => [b">", &line[1..]].concat(),
+                false => line,
+            });
+            lines.collect::<Vec<_>>().concat()
+        }),
+        after("6 before 5 in a sister rule without a context", |request, found| {
+            let mut lines = lines_of(&request.text);
+            let index = found.line.saturating_sub(1) as usize;
+            if found.number == 5 && lines.get(index).is_some_and(is_bare_sister) {
+                lines[index][0] = b'>';
+                let read = faultless(&Request { text: lines.concat(), ..request.clone() });
+                if (read.number, read.line) == (6, found.line) {
+                    return read;
+                }
+            }
+            found
+        }),
+        after("underscores of sister rules aren't counted", |request, found| {
+            let lines = lines_of(&request.text);
+            let counted = found.number == 4 && is_sister(&lines[found.line as usize - 1]);
+            Compiled { number: if counted { 5 } else { found.number }, ..found }
+        }),
+    ]
+}
+
+fn is_sister(line: &Vec<u8>) -> bool {
+    line.starts_with(b"<") || line.starts_with(b"^")
+}
+
+fn is_bare_sister(line: &Vec<u8>) -> bool {
+    is_sister(line) && !line.contains(&b'/')
+}
+
+/// The first byte of every line changed.
+fn signs_changed(text: &[u8], change: fn(u8) -> u8) -> Vec<u8> {
+    let lines = lines_of(text).into_iter().map(|mut line| {
+        line[0] = change(line[0]);
+        line
+    });
+    lines.collect::<Vec<_>>().concat()
+}
+
 /// Another first marks byte on the card of a text without rules, where the
 /// text is a wanted one.
 fn marks_changed(name: &'static str, wanted: fn(&Request) -> bool, byte: u8) -> Planted {
@@ -397,175 +482,13 @@ fn limits() -> Vec<Planted> {
 }
 
 fn recipes() -> Vec<Planted> {
-    vec![
-        stages("one mark where two are due", LIMITS, one_mark),
-        stages("sides of two contexts", LIMITS, mixed_contexts),
-        stages("complement before erasing", LIMITS, complement_first),
-        stages("contexts extended", LIMITS, extended),
-        stages("joined from the right", LIMITS, from_the_right),
-        stages("contexts united, one minus", LIMITS, one_minus),
-        stages("contexts before X", LIMITS, contexts_first),
-        stages("all sides before the joins", LIMITS, all_sides_first),
-        stages("joins before the right side", LIMITS, joins_before_right),
-        stages("the last context left out", LIMITS, without_last_context),
-    ]
+    planted_recipes::all().into_iter().map(|(name, recipe)| stages(name, LIMITS, recipe)).collect()
 }
 
-/// The recipes that make other cards; the meaning alone has to show it.
-pub fn wrong_meanings() -> Vec<(&'static str, RuleRecipe)> {
-    vec![
-        ("one mark where two are due", one_mark),
-        ("sides of two contexts", mixed_contexts),
-        ("complement before erasing", complement_first),
-        ("contexts extended", extended),
-        ("the last context left out", without_last_context),
-    ]
-}
-
-fn one_mark(workshop: &mut Workshop, rule: &Rule) -> Made {
-    let (all, mark) = (given::all_words(workshop.symbols), given::mark(workshop.symbols));
-    let p = workshop.choice(&rule.pattern)?;
-    let mut x = workshop.joined(&[&all, &mark, &p, &all])?;
-    for (left, right) in &rule.contexts {
-        let (l, r) = (workshop.choice(left)?, workshop.choice(right)?);
-        let fitting = workshop.joined(&[&l, &mark, &p, &r])?;
-        x = workshop.difference(&x, &fitting)?;
-    }
-    let e = workshop.erase(&x)?;
-    workshop.difference(&all, &e)
-}
-
-fn mixed_contexts(workshop: &mut Workshop, original: &Rule) -> Made {
-    let mut mixed = original.clone();
-    mixed.contexts.clear();
-    for (left, _) in &original.contexts {
-        for (_, right) in &original.contexts {
-            mixed.contexts.push((left.clone(), right.clone()));
-        }
-    }
-    rule(workshop, &mixed)
-}
-
-fn complement_first(workshop: &mut Workshop, rule: &Rule) -> Made {
-    let (all, mark) = (given::all_words(workshop.symbols), given::mark(workshop.symbols));
-    let p = workshop.choice(&rule.pattern)?;
-    let mut x = workshop.joined(&[&all, &mark, &p, &mark, &all])?;
-    for (left, right) in &rule.contexts {
-        let (l, r) = (workshop.choice(left)?, workshop.choice(right)?);
-        let fitting = workshop.joined(&[&l, &mark, &p, &mark, &r])?;
-        x = workshop.difference(&x, &fitting)?;
-    }
-    let marked = workshop.joined(&[&all, &mark, &all, &mark, &all])?;
-    let rest = workshop.difference(&marked, &x)?;
-    workshop.erase(&rest)
-}
-
-fn extended(workshop: &mut Workshop, rule: &Rule) -> Made {
-    let (all, mark) = (given::all_words(workshop.symbols), given::mark(workshop.symbols));
-    let p = workshop.choice(&rule.pattern)?;
-    let mut x = workshop.joined(&[&all, &mark, &p, &mark, &all])?;
-    for (left, right) in &rule.contexts {
-        let (l, r) = (workshop.choice(left)?, workshop.choice(right)?);
-        let fitting = workshop.joined(&[&all, &l, &mark, &p, &mark, &r, &all])?;
-        x = workshop.difference(&x, &fitting)?;
-    }
-    let e = workshop.erase(&x)?;
-    workshop.difference(&all, &e)
-}
-
-fn from_the_right(workshop: &mut Workshop, rule: &Rule) -> Made {
-    let (all, mark) = (given::all_words(workshop.symbols), given::mark(workshop.symbols));
-    let p = workshop.choice(&rule.pattern)?;
-    let joined = |workshop: &mut Workshop, parts: [&reference::machine::Machine; 5]| -> Made {
-        let mut so_far = parts[4].clone();
-        for part in parts[..4].iter().rev() {
-            so_far = workshop.concatenation(part, &so_far)?;
-        }
-        Ok(so_far)
-    };
-    let mut x = joined(workshop, [&all, &mark, &p, &mark, &all])?;
-    for (left, right) in &rule.contexts {
-        let (l, r) = (workshop.choice(left)?, workshop.choice(right)?);
-        let fitting = joined(workshop, [&l, &mark, &p, &mark, &r])?;
-        x = workshop.difference(&x, &fitting)?;
-    }
-    let e = workshop.erase(&x)?;
-    workshop.difference(&all, &e)
-}
-
-fn one_minus(workshop: &mut Workshop, rule: &Rule) -> Made {
-    let (all, mark) = (given::all_words(workshop.symbols), given::mark(workshop.symbols));
-    let p = workshop.choice(&rule.pattern)?;
-    let mut x = workshop.joined(&[&all, &mark, &p, &mark, &all])?;
-    let mut united = None;
-    for (left, right) in &rule.contexts {
-        let (l, r) = (workshop.choice(left)?, workshop.choice(right)?);
-        let fitting = workshop.joined(&[&l, &mark, &p, &mark, &r])?;
-        united = Some(match united {
-            None => fitting,
-            Some(so_far) => workshop.union(&so_far, &fitting)?,
-        });
-    }
-    if let Some(united) = united {
-        x = workshop.difference(&x, &united)?;
-    }
-    let e = workshop.erase(&x)?;
-    workshop.difference(&all, &e)
-}
-
-fn contexts_first(workshop: &mut Workshop, rule: &Rule) -> Made {
-    let (all, mark) = (given::all_words(workshop.symbols), given::mark(workshop.symbols));
-    let p = workshop.choice(&rule.pattern)?;
-    let mut fitting = Vec::new();
-    for (left, right) in &rule.contexts {
-        let (l, r) = (workshop.choice(left)?, workshop.choice(right)?);
-        fitting.push(workshop.joined(&[&l, &mark, &p, &mark, &r])?);
-    }
-    let mut x = workshop.joined(&[&all, &mark, &p, &mark, &all])?;
-    for one in &fitting {
-        x = workshop.difference(&x, one)?;
-    }
-    let e = workshop.erase(&x)?;
-    workshop.difference(&all, &e)
-}
-
-fn all_sides_first(workshop: &mut Workshop, rule: &Rule) -> Made {
-    let (all, mark) = (given::all_words(workshop.symbols), given::mark(workshop.symbols));
-    let p = workshop.choice(&rule.pattern)?;
-    let mut x = workshop.joined(&[&all, &mark, &p, &mark, &all])?;
-    let mut sides = Vec::new();
-    for (left, right) in &rule.contexts {
-        sides.push((workshop.choice(left)?, workshop.choice(right)?));
-    }
-    for (l, r) in &sides {
-        let fitting = workshop.joined(&[l, &mark, &p, &mark, r])?;
-        x = workshop.difference(&x, &fitting)?;
-    }
-    let e = workshop.erase(&x)?;
-    workshop.difference(&all, &e)
-}
-
-fn joins_before_right(workshop: &mut Workshop, rule: &Rule) -> Made {
-    let (all, mark) = (given::all_words(workshop.symbols), given::mark(workshop.symbols));
-    let p = workshop.choice(&rule.pattern)?;
-    let mut x = workshop.joined(&[&all, &mark, &p, &mark, &all])?;
-    for (left, right) in &rule.contexts {
-        let l = workshop.choice(left)?;
-        let begun = workshop.joined(&[&l, &mark, &p, &mark])?;
-        let r = workshop.choice(right)?;
-        let fitting = workshop.concatenation(&begun, &r)?;
-        x = workshop.difference(&x, &fitting)?;
-    }
-    let e = workshop.erase(&x)?;
-    workshop.difference(&all, &e)
-}
-
-fn without_last_context(workshop: &mut Workshop, original: &Rule) -> Made {
-    let mut shorter = original.clone();
-    if shorter.contexts.len() > 3 {
-        shorter.contexts.pop();
-    }
-    rule(workshop, &shorter)
+/// Faults in what a rule of some kind is or means.
+pub fn of_kinds() -> Vec<Planted> {
+    let meanings = planted_recipes::wrong_meanings().into_iter();
+    sisters().into_iter().chain(meanings.map(|(name, recipe)| stages(name, LIMITS, recipe))).collect()
 }
 
 fn cards() -> Vec<Planted> {

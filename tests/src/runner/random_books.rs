@@ -1,9 +1,10 @@
 //! Random books, well formed and damaged.
 
 use crate::rng::Rng;
+use reference::syntax::RuleKind;
 
-/// A well-formed book: an alphabet, perhaps definitions, most often rules. Now
-/// and then a text of no bytes.
+/// A well-formed book: an alphabet, perhaps definitions, most often rules of
+/// all three kinds. Now and then a text of no bytes.
 pub fn book(rng: &mut Rng) -> Vec<u8> {
     if rng.once_in(60) {
         return Vec::new();
@@ -95,11 +96,12 @@ impl Writer {
     }
 
     fn rule(&mut self, rng: &mut Rng) {
-        self.out.push(b'>');
+        let kind = *rng.pick(&RuleKind::ALL);
+        self.out.push(kind.sign());
         let size = rng.between(1, if self.heavy { 12 } else { 5 });
         self.choice(rng, size, 0);
         let contexts = *rng.pick(&[0, 1, 1, 1, 1, 2, 2, 2, 3, 4]);
-        for _ in 0..contexts {
+        for _ in 0..contexts.max(kind.fewest_contexts()) {
             self.put(rng, b'/');
             self.side(rng, true);
             self.put(rng, b'_');
@@ -205,6 +207,18 @@ fn halves(rng: &mut Rng, size: usize) -> (usize, usize) {
     (left, size - left)
 }
 
+/// The same book with `<!(p)` for every rule `^p`.
+pub fn without_obliging(text: &[u8]) -> Vec<u8> {
+    let lines = text.split_inclusive(|&byte| byte == b'\n').map(|line| match line.strip_prefix(b"^") {
+        Some(rest) => {
+            let end = rest.iter().position(|&byte| byte == b'/').unwrap_or(rest.len());
+            [b"<!(", &rest[..end], b")", &rest[end..]].concat()
+        }
+        None => line.to_vec(),
+    });
+    lines.collect::<Vec<_>>().concat()
+}
+
 /// Bytes that mean something in a book, and some that don't.
 const LIKELY: &[u8] = b"abcz.@ABC()|&-!*+?/_=>: \n\r\t\0~1<^\x7f\x80\xff";
 
@@ -224,7 +238,7 @@ fn damage(rng: &mut Rng, text: &mut Vec<u8>) {
         return;
     }
     let place = rng.below(text.len());
-    match rng.below(16) {
+    match rng.below(18) {
         0..=3 => text[place] = byte,
         4..=6 => text.insert(place, byte),
         7..=8 => {
@@ -246,10 +260,17 @@ fn damage(rng: &mut Rng, text: &mut Vec<u8>) {
             let mut lines: Vec<Vec<u8>> = text.split_inclusive(|&byte| byte == b'\n').map(<[u8]>::to_vec).collect();
             let (from, to) = (rng.below(lines.len()), rng.below(lines.len() + 1));
             let line = lines[from].clone();
-            if kind == 15 {
-                lines.remove(from);
-            } else {
-                lines.insert(to, line);
+            match kind {
+                15 => {
+                    lines.remove(from);
+                }
+                16 => lines[from][0] = rng.pick(&RuleKind::ALL).sign(),
+                // A rule without its contexts.
+                17 => {
+                    let end = line.iter().position(|byte| b"/\n".contains(byte)).unwrap_or(line.len());
+                    lines[from] = [&line[..end], b"\n"].concat();
+                }
+                _ => lines.insert(to, line),
             }
             *text = lines.concat();
         }
@@ -265,7 +286,7 @@ pub fn soup(rng: &mut Rng) -> Vec<u8> {
     };
     for _ in 0..rng.below(4) {
         if !rng.once_in(8) {
-            let sign = *rng.pick(b">>>==");
+            let sign = *rng.pick(b">><^==");
             text.push(sign);
             if sign == b'=' {
                 text.push(*rng.pick(b"ABC"));

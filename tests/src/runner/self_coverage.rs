@@ -1,5 +1,6 @@
 //! The random cases meet every refusal and every kind of verdict.
 
+use crate::grammar;
 use crate::random_books;
 use crate::random_cards;
 use crate::tally::Tally;
@@ -14,7 +15,10 @@ pub fn run(tally: &mut Tally) {
     tally.group("reference: random cases meet every answer", |tally| {
         let books = books(tally);
         let accepted = ["accepted", "accepted, no bytes", "accepted, no rule", "accepted, no rule and no peak"];
-        for answer in [&accepted[..], &["3", "4", "5", "6", "7", "8", "9", "11"]].concat() {
+        let kinds = ["some plans, only >", "some plans, only <", "some plans, only ^", "some plans, kinds mixed"];
+        let sisters =
+            ["sister 3", "sister 4", "sister 5", "sister 6", "sister 8", "sister 9", "sister without context"];
+        for answer in [&accepted[..], &kinds, &sisters, &["3", "4", "5", "6", "7", "8", "9", "11"]].concat() {
             tally.check(books.get(answer).is_some_and(|&times| times >= 5), || format!("books: {answer} in {books:?}"));
         }
         tally.check(!books.contains_key("10"), || format!("books: 10 in {books:?}"));
@@ -115,8 +119,23 @@ fn books(tally: &Tally) -> Met {
         };
         let card = if rng.once_in(4) { rng.below(200) } else { 4000 };
         match compile(&text, &Lent { bench: Vec::new(), card }) {
-            Ok(accepted) => count(&mut met, kind(&text, accepted.peak)),
-            Err(refusal) => count(&mut met, refusal.number.to_string()),
+            Ok(accepted) => {
+                count(&mut met, kind(&text, accepted.peak));
+                // Neither every plan nor none.
+                if board::bodies(&accepted.card).is_ok_and(|bodies| bodies.states() > 1) {
+                    count(&mut met, format!("some plans, {}", rule_kinds(&text)));
+                }
+            }
+            Err(refusal) => {
+                count(&mut met, refusal.number.to_string());
+                let line = text.split(|&byte| byte == b'\n').nth(refusal.line.wrapping_sub(1)).unwrap_or(b"");
+                if line.starts_with(b"<") || line.starts_with(b"^") {
+                    count(&mut met, format!("sister {}", refusal.number));
+                    if refusal.number == 5 && is_rule_without_context(line) {
+                        count(&mut met, "sister without context");
+                    }
+                }
+            }
         }
     }
     met
@@ -124,13 +143,30 @@ fn books(tally: &Tally) -> Met {
 
 /// What kind of text was accepted.
 fn kind(text: &[u8], peak: usize) -> &'static str {
-    let has_rule = text.split(|&byte| byte == b'\n').any(|line| line.starts_with(b">"));
+    let has_rule = rule_kinds(text) != "no rule";
     match (text.is_empty(), has_rule, peak) {
         (true, ..) => "accepted, no bytes",
         (_, true, _) => "accepted",
         (_, false, 0) => "accepted, no rule and no peak",
         (_, false, _) => "accepted, no rule",
     }
+}
+
+/// The kinds of an accepted text's rules.
+fn rule_kinds(text: &[u8]) -> &'static str {
+    let begins = |sign: u8| text.split(|&byte| byte == b'\n').any(|line| line.first() == Some(&sign));
+    match (begins(b'>'), begins(b'<'), begins(b'^')) {
+        (false, false, false) => "no rule",
+        (true, false, false) => "only >",
+        (false, true, false) => "only <",
+        (false, false, true) => "only ^",
+        _ => "kinds mixed",
+    }
+}
+
+/// Whether the line's choice would do for a rule `>`.
+fn is_rule_without_context(line: &[u8]) -> bool {
+    grammar::line_form(&[b">", &line[1..]].concat()).is_some_and(|parts| parts.len() == 2)
 }
 
 /// About how many letters are owed.

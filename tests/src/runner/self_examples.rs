@@ -4,6 +4,7 @@ use crate::board_examples;
 use crate::entry::{BoardEntry, MountedEntry, Reference};
 use crate::examples::{self, Due, Example};
 use crate::limits::{self, Nearest};
+use crate::sister_examples;
 use crate::tally::{shown, Tally};
 use reference::board::{self, Verdict};
 use reference::card;
@@ -18,6 +19,11 @@ pub fn run(tally: &mut Tally) {
     tally.group("reference: how a text is read", |tally| all(tally, examples::reading()));
     tally.group("reference: texts without rules", |tally| all(tally, examples::ruleless()));
     tally.group("reference: how much is owed", |tally| all(tally, examples::owing()));
+    tally.group("reference: forbidding and obliging rules", |tally| {
+        all(tally, sister_examples::all());
+        alike(tally);
+        operations(tally);
+    });
     tally.group("reference: how stages are made", |tally| {
         all(tally, examples::staging());
         all(tally, examples::many_stages());
@@ -66,6 +72,22 @@ fn counts(tally: &mut Tally) {
         let (_, stages) = compile_traced(text.as_bytes());
         let found = stages.get(index).map(|stage| (stage.operation, stage.sets));
         tally.same(&format!("sets of stage {index} of {}", shown(text.as_bytes())), &Some((operation, sets)), &found);
+    }
+}
+
+/// Books compared by their cards.
+fn alike(tally: &mut Tally) {
+    let card = |text: &str| compile(text.as_bytes(), &Lent::plenty()).expect("an accepted example").card;
+    for (left, right, same) in sister_examples::alike() {
+        tally.check((card(left) == card(right)) == same, || format!("{left:?} and {right:?}: same is {same}"));
+    }
+}
+
+fn operations(tally: &mut Tally) {
+    for (text, due) in sister_examples::operations() {
+        let (_, stages) = compile_traced(text.as_bytes());
+        let found: Vec<&str> = stages.iter().map(|stage| stage.operation).collect();
+        tally.same(&format!("stages of {text:?}"), &due.to_string(), &found.join(" "));
     }
 }
 

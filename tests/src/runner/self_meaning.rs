@@ -60,10 +60,11 @@ pub fn run(tally: &mut Tally, effort: Effort) {
     tally.group("reference: the reader by the grammar", |tally| {
         let mut rng = tally.rng("the grammar");
         for case in 0..effort.of(2000) {
-            let mut text = random_books::book(&mut rng);
-            if case % 2 == 1 {
-                text = random_books::damaged(&mut rng, &text);
-            }
+            let text = match case % 3 {
+                0 => random_books::soup(&mut rng),
+                _ => random_books::book(&mut rng),
+            };
+            let text = if case % 3 == 2 { random_books::damaged(&mut rng, &text) } else { text };
             reading(tally, &text);
         }
     });

@@ -14,6 +14,7 @@ use crate::planted_compilers;
 use crate::planted_factors;
 use crate::planted_lines;
 use crate::planted_mounted;
+use crate::planted_recipes;
 use crate::product::JudgeLines;
 use crate::program::Program;
 use crate::random_books;
@@ -32,14 +33,17 @@ const RANDOM: Effort = Effort { fixed: false, ..Effort::HUNT };
 
 pub fn run(tally: &mut Tally) {
     tally.group("reference: faults planted in compilers are found", |tally| {
-        let hunt = |planted: &planted_compilers::Planted| {
+        let hunt = |planted: &planted_compilers::Planted, effort: Effort| {
             let mut found = Tally::hunting(SEED);
-            compare_compile::run(&mut found, planted, Effort::HUNT);
+            compare_compile::run(&mut found, planted, effort);
             found.failed
         };
-        tally.same("a compiler without a fault", &0, &hunt(&planted_compilers::right()));
+        tally.same("a compiler without a fault", &0, &hunt(&planted_compilers::right(), Effort::HUNT));
         for planted in planted_compilers::all() {
-            tally.check(hunt(&planted) > 0, || format!("not found: {}", planted.name));
+            tally.check(hunt(&planted, Effort::HUNT) > 0, || format!("not found: {}", planted.name));
+        }
+        for planted in planted_compilers::of_kinds() {
+            tally.check(hunt(&planted, RANDOM) > 0, || format!("not found by random cases: {}", planted.name));
         }
     });
     tally.group("reference: faults planted in boards are found", |tally| {
@@ -135,7 +139,7 @@ fn stretches(tally: &mut Tally) {
 }
 
 fn wrong_recipes(tally: &mut Tally) {
-    for (name, recipe) in planted_compilers::wrong_meanings() {
+    for (name, recipe) in planted_recipes::wrong_meanings() {
         let mut rng = tally.rng(name);
         let found = (0..2000).any(|_| {
             let text = random_books::book(&mut rng);
