@@ -1,5 +1,5 @@
-// Runs the whole way on some of the paper's books and plans, on a book without rules and on a text of no bytes, a line each: length, peak, letters and
-// states of the card and the board's reply; or the refusal with its line. The card buffer is longer than the card and holds other bytes, and so do the work buffers.
+// Runs the whole way on some of the paper's books and plans, on a book of the three kinds of rules, on one without rules and on a text of no bytes, a line
+// each: length, peak, letters and states of the card and the board's reply; or the refusal with its line. The card buffer is longer than the card and holds other bytes, and so do the work buffers.
 use handing::BoardAnswer;
 use handing::Delivered;
 use libc::STDOUT_FILENO;
@@ -95,6 +95,9 @@ fn main() {
     deliver(b":ab\n>b / .*a _ .*\n", b"abb");
     deliver(b":ab\n>b / .*a _ .*\n", b"abcb");
     deliver(b":abc\n>b / a _ a / c _ c\n", b"ab");
+    let mixed = b":ab\n>a / .*b _ .*\n<aa / .* _ .*\n^(.*b)? / @ _ @\n";
+    deliver(mixed, b"ba");
+    deliver(mixed, b"baa");
     deliver(b":ab\n>c\n", b"ab");
     deliver(b":ab\n=Aa+\n", b"abba");
     deliver(b"", b"");
