@@ -1,4 +1,4 @@
--- The forms of the later lines, as 01 words them, and the theorem that `formOf` finds them: a line is malformed exactly when it is of neither form.
+-- The forms of the later lines, as 01 and W4 word them, and the theorem that `formOf` finds them: a line is malformed exactly when it is of neither form.
 use Prim.Native.Nat.{ℕ, zero, suc, _≤_}
 use mathlib.Core.Path.{_≡_, refl, ap, ap₂, sym, _∙_, subst}
 use mathlib.Core.Bool.{Bool, true, false}
@@ -8,13 +8,12 @@ use native.Mathlib.Omega.{arith}
 use lib.Dec.{eqb}
 use lib.ListN.{length, length-append}
 use Rattle.automata.specs.Booleans.{choose}
-use Rattle.automata.specs.Basics.{nat-test}
 use Rattle.language.specs.Restriction.{RuleKind, restricts, forbids, obliges, Enough}
 use Rattle.language.specs.Expression.{Expr}
 use Rattle.book.specs.Kind.{kindOf, isName, sign-byte, equalsKind, greaterKind, slashKind, underscoreKind, lessKind, caretKind}
 use Rattle.book.specs.Reader.{Read, got, bad, readChoice}
 use Rattle.book.specs.Grammar.{Choice, Stops, inChoice, reader-sound, reader-whole}
-use Rattle.book.specs.Text.{Form, define, rule, malformed, tokens, tailAt, onRead, needsContext, ended, contextsOf, defineAs, defineOf, ruleOf, formOf}
+use Rattle.book.specs.Text.{Form, define, rule, malformed, tokens, tailAt, onRead, ruleForm, contextsOf, defineAs, defineOf, ruleOf, formOf}
 
 -- "then per context `/`, a choice, `_`, a choice"
 pub data Contexts : List ℕ → List (Expr × Expr) → Type 0 where
@@ -51,25 +50,25 @@ enough-some restricts c cs = tt
 enough-some forbids c cs = tt
 enough-some obliges c cs = tt
 
-ended-sound : (kind : RuleKind) (p : Expr) (cs : List (Expr × Expr)) → RuleIs kind p cs [] (ended kind p cs)
-ended-sound restricts p [] = ([], refl, refl, refl, none refl, tt)
-ended-sound forbids p [] = tt
-ended-sound obliges p [] = tt
-ended-sound kind p (c ∷ cs) = ([], refl, refl, append-nil (c ∷ cs), none refl, enough-some kind c cs)
+rule-form-sound : (kind : RuleKind) (p : Expr) (cs : List (Expr × Expr)) → RuleIs kind p cs [] (ruleForm kind p cs)
+rule-form-sound restricts p [] = ([], refl, refl, refl, none refl, tt)
+rule-form-sound forbids p [] = tt
+rule-form-sound obliges p [] = tt
+rule-form-sound kind p (c ∷ cs) = ([], refl, refl, append-nil (c ∷ cs), none refl, enough-some kind c cs)
 
-ended-whole : (kind : RuleKind) (p : Expr) (cs : List (Expr × Expr)) → Enough kind cs → ended kind p cs ≡ rule kind p cs
-ended-whole restricts p [] h = refl
-ended-whole forbids p [] h = absurd h
-ended-whole obliges p [] h = absurd h
-ended-whole kind p (c ∷ cs) h = refl
+rule-form-whole : (kind : RuleKind) (p : Expr) (cs : List (Expr × Expr)) → Enough kind cs → ruleForm kind p cs ≡ rule kind p cs
+rule-form-whole restricts p [] h = refl
+rule-form-whole forbids p [] h = absurd h
+rule-form-whole obliges p [] h = absurd h
+rule-form-whole kind p (c ∷ cs) h = refl
 
 abbrev go-on : RuleKind → ℕ → Expr → List (Expr × Expr) → Expr → List ℕ → Form
 go-on kind n p cs l us = tailAt underscoreKind us λ vs. onRead (readChoice vs) λ r ws. contextsOf kind n p (cs ++ ((l, r) ∷ [])) ws
 
 contexts-sound : (kind : RuleKind) (n : ℕ) (p : Expr) (cs : List (Expr × Expr)) (ts : List ℕ) → RuleIs kind p cs ts (contextsOf kind n p cs ts)
-contexts-sound kind zero p cs [] = ended-sound kind p cs
+contexts-sound kind zero p cs [] = rule-form-sound kind p cs
 contexts-sound kind zero p cs (b ∷ ts) = tt
-contexts-sound kind (suc n) p cs [] = ended-sound kind p cs
+contexts-sound kind (suc n) p cs [] = rule-form-sound kind p cs
 contexts-sound kind (suc n) p cs (b ∷ ts) = slash (eqb (kindOf b) slashKind) refl (λ cs ws. contexts-sound kind n p cs ws)
   where
     Rest : Type 0
@@ -108,8 +107,8 @@ contexts-stops ts cs (none z) = rw z tt
 contexts-stops ts cs (more a b c z) = rw z refl
 
 pub contexts-end : (kind : RuleKind) (n : ℕ) (p : Expr) (cs : List (Expr × Expr)) → Enough kind cs → contextsOf kind n p cs [] ≡ rule kind p cs
-contexts-end kind zero p cs h = ended-whole kind p cs h
-contexts-end kind (suc n) p cs h = ended-whole kind p cs h
+contexts-end kind zero p cs h = rule-form-whole kind p cs h
+contexts-end kind (suc n) p cs h = rule-form-whole kind p cs h
 
 contexts-step : (kind : RuleKind) (n : ℕ) (p : Expr) (cs : List (Expr × Expr)) (ts : List ℕ) (l : Expr) (us : List ℕ) (r : Expr) (vs : List ℕ) → readChoice ts ≡ got l (95 ∷ us) → readChoice us ≡ got r vs
     → contextsOf kind (suc n) p cs (47 ∷ ts) ≡ contextsOf kind n p (cs ++ ((l, r) ∷ [])) vs

@@ -14,7 +14,6 @@ use Rattle.language.specs.Environment.{known, allKnown}
 use Rattle.book.specs.Kind.{kindOf, openKind, closeKind, underscoreKind}
 use Rattle.book.specs.Text.{Line, tooDeep, countOf, lineTest, Form, define, rule, malformed, formOf, unless}
 use Rattle.book.specs.LineGrammar.{LineForm, squeezed, form-whole, define-exact, rule-exact, malformed-exact}
-use Rattle.book.specs.Line as L
 use Rattle.book.specs.Line.{LineRead, reads, stops, checkForm, readLine}
 
 -- 3: "counting `(` as +1 and `)` as -1 along the line, the count passes 4": behind some first part of the line it is over 4.

@@ -1,5 +1,5 @@
 -- The code of a line: a program for a stack of machines. An expression is written in postfix, each of its signs behind its operands; a rule is a
--- straight row of codes around its expressions, in the order of 01. A letter and a name are their own codes.
+-- straight row of codes around its expressions, in the order of 01 and W4. A letter and a name are their own codes.
 use Prim.Native.Nat.{ℕ}
 use mathlib.Core.List.{List, [], _∷_, _++_}
 use Rattle.automata.specs.Stages.{Pairing, either, both, without}
@@ -98,7 +98,7 @@ abbrev pub contextsProgram : Pairing → List (Expr × Expr) → List ℕ
 contextsProgram o [] = finishProgram
 contextsProgram o (c ∷ cs) = postfix (c .0) ++ (postfix (c .1) ++ (contextProgram ++ (pairCode o ∷ contextsProgram o cs)))
 
--- the first context of `<` and `^` is met by no other
+-- "from the second on": the first context of `<` and `^` is united with no other. (One there is: `contexts-enough`.)
 abbrev pub unionProgram : List (Expr × Expr) → List ℕ
 unionProgram [] = finishProgram
 unionProgram (c ∷ cs) = postfix (c .0) ++ (postfix (c .1) ++ (contextProgram ++ contextsProgram either cs))

@@ -97,14 +97,15 @@ needsContext restricts = false
 needsContext forbids = true
 needsContext obliges = true
 
-abbrev pub ended : RuleKind → Expr → List (Expr × Expr) → Form
-ended kind p [] = choose (needsContext kind) (λ _. malformed) (λ _. rule kind p [])
-ended kind p (c ∷ cs) = rule kind p (c ∷ cs)
+-- a rule with the contexts that it needs, where the line ends
+abbrev pub ruleForm : RuleKind → Expr → List (Expr × Expr) → Form
+ruleForm kind p [] = choose (needsContext kind) (λ _. malformed) (λ _. rule kind p [])
+ruleForm kind p (c ∷ cs) = rule kind p (c ∷ cs)
 
 abbrev pub contextsOf : RuleKind → ℕ → Expr → List (Expr × Expr) → List ℕ → Form
-contextsOf kind zero p cs [] = ended kind p cs
+contextsOf kind zero p cs [] = ruleForm kind p cs
 contextsOf kind zero p cs (b ∷ ts) = malformed
-contextsOf kind (suc n) p cs [] = ended kind p cs
+contextsOf kind (suc n) p cs [] = ruleForm kind p cs
 contextsOf kind (suc n) p cs (b ∷ ts) =
     unless (eqb (kindOf b) slashKind) (λ _. malformed) λ _.
     onRead (readChoice ts) λ l us.

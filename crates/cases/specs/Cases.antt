@@ -80,7 +80,7 @@ notBab = 12 ∷ 0 ∷ 2 ∷ 0 ∷ 14 ∷ 0 ∷ 5 ∷ 0 ∷ 19 ∷ 0 ∷ 10 ∷ 0
 abbrev pub twoForbidden : List ℕ
 twoForbidden = 12 ∷ 0 ∷ 2 ∷ 0 ∷ 14 ∷ 0 ∷ 7 ∷ 0 ∷ 21 ∷ 0 ∷ 14 ∷ 0 ∷ 97 ∷ 98 ∷ 1 ∷ 1 ∷ 1 ∷ 1 ∷ 1 ∷ 1 ∷ 0 ∷ 1 ∷ 2 ∷ 3 ∷ 4 ∷ 5 ∷ 4 ∷ 4 ∷ 6 ∷ 4 ∷ 4 ∷ 6 ∷ 4 ∷ 4 ∷ 4 ∷ []
 
--- `^a / a _ b / b _ a`: from an `a` to a `b`, and from a `b` to an `a`, one `a`
+-- `^a / a _ b / b _ a`: a plan that begins with `a` and ends with `b`, or begins with `b` and ends with `a`, is `aab` or `baa`
 abbrev pub twoObliged : List ℕ
 twoObliged = 12 ∷ 0 ∷ 2 ∷ 0 ∷ 14 ∷ 0 ∷ 9 ∷ 0 ∷ 23 ∷ 0 ∷ 18 ∷ 0 ∷ 97 ∷ 98 ∷ 1 ∷ 1 ∷ 1 ∷ 1 ∷ 0 ∷ 0 ∷ 1 ∷ 1 ∷ 0 ∷ 1 ∷ 2 ∷ 3 ∷ 4 ∷ 5 ∷ 6 ∷ 7 ∷ 7 ∷ 7 ∷ 4 ∷ 6 ∷ 6 ∷ 8 ∷ 6 ∷ 7 ∷ 4 ∷ 8 ∷ 6 ∷ []
 

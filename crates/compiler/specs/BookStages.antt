@@ -1,4 +1,4 @@
--- The stages of a book: its operations, each with the machines that it is made of, in the order of the lines and of 01's "Stages". No limit stands
+-- The stages of a book: its operations, each with the machines that it is made of, in the order of the lines and of the "Stages" of 01 and of W4. No limit stands
 -- here: which sets a stage reaches and which machine it keeps is a matter of its operands alone.
 use Prim.Native.Nat.{ℕ, suc, _≤_}
 use mathlib.Core.Path.{_≡_}
@@ -85,7 +85,7 @@ abbrev pub contextsStages : List ℕ → List (ℕ × Machine) → Pairing → M
 contextsStages ls env o P [] X = gives X
 contextsStages ls env o P (c ∷ cs) X = andThen (contextStages ls env P c) λ C. makes (pairs o X C) λ Y. contextsStages ls env o P cs Y
 
--- "from the second on, `|`". (Without a context the line is malformed, and makes no stage.)
+-- "from the second on, `|`". (P is never read: no line is read as such a rule without a context, `contexts-enough`.)
 abbrev pub unionStages : List ℕ → List (ℕ × Machine) → Machine → List (Expr × Expr) → Row
 unionStages ls env P [] = gives P
 unionStages ls env P (c ∷ cs) = andThen (contextStages ls env P c) λ X. contextsStages ls env either P cs X

@@ -12,15 +12,13 @@ use lib.ListN.{length, take, drop, getD, set, length-append, length-set}
 use lib.Seq.{take-suc, take-suc-set, take-length}
 use Rattle.automata.specs.Booleans.{choose}
 use Rattle.automata.specs.Basics.{nat-test, SameCases, same-cases}
-use Rattle.automata.specs.Stages.{Pairing, either, without}
 use Rattle.language.specs.Restriction.{RuleKind, restricts, forbids, obliges, Some, Enough}
 use Rattle.language.specs.Expression.{Expr}
-use Rattle.language.specs.Evaluate.{patternOf}
 use Rattle.book.specs.Kind.{kindOf, spaceKind, slashKind, underscoreKind, lineEndKind}
 use Rattle.book.specs.Reader.{got, bad, readChoice}
 use Rattle.book.specs.Grammar.{reader-sound}
-use Rattle.book.specs.Text.{tokens, countOf, Form, malformed, formOf, contextsOf, onRead, tailAt, unless}
-use Rattle.book.specs.Program.{storePatternCode, eitherCode, pairCode, postfix, patternProgram, contextProgram}
+use Rattle.book.specs.Text.{tokens, countOf, Form, rule, malformed, formOf, contextsOf, onRead, tailAt, unless}
+use Rattle.book.specs.Program.{postfix, contextProgram, contextsProgram, program}
 use Rattle.lexer.specs.Token.{At, kindAhead}
 use Rattle.signs.specs.Buffer.{Grown}
 use Rattle.signs.specs.BufferLaws.{grown-none, grown-byte, grown-more}
@@ -32,7 +30,7 @@ use Rattle.signs.specs.declared.Spot.{Spot}
 use Rattle.lexer.specs.declared.Cursor.{Cursor}
 use Rattle.choice.specs.declared.Made.{Made}
 use Rattle.choice.specs.declared.Made.the-variants.{Done, Refused}
-use Rattle.contexts.specs.Contexts.{Row, ReadsThen, rightOf, ReadsRight, contextOf, Context, ReadsContext, contextsCode, unionCode, setCode, pairing, Ruled, Going, ReadsContexts}
+use Rattle.contexts.specs.Contexts.{Row, ReadsThen, rightOf, ReadsRight, contextOf, Context, ReadsContext, Ruled, MayEnd, ReadsContexts}
 
 -- ---- rows of codes
 
@@ -176,6 +174,9 @@ module _ {s o : List ℕ} {c : Spot} {o₁ : List ℕ} {m : Spot} (t : To a-choi
       }
   context-read Refused d = record { says = λ f. went f ∙ d .says (f (t .expr)) }
 
+regroup : (a e f r z : List ℕ) → (a ++ (e ++ (f ++ r))) ++ z ≡ a ++ (e ++ (f ++ (r ++ z)))
+regroup a e f r z = simp append-assoc
+
 -- a context with one code more
 pub further-none : {s o : List ℕ} {c : Spot} {row o₁ : List ℕ} (row′ o′ : List ℕ) → ReadsContext s o c row o₁ Refused → ReadsContext s o c row′ o′ Refused
 further-none row′ o′ d = record { says = d .says }
@@ -196,31 +197,10 @@ further-done {s} {o} {c} {row} {m = m} {b = b} {n = n} d p =
         room = omega (arith, d .room, p .at-is, p .pos-is, length-append row (b ∷ []));
       };
     }
-  where
-    regroup : (a e f r z : List ℕ) → (a ++ (e ++ (f ++ r))) ++ z ≡ a ++ (e ++ (f ++ (r ++ z)))
-    regroup a e f r z = simp append-assoc
-
--- ---- a rule's code
-
--- one context more: behind others it is met with them,
-contexts-more : (o : Pairing) (cs : List (Expr × Expr)) (l r : Expr)
-    → contextsCode o (cs ++ ((l, r) ∷ [])) ≡ contextsCode o cs ++ (postfix l ++ (postfix r ++ (contextProgram ++ (pairCode o ∷ []))))
-contexts-more o [] l r = refl
-contexts-more o (c ∷ cs) l r = rw (contexts-more o cs l r) (simp append-assoc)
-
-union-more : (cs : List (Expr × Expr)) → Some cs → (l r : Expr) → unionCode (cs ++ ((l, r) ∷ [])) ≡ unionCode cs ++ (postfix l ++ (postfix r ++ (contextProgram ++ (eitherCode ∷ []))))
-union-more [] h l r = absurd h
-union-more (c ∷ cs) h l r = rw (contexts-more either cs l r) (simp append-assoc)
-
-set-more : (kind : RuleKind) (cs : List (Expr × Expr)) → Enough kind cs → (l r : Expr)
-    → setCode kind (cs ++ ((l, r) ∷ [])) ≡ setCode kind cs ++ (postfix l ++ (postfix r ++ (contextProgram ++ (pairCode (pairing kind) ∷ []))))
-set-more restricts cs h l r = ap (λ x. patternProgram ++ x) (contexts-more without cs l r) ∙ sym (append-assoc patternProgram (contextsCode without cs) _)
-set-more forbids cs h l r = union-more cs h l r
-set-more obliges cs h l r = union-more cs h l r
 
 -- ---- a rule read so far
 
-module _ {kind : RuleKind} {contexts : List (Expr × Expr)} {s o : List ℕ} {c : Spot} (d : Ruled kind contexts s o c) where
+module _ {kind : RuleKind} {contexts : List (Expr × Expr)} {next : List (Expr × Expr) → List ℕ} {s o : List ℕ} {c : Spot} (d : Ruled kind contexts next s o c) where
   afterSlash : ℕ → Expr → Expr → List ℕ → Form
   afterSlash fuel l r ws = contextsOf kind fuel (d .pattern) (contexts ++ ((l, r) ∷ [])) ws
 
@@ -236,30 +216,33 @@ module _ {kind : RuleKind} {contexts : List (Expr × Expr)} {s o : List ℕ} {c 
       let (g, r, e) = met-slash z (d .fuel) (d .enough) in
       d .form ∙ e ∙ rw (ne-eqb (kindOf b) slashKind (λ w. h (q ∙ ap kindAhead z ∙ w)))
 
-  module _ {k b : ℕ} {next : Cursor} (x : At s (c .cursor .at) k b (next .at)) where
-    pub rule-half : {row o₁ : List ℕ} → k ≡ slashKind → ReadsContext s o (record { cursor = next; pos = c .pos }) row o₁ Refused → formOf s ≡ malformed
+  module _ {k b : ℕ} {after : Cursor} (x : At s (c .cursor .at) k b (after .at)) where
+    pub rule-half : {row o₁ : List ℕ} → k ≡ slashKind → ReadsContext s o (record { cursor = after; pos = c .pos }) row o₁ Refused → formOf s ≡ malformed
     rule-half h r =
         let (g, q, e) = met-slash (x .rest-is) (d .fuel) (d .enough) in
         d .form ∙ e ∙ rw (eq-eqb (kindOf b) slashKind (sym (x .kind-is) ∙ h)) (r .says (afterSlash g))
 
-    pub rule-next : {row : List ℕ} (o′ : List ℕ) (m : Spot) → k ≡ slashKind → length row ≤ 10 → ((l r : Expr) → setCode kind (contexts ++ ((l, r) ∷ [])) ≡ setCode kind contexts ++ (postfix l ++ (postfix r ++ row)))
-        → (t : Context s o (record { cursor = next; pos = c .pos }) row o′ m) → length o′ ≡ length o → Ruled kind (contexts ++ ((t .before, t .behind) ∷ [])) s o′ m
+    -- one context more, with the row of codes that it has in the program
+    pub rule-next : {row : List ℕ} {next′ : List (Expr × Expr) → List ℕ} (o′ : List ℕ) (m : Spot) → k ≡ slashKind → length row ≤ 10
+        → ((l r : Expr) (more : List (Expr × Expr)) → next ((l, r) ∷ more) ≡ postfix l ++ (postfix r ++ (row ++ next′ more)))
+        → (t : Context s o (record { cursor = after; pos = c .pos }) row o′ m) → length o′ ≡ length o → Ruled kind (contexts ++ ((t .before, t .behind) ∷ [])) next′ s o′ m
     unfolding afterSlash
-    rule-next {row} o′ m h short more t same =
+    rule-next {row} {next′} o′ m h short grows t same =
         let (g, q, e) = met-slash (x .rest-is) (d .fuel) (d .enough) in
         record {
           pattern = d .pattern;
           fuel = g;
           enough = omega (arith, t .fewer, d .enough, ap length (x .rest-is));
           form = d .form ∙ e ∙ rw (eq-eqb (kindOf b) slashKind (sym (x .kind-is) ∙ h)) (t .reads (afterSlash g));
-          code = t .code ∙ ap (λ l. l ++ (postfix (t .before) ++ (postfix (t .behind) ++ row))) (d .code)
-              ∙ append-assoc (postfix (patternOf kind (d .pattern))) (storePatternCode ∷ setCode kind contexts) (postfix (t .before) ++ (postfix (t .behind) ++ row))
-              ∙ ap (λ l. postfix (patternOf kind (d .pattern)) ++ (storePatternCode ∷ l)) (sym (more (t .before) (t .behind)));
+          code = λ more.
+              ap (λ l. l ++ next′ more) (t .code) ∙ regroup (take (c .pos) o) (postfix (t .before)) (postfix (t .behind)) row (next′ more)
+              ∙ ap (λ l. take (c .pos) o ++ l) (sym (grows (t .before) (t .behind) more)) ∙ d .code ((t .before, t .behind) ∷ more)
+              ∙ ap (λ cs. program (rule kind (d .pattern) cs)) (sym (append-assoc contexts ((t .before, t .behind) ∷ []) more));
           few = omega (arith, t .marks, d .few, length-append contexts ((t .before, t .behind) ∷ []), slash, ap (countOf underscoreKind) (x .rest-is));
           room = omega (arith, t .room, d .room, x .falls, length-append contexts ((t .before, t .behind) ∷ []));
         }
       where
-        slash : countOf underscoreKind (b ∷ tokens (drop (next .at) s)) ≡ countOf underscoreKind (tokens (drop (next .at) s))
+        slash : countOf underscoreKind (b ∷ tokens (drop (after .at) s)) ≡ countOf underscoreKind (tokens (drop (after .at) s))
         slash = rw (ne-eqb (kindOf b) underscoreKind (λ w. omega (arith, x .kind-is)))
 
 some-more : {A : Type 0} (cs : List A) (c : A) → Some (cs ++ (c ∷ []))
@@ -272,24 +255,25 @@ enough-more forbids cs c = some-more cs c
 enough-more obliges cs c = some-more cs c
 
 -- further contexts
-module _ {s o : List ℕ} {c : Spot} {operator : ℕ} (g : Going s o c operator) where
-  pub going-end : {o₀ : List ℕ} {c₀ : Spot} → left s c ≡ [] → Grown o₀ (c₀ .pos) o (c .pos) → ReadsContexts s o₀ c₀ operator o (Done c)
-  going-end e w = record { says = record { going = g; none = e; grown = w } }
+module _ {s o : List ℕ} {c : Spot} {operator : ℕ} (g : MayEnd s o c operator) where
+  pub may-end : {o₀ : List ℕ} {c₀ : Spot} → left s c ≡ [] → Grown o₀ (c₀ .pos) o (c .pos) → ReadsContexts s o₀ c₀ operator o (Done c)
+  may-end e w = record { says = record { ruled = g; none = e; grown = w } }
 
-  pub going-other : {o₀ o′ : List ℕ} {c₀ : Spot} {b k : ℕ} {ts : List ℕ} → left s c ≡ b ∷ ts → k ≡ kindAhead (left s c) → (k ≡ slashKind → ⊥) → ReadsContexts s o₀ c₀ operator o′ Refused
-  going-other z q h = record { says = rule-other (g .ruled) z q h }
+  pub further-other : {o₀ o′ : List ℕ} {c₀ : Spot} {b k : ℕ} {ts : List ℕ} → left s c ≡ b ∷ ts → k ≡ kindAhead (left s c) → (k ≡ slashKind → ⊥) → ReadsContexts s o₀ c₀ operator o′ Refused
+  further-other z q h = record { says = rule-other (g .ruled) z q h }
 
-  module _ {k b : ℕ} {next : Cursor} (x : At s (c .cursor .at) k b (next .at)) (h : k ≡ slashKind) where
-    pub going-half : {o₀ row o₁ o′ : List ℕ} {c₀ : Spot} → ReadsContext s o (record { cursor = next; pos = c .pos }) row o₁ Refused → ReadsContexts s o₀ c₀ operator o′ Refused
-    going-half r = record { says = rule-half (g .ruled) x h r }
+  module _ {k b : ℕ} {after : Cursor} (x : At s (c .cursor .at) k b (after .at)) (h : k ≡ slashKind) where
+    pub further-half : {o₀ row o₁ o′ : List ℕ} {c₀ : Spot} → ReadsContext s o (record { cursor = after; pos = c .pos }) row o₁ Refused → ReadsContexts s o₀ c₀ operator o′ Refused
+    further-half r = record { says = rule-half (g .ruled) x h r }
 
-    pub going-next : (o′ : List ℕ) (m : Spot) → Context s o (record { cursor = next; pos = c .pos }) (contextProgram ++ (operator ∷ [])) o′ m → length o′ ≡ length o → Going s o′ m operator
-    going-next o′ m t same = record {
+    pub further-next : (o′ : List ℕ) (m : Spot) → Context s o (record { cursor = after; pos = c .pos }) (contextProgram ++ (operator ∷ [])) o′ m → length o′ ≡ length o → MayEnd s o′ m operator
+    further-next o′ m t same = record {
       kind = g .kind;
       contexts = g .contexts ++ ((t .before, t .behind) ∷ []);
-      ruled = rule-next (g .ruled) x o′ m h (omega arith) (λ l r. set-more (g .kind) (g .contexts) (g .some) l r ∙ ap (λ y. setCode (g .kind) (g .contexts) ++ (postfix l ++ (postfix r ++ (contextProgram ++ (y ∷ []))))) (sym (g .pairs))) t same;
+      pairing = g .pairing;
+      operator-is = g .operator-is;
+      ruled = rule-next (g .ruled) x o′ m h (omega arith) (λ l r more. ap (λ y. postfix l ++ (postfix r ++ (contextProgram ++ (y ∷ contextsProgram (g .pairing) more)))) (sym (g .operator-is))) t same;
       some = enough-more (g .kind) (g .contexts) (t .before, t .behind);
-      pairs = g .pairs;
     }
 
 -- ---- what reading a context answers

@@ -3,14 +3,13 @@ use mathlib.Core.Path.{_≡_}
 use mathlib.Core.List.{List, [], _∷_, _++_}
 use Prim.Native.Nat.{ℕ, suc, _+_, _*_, _-_, _≤_}
 use lib.ListN.{length, take}
-use Rattle.automata.specs.Stages.{Pairing, either, without}
-use Rattle.language.specs.Restriction.{RuleKind, restricts, forbids, obliges, Enough}
+use Rattle.automata.specs.Stages.{Pairing}
+use Rattle.language.specs.Restriction.{RuleKind, Enough}
 use Rattle.language.specs.Expression.{Expr}
-use Rattle.language.specs.Evaluate.{patternOf}
 use Rattle.book.specs.Kind.{underscoreKind}
 use Rattle.book.specs.Reader.{got, bad, readChoice}
-use Rattle.book.specs.Text.{countOf, Form, malformed, formOf, contextsOf, onRead, tailAt}
-use Rattle.book.specs.Program.{storePatternCode, pairCode, postfix, patternProgram, contextProgram}
+use Rattle.book.specs.Text.{countOf, Form, rule, malformed, formOf, contextsOf, onRead, tailAt}
+use Rattle.book.specs.Program.{pairCode, postfix, contextProgram, contextsProgram, program}
 use Rattle.signs.specs.Buffer.{Grown}
 use Rattle.signs.specs.Spots.{left}
 use Rattle.signs.specs.declared.Spot.{Spot}
@@ -59,7 +58,7 @@ pub record Right (s o : List ℕ) (c : Spot) (o′ : List ℕ) (n : Spot) : Type
   pub fewer : suc (length (left s n)) ≤ length (left s c)
   pub marks : suc (countOf underscoreKind (left s n)) ≤ countOf underscoreKind (left s c)
   pub falls : suc (length s - n .cursor .at) ≤ length s - c .cursor .at
-  pub room : n .pos + 2 * (length s - n .cursor .at) ≤ c .pos + 2 * (length s - c .cursor .at) + 9
+  pub room : n .pos + 2 * (length s - n .cursor .at) ≤ c .pos + 2 * (length s - c .cursor .at) + length contextProgram
 
 abbrev pub RightSays : List ℕ → List ℕ → Spot → List ℕ → Made → Type 0
 RightSays s o c o′ (Done n) = Right s o c o′ n
@@ -87,47 +86,29 @@ ContextSays s o c row o′ Refused = (f : Expr → Expr → List ℕ → Form) �
 pub record ReadsContext (s o : List ℕ) (c : Spot) (row o′ : List ℕ) (r : Made) : Type 0 where
   pub says : ContextSays s o c row o′ r
 
--- the code of the contexts so far: each is taken from X, or met with those before it, where there are any
-abbrev pub contextsCode : Pairing → List (Expr × Expr) → List ℕ
-contextsCode o [] = []
-contextsCode o (c ∷ cs) = postfix (c .0) ++ (postfix (c .1) ++ (contextProgram ++ (pairCode o ∷ contextsCode o cs)))
-
-abbrev pub unionCode : List (Expr × Expr) → List ℕ
-unionCode [] = []
-unionCode (c ∷ cs) = postfix (c .0) ++ (postfix (c .1) ++ (contextProgram ++ contextsCode either cs))
-
-abbrev pub setCode : RuleKind → List (Expr × Expr) → List ℕ
-setCode restricts cs = patternProgram ++ contextsCode without cs
-setCode forbids cs = unionCode cs
-setCode obliges cs = unionCode cs
-
--- "X minus it"; "`|` of those so far with it"
-abbrev pub pairing : RuleKind → Pairing
-pairing restricts = without
-pairing forbids = either
-pairing obliges = either
-
--- A rule read up to c: its pattern, the contexts so far, and what is left to read of them.
-pub record Ruled (kind : RuleKind) (contexts : List (Expr × Expr)) (s o : List ℕ) (c : Spot) : Type 0 where
+-- A rule read up to c: its pattern, the contexts so far, and what is left to read of them. `next` is the program of contexts that stand further on.
+pub record Ruled (kind : RuleKind) (contexts : List (Expr × Expr)) (next : List (Expr × Expr) → List ℕ) (s o : List ℕ) (c : Spot) : Type 0 where
   pub pattern : Expr
   pub fuel : ℕ
   pub enough : length (left s c) ≤ fuel
   pub form : formOf s ≡ contextsOf kind fuel pattern contexts (left s c)
-  pub code : take (c .pos) o ≡ postfix (patternOf kind pattern) ++ (storePatternCode ∷ setCode kind contexts)
+  -- the code so far is that of the rule, whichever contexts come
+  pub code : (more : List (Expr × Expr)) → take (c .pos) o ++ next more ≡ program (rule kind pattern (contexts ++ more))
   pub few : length contexts + countOf underscoreKind (left s c) ≤ 4
   pub room : c .pos + 2 * (length s - c .cursor .at) + 53 ≤ length o + 10 * length contexts
 
--- The same of a rule that may end here, with the operator of its further contexts.
-pub record Going (s o : List ℕ) (c : Spot) (operator : ℕ) : Type 0 where
+-- The same of a rule that may end here, with the operator of its further contexts: "X minus it", or "`|` of those so far with it".
+pub record MayEnd (s o : List ℕ) (c : Spot) (operator : ℕ) : Type 0 where
   pub kind : RuleKind
   pub contexts : List (Expr × Expr)
-  pub ruled : Ruled kind contexts s o c
+  pub pairing : Pairing
+  pub operator-is : operator ≡ pairCode pairing
+  pub ruled : Ruled kind contexts (contextsProgram pairing) s o c
   pub some : Enough kind contexts
-  pub pairs : operator ≡ pairCode (pairing kind)
 
 -- All its contexts are read: the line ends there.
 pub record Ended (s o : List ℕ) (c : Spot) (operator : ℕ) (o′ : List ℕ) (n : Spot) : Type 0 where
-  pub going : Going s o′ n operator
+  pub ruled : MayEnd s o′ n operator
   pub none : left s n ≡ []
   pub grown : Grown o (c .pos) o′ (n .pos)
 

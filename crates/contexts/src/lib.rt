@@ -16,7 +16,7 @@ ghost use Prim.Native.Nat.{_+_, _*_, _-_, _≤_};
 ghost use lib.ListN.{length};
 ghost use Rattle.book.specs.Program.{contextProgram};
 ghost use Rattle.lexer.specs.Kinds.{Kinds};
-ghost use Rattle.contexts.specs.Contexts.{Row, ReadsThen, ReadsRight, ReadsContext, Going, ReadsContexts};
+ghost use Rattle.contexts.specs.Contexts.{Row, ReadsThen, ReadsRight, ReadsContext, MayEnd, ReadsContexts};
 
 // "then l M p M r joined left to right": specs/Program.antt of `book`
 const CONTEXT_PROGRAM: [u8; 9] = [
@@ -61,7 +61,7 @@ pub fn choice_then(kinds: &KindTable, line: &[u8], out: &mut [u8], c: Spot, row:
 // "`_`, a choice": with l, r on the stack, l M p M r is made.
 fn right(kinds: &KindTable, line: &[u8], out: &mut [u8], c: Spot) -> Made
     requires { ⌜ Kinds (now kinds) ⌝ }
-    requires { ⌜ c .pos + 2 * (length (now line) - c .cursor .at) + 9 ≤ length (now out) ⌝ }
+    requires { ⌜ c .pos + 2 * (length (now line) - c .cursor .at) + length contextProgram ≤ length (now out) ⌝ }
     ensures { λ r. ⌜ ReadsRight (now (line .entry)) (now (out .entry)) c (now (out .exit)) r ⌝ }
 {
     let behind = c.cursor;
@@ -79,7 +79,7 @@ fn right(kinds: &KindTable, line: &[u8], out: &mut [u8], c: Spot) -> Made
 // "a choice, `_`, a choice"
 pub fn context(kinds: &KindTable, line: &[u8], out: &mut [u8], c: Spot) -> Made
     requires { ⌜ Kinds (now kinds) ⌝ }
-    requires { ⌜ c .pos + 2 * (length (now line) - c .cursor .at) + 9 ≤ length (now out) ⌝ }
+    requires { ⌜ c .pos + 2 * (length (now line) - c .cursor .at) + length contextProgram ≤ length (now out) ⌝ }
     ensures { λ r. ⌜ ReadsContext (now (line .entry)) (now (out .entry)) c contextProgram (now (out .exit)) r ⌝ }
 {
     let Made::Done(n) = choice::choice(kinds, line, out, c) else {
@@ -91,7 +91,7 @@ pub fn context(kinds: &KindTable, line: &[u8], out: &mut [u8], c: Spot) -> Made
 // The same behind other contexts: "then X becomes X minus it", or "`|` of those so far with it".
 fn further(kinds: &KindTable, line: &[u8], out: &mut [u8], c: Spot, operator: u8) -> Made
     requires { ⌜ Kinds (now kinds) ⌝ }
-    requires { ⌜ c .pos + 2 * (length (now line) - c .cursor .at) + 10 ≤ length (now out) ⌝ }
+    requires { ⌜ c .pos + 2 * (length (now line) - c .cursor .at) + (length contextProgram + 1) ≤ length (now out) ⌝ }
     ensures { λ r. ⌜ ReadsContext (now (line .entry)) (now (out .entry)) c (contextProgram ++ (operator ∷ [])) (now (out .exit)) r ⌝ }
 {
     let Made::Done(n) = context(kinds, line, out, c) else {
@@ -103,7 +103,7 @@ fn further(kinds: &KindTable, line: &[u8], out: &mut [u8], c: Spot, operator: u8
 // "then per context `/`, a choice, `_`, a choice", up to the line's end
 pub fn contexts(kinds: &KindTable, line: &[u8], out: &mut [u8], c: Spot, operator: u8) -> Made
     requires { ⌜ Kinds (now kinds) ⌝ }
-    requires { ⌜ Going (now line) (now out) c operator ⌝ }
+    requires { ⌜ MayEnd (now line) (now out) c operator ⌝ }
     ensures { λ r. ⌜ ReadsContexts (now (line .entry)) (now (out .entry)) c operator (now (out .exit)) r ⌝ }
 {
     let mut here = c;

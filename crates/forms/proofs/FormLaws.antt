@@ -5,18 +5,16 @@ use mathlib.Core.List.{List, [], _∷_, _++_, append-assoc, append-nil}
 use Prim.Native.Nat.{ℕ, zero, suc, _<_, _≤_}
 use native.Mathlib.Omega.{arith}
 use borrow.Author.Tests.{eq-eqb, ne-eqb}
-use lib.Dec.{eqb}
-use lib.ListN.{length, take, drop, getD}
+use lib.ListN.{length, drop, getD}
 use Rattle.automata.specs.Booleans.{choose}
-use Rattle.automata.specs.Stages.{Pairing, either, without}
+use Rattle.automata.specs.Stages.{either, without}
 use Rattle.language.specs.Restriction.{RuleKind, restricts, forbids, obliges}
 use Rattle.language.specs.Expression.{Expr}
-use Rattle.language.specs.Evaluate.{patternOf}
 use Rattle.book.specs.Kind.{kindOf, isName, nameKind, equalsKind, greaterKind, lessKind, caretKind, slashKind, underscoreKind}
 use Rattle.book.specs.Reader.{bad, readChoice}
-use Rattle.book.specs.Text.{tokens, countOf, malformed, formOf, defineOf, defineAs, ruleOf, needsContext, contextsOf, onRead}
-use Rattle.book.specs.LineGrammar.{contexts-end}
-use Rattle.book.specs.Program.{storePatternCode, complementCode, withoutCode, eitherCode, pairCode, postfix, patternProgram, contextProgram, finishProgram, contextsProgram, unionProgram, setProgram}
+use Rattle.book.specs.Text.{tokens, countOf, rule, malformed, formOf, defineOf, defineAs, ruleOf, needsContext, contextsOf, onRead}
+use Rattle.book.specs.LineGrammar.{ruleSign, contexts-end}
+use Rattle.book.specs.Program.{storePatternCode, complementCode, withoutCode, eitherCode, postfix, patternProgram, contextProgram, finishProgram, contextsProgram, unionProgram, program}
 use Rattle.lexer.specs.Token.{At, kindAhead}
 use Rattle.signs.specs.Buffer.{Grown}
 use Rattle.signs.specs.BufferLaws.{grown-more}
@@ -27,36 +25,15 @@ use Rattle.signs.specs.declared.Spot.{Spot}
 use Rattle.lexer.specs.declared.Cursor.{Cursor}
 use Rattle.choice.specs.declared.Made.{Made}
 use Rattle.choice.specs.declared.Made.the-variants.{Done, Refused}
-use Rattle.contexts.specs.Contexts.{Row, Then, ReadsThen, Context, contextsCode, unionCode, setCode, pairing, Ruled, Going, Ended, ReadsContexts}
+use Rattle.contexts.specs.Contexts.{Row, Then, ReadsThen, Context, Ruled, MayEnd, Ended, ReadsContexts}
 use Rattle.contexts.proofs.ContextLaws.{count-drop, count-read, rule-other, rule-next, enough-more}
-use Rattle.forms.specs.Forms.{Room, ReadsForm, ReadsRest, signOf, storeProgram, Sister}
+use Rattle.forms.specs.Forms.{Room, ReadsForm, ReadsRest, storeProgram, Sister}
 use Rattle.forms.specs.declared.Code.{Code}
 use Rattle.forms.specs.declared.Code.the-variants.{Define, Rule, Malformed}
 
--- ---- a rule's code
-
-contexts-code : (o : Pairing) (cs : List (Expr × Expr)) → contextsCode o cs ++ finishProgram ≡ contextsProgram o cs
-contexts-code o [] = refl
-contexts-code o (c ∷ cs) = rw (append-assoc, append-assoc, append-assoc, contexts-code o cs)
-
-union-code : (cs : List (Expr × Expr)) → unionCode cs ++ finishProgram ≡ unionProgram cs
-union-code [] = refl
-union-code (c ∷ cs) = rw (append-assoc, append-assoc, append-assoc, contexts-code either cs)
-
-set-code : (kind : RuleKind) (cs : List (Expr × Expr)) → setCode kind cs ++ finishProgram ≡ setProgram kind cs
-set-code restricts cs = append-assoc patternProgram (contextsCode without cs) finishProgram ∙ ap (λ l. patternProgram ++ l) (contexts-code without cs)
-set-code forbids cs = union-code cs
-set-code obliges cs = union-code cs
-
--- the first of a sister rule is not
-set-first : (kind : RuleKind) → needsContext kind ≡ true → (l r : Expr) → setCode kind ((l, r) ∷ []) ≡ setCode kind [] ++ (postfix l ++ (postfix r ++ contextProgram))
-set-first restricts h l r = absurd (false≢true h)
-set-first forbids h l r = rw append-nil
-set-first obliges h l r = rw append-nil
-
 -- ---- rules
 
-form-rule : (kind : RuleKind) (s : List ℕ) → kindOf (getD s 0 0) ≡ signOf kind → formOf s ≡ ruleOf kind (tokens (drop 1 s))
+form-rule : (kind : RuleKind) (s : List ℕ) → kindOf (getD s 0 0) ≡ kindOf (ruleSign kind) → formOf s ≡ ruleOf kind (tokens (drop 1 s))
 unfolding formOf
 form-rule restricts [] e = absurd (omega arith)
 form-rule restricts (b ∷ s) e = rw e
@@ -65,29 +42,29 @@ form-rule forbids (b ∷ s) e = rw e
 form-rule obliges [] e = absurd (omega arith)
 form-rule obliges (b ∷ s) e = rw e
 
-pub rule-none : {o o′ : List ℕ} (kind : RuleKind) (s : List ℕ) → kindOf (getD s 0 0) ≡ signOf kind → readChoice (tokens (drop 1 s)) ≡ bad → ReadsForm s o o′ Malformed
+pub rule-none : {o o′ : List ℕ} (kind : RuleKind) (s : List ℕ) → kindOf (getD s 0 0) ≡ kindOf (ruleSign kind) → readChoice (tokens (drop 1 s)) ≡ bad → ReadsForm s o o′ Malformed
 rule-none kind s k e = record { says = form-rule kind s k ∙ ap (λ R. onRead R (λ p us. contextsOf kind (length us) p [] us)) e }
 
--- what stands behind the pattern
-abbrev pub Behind : RuleKind → List ℕ → Type 0
-Behind kind row = (e : Expr) → postfix e ++ row ≡ postfix (patternOf kind e) ++ (storePatternCode ∷ setCode kind [])
+-- what stands behind the pattern, up to the program of the contexts
+abbrev pub Behind : RuleKind → List ℕ → (List (Expr × Expr) → List ℕ) → Type 0
+Behind kind row next = (e : Expr) (cs : List (Expr × Expr)) → (postfix e ++ row) ++ next cs ≡ program (rule kind e cs)
 
-pub restricting : Behind restricts (storePatternCode ∷ patternProgram)
-restricting e = refl
+pub restricting : Behind restricts (storePatternCode ∷ patternProgram) (contextsProgram without)
+restricting e cs = append-assoc (postfix e) (storePatternCode ∷ patternProgram) (contextsProgram without cs)
 
-pub storing : (kind : RuleKind) → needsContext kind ≡ true → Behind kind (storeProgram kind)
-storing restricts h e = absurd (false≢true h)
-storing forbids h e = refl
-storing obliges h e = sym (append-assoc (postfix e) (complementCode ∷ []) (storePatternCode ∷ []))
+storing : (kind : RuleKind) → needsContext kind ≡ true → Behind kind (storeProgram kind) unionProgram
+storing restricts h e cs = absurd (false≢true h)
+storing forbids h e cs = append-assoc (postfix e) (storePatternCode ∷ []) (unionProgram cs)
+storing obliges h e cs = append-assoc (postfix e) (complementCode ∷ storePatternCode ∷ []) (unionProgram cs) ∙ sym (append-assoc (postfix e) (complementCode ∷ []) (storePatternCode ∷ unionProgram cs))
 
-pub rule-start : (kind : RuleKind) (s o row o₁ : List ℕ) (p : Spot) → kindOf (getD s 0 0) ≡ signOf kind → countOf underscoreKind s ≤ 4 → Room s o → length o₁ ≡ length o → length row ≤ 10 → Behind kind row
-    → Then s o (record { cursor = record { at = 1 }; pos = 0 }) row o₁ p → Ruled kind [] s o₁ p
-rule-start kind s o row o₁ p k few room same short b t = record {
+pub rule-start : (kind : RuleKind) (next : List (Expr × Expr) → List ℕ) (s o row o₁ : List ℕ) (p : Spot) → kindOf (getD s 0 0) ≡ kindOf (ruleSign kind) → countOf underscoreKind s ≤ 4 → Room s o
+    → length o₁ ≡ length o → length row ≤ 10 → Behind kind row next → Then s o (record { cursor = record { at = 1 }; pos = 0 }) row o₁ p → Ruled kind [] next s o₁ p
+rule-start kind next s o row o₁ p k few room same short b t = record {
   pattern = t .expr;
   fuel = length (left s p);
   enough = omega arith;
   form = form-rule kind s k ∙ ap (λ R. onRead R (λ p us. contextsOf kind (length us) p [] us)) (t .reads);
-  code = t .code ∙ b (t .expr);
+  code = λ cs. ap (λ l. l ++ next cs) (t .code) ∙ b (t .expr) cs;
   few = omega (arith, count-drop s, count-read (tokens (drop 1 s)) (left s p) (t .expr) (t .reads));
   room = omega (arith, t .room);
 }
@@ -95,7 +72,7 @@ rule-start kind s o row o₁ p k few room same short b t = record {
 pub rule-end : {s o : List ℕ} {c n : Spot} {operator : ℕ} (o′ : List ℕ) (end : ℕ) {o₁ : List ℕ} → Ended s o c operator o₁ n → Row o₁ (n .pos) finishProgram o′ end → end ≤ length o′
     → ReadsRest s o c o′ (Rule end)
 rule-end {s} o′ end e r h =
-    let g = e .going in
+    let g = e .ruled in
     let d = g .ruled in
     record {
       says = record {
@@ -103,8 +80,7 @@ rule-end {s} o′ end e r h =
         pattern = d .pattern;
         contexts = g .contexts;
         form = d .form ∙ ap (contextsOf (g .kind) (d .fuel) (d .pattern) (g .contexts)) (e .none) ∙ contexts-end (g .kind) (d .fuel) (d .pattern) (g .contexts) (g .some);
-        code = r .code ∙ ap (λ l. l ++ finishProgram) (d .code) ∙ append-assoc (postfix (patternOf (g .kind) (d .pattern))) (storePatternCode ∷ setCode (g .kind) (g .contexts)) finishProgram
-            ∙ ap (λ l. postfix (patternOf (g .kind) (d .pattern)) ++ (storePatternCode ∷ l)) (set-code (g .kind) (g .contexts));
+        code = r .code ∙ d .code [] ∙ ap (λ cs. program (rule (g .kind) (d .pattern) cs)) (append-nil (g .contexts));
         grown = grown-more (e .grown) (r .grown);
         fits = h;
       };
@@ -125,8 +101,8 @@ from-rest (Rule len) g d =
 from-rest Malformed g d = record { says = d .says }
 
 -- a rule that may end here
-pub going-start : {s o : List ℕ} {c : Spot} → Ruled restricts [] s o c → Going s o c withoutCode
-going-start d = record { kind = restricts; contexts = []; ruled = d; some = tt; pairs = refl }
+pub none-needed : {s o : List ℕ} {c : Spot} → Ruled restricts [] (contextsProgram without) s o c → MayEnd s o c withoutCode
+none-needed d = record { kind = restricts; contexts = []; pairing = without; operator-is = refl; ruled = d; some = tt }
 
 -- a rule that needs a context, its pattern read
 pub sister-short : {s row : List ℕ} → Sister s row → length row ≤ 2
@@ -138,12 +114,13 @@ sister-short i = omega (arith, ap length (i .row-is), short (i .kind))
     short obliges = omega arith
 
 pub sister-start : {s row : List ℕ} (o o₁ : List ℕ) (p : Spot) (i : Sister s row) → countOf underscoreKind s ≤ 4 → Room s o → length o₁ ≡ length o
-    → Then s o (record { cursor = record { at = 1 }; pos = 0 }) row o₁ p → Ruled (i .kind) [] s o₁ p
+    → Then s o (record { cursor = record { at = 1 }; pos = 0 }) row o₁ p → Ruled (i .kind) [] unionProgram s o₁ p
 sister-start {s} {row} o o₁ p i few room same t =
-    rule-start (i .kind) s o row o₁ p (i .sign) few room same (omega (arith, sister-short i)) (λ e. ap (λ r. postfix e ++ r) (i .row-is) ∙ storing (i .kind) (i .needs) e) t
+    rule-start (i .kind) unionProgram s o row o₁ p (i .sign) few room same (omega (arith, sister-short i))
+    (λ e cs. ap (λ r. (postfix e ++ r) ++ unionProgram cs) (i .row-is) ∙ storing (i .kind) (i .needs) e cs) t
 
 -- its first context
-module _ {s row : List ℕ} (i : Sister s row) {o : List ℕ} {c : Spot} (d : Ruled (i .kind) [] s o c) where
+module _ {s row : List ℕ} (i : Sister s row) {o : List ℕ} {c : Spot} (d : Ruled (i .kind) [] unionProgram s o c) where
   pub first-other : {k : ℕ} → k ≡ kindAhead (left s c) → (k ≡ slashKind → ⊥) → formOf s ≡ malformed
   first-other q h = go (left s c) refl
     where
@@ -159,19 +136,15 @@ module _ {s row : List ℕ} (i : Sister s row) {o : List ℕ} {c : Spot} (d : Ru
       go (b ∷ ts) z = rule-other d z q h
 
   module _ {k b : ℕ} {next : Cursor} (x : At s (c .cursor .at) k b (next .at)) (h : k ≡ slashKind) where
-    pub first-next : (o′ : List ℕ) (m : Spot) → Context s o (record { cursor = next; pos = c .pos }) contextProgram o′ m → length o′ ≡ length o → Going s o′ m eitherCode
+    pub first-next : (o′ : List ℕ) (m : Spot) → Context s o (record { cursor = next; pos = c .pos }) contextProgram o′ m → length o′ ≡ length o → MayEnd s o′ m eitherCode
     first-next o′ m t same = record {
       kind = i .kind;
       contexts = (t .before, t .behind) ∷ [];
-      ruled = rule-next d x o′ m h (omega arith) (set-first (i .kind) (i .needs)) t same;
+      pairing = either;
+      operator-is = refl;
+      ruled = rule-next d x o′ m h (omega arith) (λ l r more. refl) t same;
       some = enough-more (i .kind) [] (t .before, t .behind);
-      pairs = pairs (i .kind) (i .needs);
     }
-      where
-        pairs : (kind : RuleKind) → needsContext kind ≡ true → eitherCode ≡ pairCode (pairing kind)
-        pairs restricts e = absurd (false≢true e)
-        pairs forbids e = refl
-        pairs obliges e = refl
 
 -- ---- definitions
 

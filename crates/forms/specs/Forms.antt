@@ -6,8 +6,9 @@ use Prim.Native.Nat.{ℕ, _+_, _*_, _≤_}
 use lib.ListN.{length, take, getD}
 use Rattle.language.specs.Restriction.{RuleKind, restricts, forbids, obliges}
 use Rattle.language.specs.Expression.{Expr}
-use Rattle.book.specs.Kind.{kindOf, isName, greaterKind, lessKind, caretKind}
+use Rattle.book.specs.Kind.{kindOf, isName}
 use Rattle.book.specs.Text.{define, rule, malformed, formOf, needsContext}
+use Rattle.book.specs.LineGrammar.{ruleSign}
 use Rattle.book.specs.Program.{storePatternCode, complementCode, program}
 use Rattle.signs.specs.Buffer.{Grown}
 use Rattle.signs.specs.declared.Spot.{Spot}
@@ -26,7 +27,7 @@ pub record Defines (s o o′ : List ℕ) (x len : ℕ) : Type 0 where
   pub grown : Grown o 0 o′ len
   pub fits : len ≤ length o′
 
--- its program stands up to len, and the buffer is as it was before pos and past len
+-- A rule: its program stands up to len, and the buffer is as it was before pos and past len.
 pub record Rules (s o : List ℕ) (pos : ℕ) (o′ : List ℕ) (len : ℕ) : Type 0 where
   pub kind : RuleKind
   pub pattern : Expr
@@ -53,12 +54,6 @@ RestSays s o c o′ Malformed = formOf s ≡ malformed
 pub record ReadsRest (s o : List ℕ) (c : Spot) (o′ : List ℕ) (r : Code) : Type 0 where
   pub says : RestSays s o c o′ r
 
--- the kind of the sign that a rule begins with
-abbrev pub signOf : RuleKind → ℕ
-signOf restricts = greaterKind
-signOf forbids = lessKind
-signOf obliges = caretKind
-
 -- what stands behind the pattern: "For `^`: q = `.*-p` first"
 abbrev pub storeProgram : RuleKind → List ℕ
 storeProgram restricts = storePatternCode ∷ []
@@ -69,5 +64,5 @@ storeProgram obliges = complementCode ∷ storePatternCode ∷ []
 pub record Sister (s row : List ℕ) : Type 0 where
   pub kind : RuleKind
   pub needs : needsContext kind ≡ true
-  pub sign : kindOf (getD s 0 0) ≡ signOf kind
+  pub sign : kindOf (getD s 0 0) ≡ kindOf (ruleSign kind)
   pub row-is : row ≡ storeProgram kind

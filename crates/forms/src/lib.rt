@@ -31,10 +31,11 @@ ghost use lib.ListN.{getD};
 ghost use Rattle.book.specs.Kind.{kindOf, equalsKind, greaterKind, underscoreKind};
 ghost use Rattle.book.specs.Text.{countOf};
 ghost use Rattle.lexer.specs.Kinds.{Kinds};
-ghost use Rattle.contexts.specs.Contexts.{Going};
+ghost use Rattle.contexts.specs.Contexts.{MayEnd};
 ghost use Rattle.forms.specs.Forms.{Room, ReadsRest, Sister, ReadsForm};
 
-// The programs of specs/Program.antt of `book`. What stands behind the pattern: of `>`, of `<`, of `^`.
+// What stands behind the pattern, by specs/Program.antt of `book`: of `>`, where the pattern is stored and `patternProgram` follows; of `<` and of `^`, which
+// are `storeProgram`. Then `finishProgram`.
 const RESTRICTING_PROGRAM: [u8; 10] = [
     STORE_PATTERN_CODE,
     ALL_CODE,
@@ -64,7 +65,7 @@ pub enum Code {
 // The contexts up to the line's end, and the last codes of a rule.
 fn rest(kinds: &KindTable, line: &[u8], out: &mut [u8], c: Spot, operator: u8) -> Code
     requires { ⌜ Kinds (now kinds) ⌝ }
-    requires { ⌜ Going (now line) (now out) c operator ⌝ }
+    requires { ⌜ MayEnd (now line) (now out) c operator ⌝ }
     ensures { λ r. ⌜ ReadsRest (now (line .entry)) (now (out .entry)) c (now (out .exit)) r ⌝ }
 {
     let Made::Done(n) = contexts(kinds, line, out, c, operator) else {

@@ -12,7 +12,7 @@ use Rattle.automata.specs.Operations.{product, pair-test, concatNFA, starNFA, e
 use Rattle.automata.specs.Stage.{Made, StageResult}
 use Rattle.automata.specs.Exactly.{Exactly, Then, Given, given-exactly, stage-exactly, then-exactly}
 use Rattle.automata.specs.Given.{letterMachine, dotMachine, emptyMachine, allMachine, markMachine}
-use Rattle.automata.specs.Stages.{Pairing, either, both, without, combine, pairStage, concatStage, starStage, eraseStage}
+use Rattle.automata.specs.Stages.{Pairing, either, without, combine, pairStage, concatStage, starStage, eraseStage}
 use Rattle.language.specs.Expression.{Expr, letter, name, dot, empty, pair, join, star, plus, option, complement}
 use Rattle.language.specs.Environment.{lookup}
 use Rattle.language.specs.Restriction.{RuleKind, restricts, forbids, obliges, Some, Enough}
@@ -69,7 +69,7 @@ module _ (fmt : Format) (ls : List ℕ) (env : List (ℕ × Machine)) where
   MakesContexts o P [] X = Given X
   MakesContexts o P (c ∷ cs) X = Then (MakesContext P c) λ C. Then (Pairs fmt (suc (length ls)) o X C) λ Y. MakesContexts o P cs Y
 
-  -- (Without a context the line is malformed, and refused before.)
+  -- "from the second on, `|` of those so far with it". (Without a context the line is malformed, and refused before.)
   abbrev pub MakesUnion : Machine → List (Expr × Expr) → Made → Type 0
   MakesUnion P [] = λ r. ⊥
   MakesUnion P (c ∷ cs) = Then (MakesContext P c) λ X. MakesContexts either P cs X

@@ -15,6 +15,7 @@ use Rattle.automata.specs.Stage.{made, refused}
 use Rattle.automata.specs.Stages.{Pairing, either, both, without}
 use Rattle.language.specs.Restriction.{RuleKind, restricts, forbids, obliges}
 use Rattle.language.specs.Evaluate.{patternOf}
+use Rattle.language.specs.RuleLaws.{pattern-known}
 use Rattle.language.specs.Expression.{Expr, letter, name, dot, empty, pair, join, star, plus, option, complement, member}
 use Rattle.language.specs.Environment.{namesOf, known, allKnown}
 use Rattle.book.specs.Kind.{kindOf, isLetter, isName}
@@ -103,15 +104,10 @@ module _ (ls ns : List ℕ) where
   set-names forbids cs t k = union-names cs t k
   set-names obliges cs t k = union-names cs t k
 
-  known-pattern : (kind : RuleKind) (p : Expr) → known ls ns p ≡ true → known ls ns (patternOf kind p) ≡ true
-  known-pattern restricts p k = k
-  known-pattern forbids p k = k
-  known-pattern obliges p k = k
-
   form-names : (F : Form) → FormHeld 17 F → KnownForm ls ns F → AllNames ns (program F)
   form-names (define x e) h k = subst (AllNames ns) (append-nil (postfix e)) (expression-names e (h .leaves) k [] tt)
   form-names (rule kind p cs) (h, t, x) k =
-      expression-names (patternOf kind p) (h .leaves) (known-pattern kind p (and-left (known ls ns p) (allKnown ls ns cs) k)) (storePatternCode ∷ setProgram kind cs)
+      expression-names (patternOf kind p) (h .leaves) (pattern-known ls ns kind p ∙ and-left (known ls ns p) (allKnown ls ns cs) k) (storePatternCode ∷ setProgram kind cs)
       (no-name storePatternCode refl, set-names kind cs t (and-right (known ls ns p) (allKnown ls ns cs) k))
   form-names malformed h k = absurd k
 

@@ -1,7 +1,7 @@
 -- What the functions on one line promise: the definitions' draft is what the buffers and the book by value hold.
 use mathlib.Core.Path.{_≡_}
 use mathlib.Core.Bool.{Bool, true, false}
-use mathlib.Core.List.{List, []}
+use mathlib.Core.List.{List}
 use Prim.Native.Nat.{ℕ, suc, _+_, _*_, _≤_, _<_}
 use lib.ListN.{length, take}
 use Rattle.automata.specs.Format.{narrow}

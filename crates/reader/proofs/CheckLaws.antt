@@ -14,6 +14,7 @@ use Rattle.automata.specs.Basics.{nat-test, LtCases, lt-cases}
 use Rattle.automata.specs.Stages.{Pairing, either, both, without}
 use Rattle.language.specs.Restriction.{RuleKind, restricts, forbids, obliges}
 use Rattle.language.specs.Evaluate.{patternOf}
+use Rattle.language.specs.RuleLaws.{pattern-known}
 use Rattle.language.specs.Expression.{Expr, star, plus, pair, empty, join, option, complement, letter, name, dot, member}
 use Rattle.language.specs.Environment.{known, allKnown}
 use Rattle.book.specs.Kind.{kindOf, nameKind, underscoreKind}
@@ -77,16 +78,11 @@ module _ (ls ns : List ℕ) where
   set-known n forbids cs s = union-known n cs s
   set-known n obliges cs s = union-known n cs s
 
-  pattern-known : (kind : RuleKind) (p : Expr) → known ls ns (patternOf kind p) ≡ known ls ns p
-  pattern-known restricts p = refl
-  pattern-known forbids p = refl
-  pattern-known obliges p = refl
-
   define-known : (n x : ℕ) (e : Expr) → FormHeld n (define x e) → codeKnown ls ns (program (define x e)) ≡ known ls ns e
   define-known n x e s = ap (codeKnown ls ns) (sym (append-nil (postfix e))) ∙ known-code e (s .leaves) [] ∙ and-true (known ls ns e)
 
   rule-known : (n : ℕ) (kind : RuleKind) (p : Expr) (cs : List (Expr × Expr)) → FormHeld n (rule kind p cs) → codeKnown ls ns (program (rule kind p cs)) ≡ known ls ns p && allKnown ls ns cs
-  rule-known n kind p cs (a, s, x) = rw (known-code (patternOf kind p) (a .leaves), pattern-known kind p) (ap (λ t. known ls ns p && t) (set-known n kind cs s))
+  rule-known n kind p cs (a, s, x) = rw (known-code (patternOf kind p) (a .leaves), pattern-known ls ns kind p) (ap (λ t. known ls ns p && t) (set-known n kind cs s))
 
 -- a part of the buffer that starts at its first byte
 first-part : (o : List ℕ) (len : ℕ) → take (len - 0) (drop 0 o) ≡ take len o

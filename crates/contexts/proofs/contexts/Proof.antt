@@ -6,13 +6,13 @@ use lib.ListN.{length}
 use Rattle.lexer.proofs.TokenLaws.{past-token, past-end}
 use Rattle.signs.specs.Buffer.{Grown}
 use Rattle.signs.specs.BufferLaws.{grown-none, grown-more}
-use Rattle.contexts.specs.Contexts.{Going}
-use Rattle.contexts.proofs.ContextLaws.{going-end, going-other, going-half, going-next, context-to, context-not, slash-token}
+use Rattle.contexts.specs.Contexts.{MayEnd}
+use Rattle.contexts.proofs.ContextLaws.{may-end, further-other, further-half, further-next, context-to, context-not, slash-token}
 use Rattle.contexts.proofs.contexts.Statement.{statement}
 use Rattle.contexts.proofs.contexts.Tie as tie
 
 abbrev Inv-loop : tie.InvT-loop
-Inv-loop kinds line out₀ operator here₀ out here = Going line out here operator × (length out ≡ length out₀) × Grown out₀ (here₀ .pos) out (here .pos)
+Inv-loop kinds line out₀ operator here₀ out here = MayEnd line out here operator × (length out ≡ length out₀) × Grown out₀ (here₀ .pos) out (here .pos)
 
 abbrev μ-loop : tie.MeasureT-loop
 μ-loop kinds line out₀ operator here₀ out here = length line - here .cursor .at
@@ -24,10 +24,10 @@ token-requires : tie.Need-token-requires Inv-loop μ-loop
 token-requires c κs = c .before .before .before .before .pre .0
 
 returns : tie.Need-returns Inv-loop μ-loop
-returns c = going-end (c .before .before .before .before .before .loop .inv .0) (past-end (c .before .before .before .token .ensures .start) (c .if1 .taken)) (c .before .before .before .before .before .loop .inv .2)
+returns c = may-end (c .before .before .before .before .before .loop .inv .0) (past-end (c .before .before .before .token .ensures .start) (c .if1 .taken)) (c .before .before .before .before .before .loop .inv .2)
 
 returns-2 : tie.Need-returns-2 Inv-loop μ-loop
-returns-2 c = going-other (c .before .before .before .before .before .before .loop .inv .0) (past-token (c .before .before .before .before .token .ensures .start) (c .before .if1 .left)) (c .before .before .before .before .token .ensures .kind-is) (c .if2 .taken)
+returns-2 c = further-other (c .before .before .before .before .before .before .loop .inv .0) (past-token (c .before .before .before .before .token .ensures .start) (c .before .if1 .left)) (c .before .before .before .before .token .ensures .kind-is) (c .if2 .taken)
 
 further-requires : tie.Need-further-requires Inv-loop μ-loop
 further-requires c κs =
@@ -38,7 +38,7 @@ further-requires c κs =
 returns-3 : tie.Need-returns-3 Inv-loop μ-loop
 returns-3 c =
     let x = c .before .before .before .before .before .before .before .before .before .before .before .token .ensures .token (slash-token _ (c .before .before .before .before .before .before .before .if2 .left)) in
-    going-half (c .before .before .before .before .before .before .before .before .before .before .before .before .before .loop .inv .0) x (c .before .before .before .before .before .before .before .if2 .left) (context-not (c .before .before .before .before .further .ensures) (c .enum-told .given .1))
+    further-half (c .before .before .before .before .before .before .before .before .before .before .before .before .before .loop .inv .0) x (c .before .before .before .before .before .before .before .if2 .left) (context-not (c .before .before .before .before .further .ensures) (c .enum-told .given .1))
 
 loop-less : tie.Need-loop-less Inv-loop μ-loop
 loop-less c =
@@ -49,7 +49,7 @@ loop-again : tie.Need-loop-again Inv-loop μ-loop
 loop-again c =
     let x = c .before .before .before .before .before .before .before .before .before .before .before .before .token .ensures .token (slash-token _ (c .before .before .before .before .before .before .before .before .if2 .left)) in
     let t = context-to (c .before .before .before .before .before .further .ensures) (c .before .n .given .1) in
-    (going-next (c .before .before .before .before .before .before .before .before .before .before .before .before .before .before .loop .inv .0) x (c .before .before .before .before .before .before .before .before .if2 .left) _ _ t (c .before .before .before .before .before .further .kept .1 .1 .0), c .before .before .before .before .before .further .kept .1 .1 .0 ∙ c .before .before .before .before .before .before .before .before .before .before .before .before .before .before .loop .inv .1, grown-more (c .before .before .before .before .before .before .before .before .before .before .before .before .before .before .loop .inv .2) (t .grown))
+    (further-next (c .before .before .before .before .before .before .before .before .before .before .before .before .before .before .loop .inv .0) x (c .before .before .before .before .before .before .before .before .if2 .left) _ _ t (c .before .before .before .before .before .further .kept .1 .1 .0), c .before .before .before .before .before .further .kept .1 .1 .0 ∙ c .before .before .before .before .before .before .before .before .before .before .before .before .before .before .loop .inv .1, grown-more (c .before .before .before .before .before .before .before .before .before .before .before .before .before .before .loop .inv .2) (t .grown))
 
 pub contexts-spec : {M : Type 1} → statement M
 contexts-spec =

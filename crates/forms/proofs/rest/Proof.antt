@@ -10,13 +10,13 @@ returns c = rule-not (contexts-not (c .before .before .before .before .contexts 
 
 put-row-requires : tie.Need-put-row-requires
 put-row-requires c κs =
-    let d = contexts-to (c .before .before .before .before .before .before .before .contexts .ensures) (c .before .before .before .n .given .1) .going .ruled in
+    let d = contexts-to (c .before .before .before .before .before .before .before .contexts .ensures) (c .before .before .before .n .given .1) .ruled .ruled in
     omega (arith, d .room, d .few)
 
 returns-2 : tie.Need-returns-2
 returns-2 c =
     let e = contexts-to (c .before .before .before .before .before .before .before .before .before .before .contexts .ensures) (c .before .before .before .before .before .before .n .given .1) in
-    let d = e .going .ruled in
+    let d = e .ruled .ruled in
     rule-end _ _ e (c .before .before .put-row .ensures) (omega (arith, d .room, d .few, c .before .before .put-row .ensures .end-is, c .before .before .put-row .kept .0))
 
 pub rest-spec : {M : Type 1} → statement M

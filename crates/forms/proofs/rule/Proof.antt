@@ -2,7 +2,7 @@
 use mathlib.Core.Path.{refl, _∙_}
 use native.Mathlib.Omega.{arith}
 use Rattle.language.specs.Restriction.{restricts}
-use Rattle.forms.proofs.FormLaws.{rule-none, rule-start, restricting, going-start, from-rest, then-to, then-not}
+use Rattle.forms.proofs.FormLaws.{rule-none, rule-start, restricting, none-needed, from-rest, then-to, then-not}
 use Rattle.forms.proofs.rule.Statement.{statement}
 use Rattle.forms.proofs.rule.Tie as tie
 
@@ -15,7 +15,7 @@ returns c = rule-none restricts _ (c .before .before .before .before .before .be
 rest-requires : tie.Need-rest-requires
 rest-requires c κs =
     let t = then-to (c .before .before .before .before .before .before .choice-then .ensures) (c .before .before .p .given .1) in
-    (c .before .before .before .before .before .before .before .before .before .before .before .pre .0, going-start (rule-start restricts _ _ _ _ _ (c .before .before .before .before .before .before .before .before .before .before .before .pre .1 .1 .0) (c .before .before .before .before .before .before .before .before .before .before .before .pre .1 .1 .1) (c .before .before .before .before .before .before .before .before .before .before .before .pre .1 .0) (c .before .before .before .before .before .before .choice-then .kept .1 .1 .0) (omega arith) restricting t))
+    (c .before .before .before .before .before .before .before .before .before .before .before .pre .0, none-needed (rule-start restricts _ _ _ _ _ _ (c .before .before .before .before .before .before .before .before .before .before .before .pre .1 .1 .0) (c .before .before .before .before .before .before .before .before .before .before .before .pre .1 .1 .1) (c .before .before .before .before .before .before .before .before .before .before .before .pre .1 .0) (c .before .before .before .before .before .before .choice-then .kept .1 .1 .0) (omega arith) restricting t))
 
 returns-2 : tie.Need-returns-2
 returns-2 c = from-rest _ (then-to (c .before .before .before .before .before .before .before .before .before .choice-then .ensures) (c .before .before .before .before .before .p .given .1) .grown) (c .before .before .rest .ensures)

@@ -1,7 +1,6 @@
 -- `forms::sister` meets its contract: a pattern that is read begins the rule, its first context lets it end.
-use mathlib.Core.Path.{_∙_, ap, sym}
+use mathlib.Core.Path.{_∙_}
 use native.Mathlib.Omega.{arith}
-use lib.ListN.{length}
 use Rattle.signs.specs.BufferLaws.{grown-more}
 use Rattle.contexts.proofs.ContextLaws.{rule-half, context-to, context-not, slash-token}
 use Rattle.forms.proofs.FormLaws.{rule-none, sister-start, sister-short, first-other, first-next, form-not, from-rest, then-to, then-not}
