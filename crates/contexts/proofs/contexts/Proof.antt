@@ -24,10 +24,15 @@ token-requires : tie.Need-token-requires Inv-loop μ-loop
 token-requires c κs = c .before .before .before .before .pre .0
 
 returns : tie.Need-returns Inv-loop μ-loop
-returns c = may-end (c .before .before .before .before .before .loop .inv .0) (past-end (c .before .before .before .token .ensures .start) (c .if1 .taken)) (c .before .before .before .before .before .loop .inv .2)
+returns c =
+    let c5 = c .before .before .before .before .before in
+    may-end (c5 .loop .inv .0) (past-end (c .before .before .before .token .ensures .start) (c .if1 .taken)) (c5 .loop .inv .2)
 
 returns-2 : tie.Need-returns-2 Inv-loop μ-loop
-returns-2 c = further-other (c .before .before .before .before .before .before .loop .inv .0) (past-token (c .before .before .before .before .token .ensures .start) (c .before .if1 .left)) (c .before .before .before .before .token .ensures .kind-is) (c .if2 .taken)
+returns-2 c =
+    let c4 = c .before .before .before .before in
+    let c6 = c4 .before .before in
+    further-other (c6 .loop .inv .0) (past-token (c4 .token .ensures .start) (c .before .if1 .left)) (c4 .token .ensures .kind-is) (c .if2 .taken)
 
 further-requires : tie.Need-further-requires Inv-loop μ-loop
 further-requires c κs =
@@ -37,19 +42,30 @@ further-requires c κs =
 
 returns-3 : tie.Need-returns-3 Inv-loop μ-loop
 returns-3 c =
-    let x = c .before .before .before .before .before .before .before .before .before .before .before .token .ensures .token (slash-token _ (c .before .before .before .before .before .before .before .if2 .left)) in
-    further-half (c .before .before .before .before .before .before .before .before .before .before .before .before .before .loop .inv .0) x (c .before .before .before .before .before .before .before .if2 .left) (context-not (c .before .before .before .before .further .ensures) (c .enum-told .given .1))
+    let c4 = c .before .before .before .before in
+    let c7 = c4 .before .before .before in
+    let c11 = c7 .before .before .before .before in
+    let c13 = c11 .before .before in
+    let x = c11 .token .ensures .token (slash-token _ (c7 .if2 .left)) in
+    further-half (c13 .loop .inv .0) x (c7 .if2 .left) (context-not (c4 .further .ensures) (c .enum-told .given .1))
 
 loop-less : tie.Need-loop-less Inv-loop μ-loop
 loop-less c =
-    let x = c .before .before .before .before .before .before .before .before .before .before .before .before .token .ensures .token (slash-token _ (c .before .before .before .before .before .before .before .before .if2 .left)) in
-    omega (arith, x .falls, context-to (c .before .before .before .before .before .further .ensures) (c .before .n .given .1) .falls)
+    let c5 = c .before .before .before .before .before in
+    let c8 = c5 .before .before .before in
+    let c12 = c8 .before .before .before .before in
+    let x = c12 .token .ensures .token (slash-token _ (c8 .if2 .left)) in
+    omega (arith, x .falls, context-to (c5 .further .ensures) (c .before .n .given .1) .falls)
 
 loop-again : tie.Need-loop-again Inv-loop μ-loop
 loop-again c =
-    let x = c .before .before .before .before .before .before .before .before .before .before .before .before .token .ensures .token (slash-token _ (c .before .before .before .before .before .before .before .before .if2 .left)) in
-    let t = context-to (c .before .before .before .before .before .further .ensures) (c .before .n .given .1) in
-    (further-next (c .before .before .before .before .before .before .before .before .before .before .before .before .before .before .loop .inv .0) x (c .before .before .before .before .before .before .before .before .if2 .left) _ _ t (c .before .before .before .before .before .further .kept .1 .1 .0), c .before .before .before .before .before .further .kept .1 .1 .0 ∙ c .before .before .before .before .before .before .before .before .before .before .before .before .before .before .loop .inv .1, grown-more (c .before .before .before .before .before .before .before .before .before .before .before .before .before .before .loop .inv .2) (t .grown))
+    let c5 = c .before .before .before .before .before in
+    let c8 = c5 .before .before .before in
+    let c12 = c8 .before .before .before .before in
+    let c14 = c12 .before .before in
+    let x = c12 .token .ensures .token (slash-token _ (c8 .if2 .left)) in
+    let t = context-to (c5 .further .ensures) (c .before .n .given .1) in
+    (further-next (c14 .loop .inv .0) x (c8 .if2 .left) _ _ t (c5 .further .kept .1 .1 .0), c5 .further .kept .1 .1 .0 ∙ c14 .loop .inv .1, grown-more (c14 .loop .inv .2) (t .grown))
 
 pub contexts-spec : {M : Type 1} → statement M
 contexts-spec =

@@ -10,15 +10,23 @@ choice-then-requires : tie.Need-choice-then-requires
 choice-then-requires c κs = (c .before .before .before .before .pre .0, omega (arith, c .before .before .before .before .pre .1 .0))
 
 returns : tie.Need-returns
-returns c = rule-none restricts _ (c .before .before .before .before .before .before .before .before .before .pre .1 .1 .0) (then-not (c .before .before .before .before .choice-then .ensures) (c .enum-told .given .1))
+returns c =
+    let c4 = c .before .before .before .before in
+    let c9 = c4 .before .before .before .before .before in
+    rule-none restricts _ (c9 .pre .1 .1 .0) (then-not (c4 .choice-then .ensures) (c .enum-told .given .1))
 
 rest-requires : tie.Need-rest-requires
 rest-requires c κs =
-    let t = then-to (c .before .before .before .before .before .before .choice-then .ensures) (c .before .before .p .given .1) in
-    (c .before .before .before .before .before .before .before .before .before .before .before .pre .0, none-needed (rule-start restricts _ _ _ _ _ _ (c .before .before .before .before .before .before .before .before .before .before .before .pre .1 .1 .0) (c .before .before .before .before .before .before .before .before .before .before .before .pre .1 .1 .1) (c .before .before .before .before .before .before .before .before .before .before .before .pre .1 .0) (c .before .before .before .before .before .before .choice-then .kept .1 .1 .0) (omega arith) restricting t))
+    let c6 = c .before .before .before .before .before .before in
+    let c11 = c6 .before .before .before .before .before in
+    let t = then-to (c6 .choice-then .ensures) (c .before .before .p .given .1) in
+    (c11 .pre .0, none-needed (rule-start restricts _ _ _ _ _ _ (c11 .pre .1 .1 .0) (c11 .pre .1 .1 .1) (c11 .pre .1 .0) (c6 .choice-then .kept .1 .1 .0) (omega arith) restricting t))
 
 returns-2 : tie.Need-returns-2
-returns-2 c = from-rest _ (then-to (c .before .before .before .before .before .before .before .before .before .choice-then .ensures) (c .before .before .before .before .before .p .given .1) .grown) (c .before .before .rest .ensures)
+returns-2 c =
+    let c5 = c .before .before .before .before .before in
+    let c9 = c5 .before .before .before .before in
+    from-rest _ (then-to (c9 .choice-then .ensures) (c5 .p .given .1) .grown) (c .before .before .rest .ensures)
 
 pub rule-spec : {M : Type 1} → statement M
 rule-spec =

@@ -17,33 +17,56 @@ returns c =
 
 returns-2 : tie.Need-returns-2
 returns-2 c =
-    let i = c .before .before .before .before .before .before .before .before .before .before .before .before .before .pre .1 .1 .0 in
-    let d = sister-start _ _ _ i (c .before .before .before .before .before .before .before .before .before .before .before .before .before .pre .1 .1 .1) (c .before .before .before .before .before .before .before .before .before .before .before .before .before .pre .1 .0) (c .before .before .before .before .before .before .before .before .choice-then .kept .1 .1 .0) (then-to (c .before .before .before .before .before .before .before .before .choice-then .ensures) (c .before .before .before .before .p .given .1)) in
+    let c4 = c .before .before .before .before in
+    let c8 = c4 .before .before .before .before in
+    let c13 = c8 .before .before .before .before .before in
+    let i = c13 .pre .1 .1 .0 in
+    let d = sister-start _ _ _ i (c13 .pre .1 .1 .1) (c13 .pre .1 .0) (c8 .choice-then .kept .1 .1 .0) (then-to (c8 .choice-then .ensures) (c4 .p .given .1)) in
     form-not (first-other i d (c .before .token .ensures .kind-is) (c .if1 .taken))
 
 context-requires : tie.Need-context-requires
 context-requires c κs =
-    let i = c .before .before .before .before .before .before .before .before .before .before .before .before .before .before .before .pre .1 .1 .0 in
-    let d = sister-start _ _ _ i (c .before .before .before .before .before .before .before .before .before .before .before .before .before .before .before .pre .1 .1 .1) (c .before .before .before .before .before .before .before .before .before .before .before .before .before .before .before .pre .1 .0) (c .before .before .before .before .before .before .before .before .before .before .choice-then .kept .1 .1 .0) (then-to (c .before .before .before .before .before .before .before .before .before .before .choice-then .ensures) (c .before .before .before .before .before .before .p .given .1)) in
+    let c6 = c .before .before .before .before .before .before in
+    let c10 = c6 .before .before .before .before in
+    let c15 = c10 .before .before .before .before .before in
+    let i = c15 .pre .1 .1 .0 in
+    let d = sister-start _ _ _ i (c15 .pre .1 .1 .1) (c15 .pre .1 .0) (c10 .choice-then .kept .1 .1 .0) (then-to (c10 .choice-then .ensures) (c6 .p .given .1)) in
     let x = c .before .before .before .token .ensures .token (slash-token _ (c .before .before .if1 .left)) in
-    (c .before .before .before .before .before .before .before .before .before .before .before .before .before .before .before .pre .0, omega (arith, d .room, x .falls))
+    (c15 .pre .0, omega (arith, d .room, x .falls))
 
 returns-3 : tie.Need-returns-3
 returns-3 c =
-    let i = c .before .before .before .before .before .before .before .before .before .before .before .before .before .before .before .before .before .before .before .before .pre .1 .1 .0 in
-    let d = sister-start _ _ _ i (c .before .before .before .before .before .before .before .before .before .before .before .before .before .before .before .before .before .before .before .before .pre .1 .1 .1) (c .before .before .before .before .before .before .before .before .before .before .before .before .before .before .before .before .before .before .before .before .pre .1 .0) (c .before .before .before .before .before .before .before .before .before .before .before .before .before .before .before .choice-then .kept .1 .1 .0) (then-to (c .before .before .before .before .before .before .before .before .before .before .before .before .before .before .before .choice-then .ensures) (c .before .before .before .before .before .before .before .before .before .before .before .p .given .1)) in
-    let x = c .before .before .before .before .before .before .before .before .token .ensures .token (slash-token _ (c .before .before .before .before .before .before .before .if1 .left)) in
-    form-not (rule-half d x (c .before .before .before .before .before .before .before .if1 .left) (context-not (c .before .before .before .before .context .ensures) (c .enum-told2 .given .1)))
+    let c4 = c .before .before .before .before in
+    let c7 = c4 .before .before .before in
+    let c8 = c7 .before in
+    let c11 = c8 .before .before .before in
+    let c15 = c11 .before .before .before .before in
+    let c20 = c15 .before .before .before .before .before in
+    let i = c20 .pre .1 .1 .0 in
+    let d = sister-start _ _ _ i (c20 .pre .1 .1 .1) (c20 .pre .1 .0) (c15 .choice-then .kept .1 .1 .0) (then-to (c15 .choice-then .ensures) (c11 .p .given .1)) in
+    let x = c8 .token .ensures .token (slash-token _ (c7 .if1 .left)) in
+    form-not (rule-half d x (c7 .if1 .left) (context-not (c4 .context .ensures) (c .enum-told2 .given .1)))
 
 rest-requires : tie.Need-rest-requires
 rest-requires c κs =
-    let i = c .before .before .before .before .before .before .before .before .before .before .before .before .before .before .before .before .before .before .before .before .before .before .pre .1 .1 .0 in
-    let d = sister-start _ _ _ i (c .before .before .before .before .before .before .before .before .before .before .before .before .before .before .before .before .before .before .before .before .before .before .pre .1 .1 .1) (c .before .before .before .before .before .before .before .before .before .before .before .before .before .before .before .before .before .before .before .before .before .before .pre .1 .0) (c .before .before .before .before .before .before .before .before .before .before .before .before .before .before .before .before .before .choice-then .kept .1 .1 .0) (then-to (c .before .before .before .before .before .before .before .before .before .before .before .before .before .before .before .before .before .choice-then .ensures) (c .before .before .before .before .before .before .before .before .before .before .before .before .before .p .given .1)) in
-    let x = c .before .before .before .before .before .before .before .before .before .before .token .ensures .token (slash-token _ (c .before .before .before .before .before .before .before .before .before .if1 .left)) in
-    (c .before .before .before .before .before .before .before .before .before .before .before .before .before .before .before .before .before .before .before .before .before .before .pre .0, first-next i d x (c .before .before .before .before .before .before .before .before .before .if1 .left) _ _ (context-to (c .before .before .before .before .before .before .context .ensures) (c .before .before .n .given .1)) (c .before .before .before .before .before .before .context .kept .1 .1 .0))
+    let c6 = c .before .before .before .before .before .before in
+    let c9 = c6 .before .before .before in
+    let c10 = c9 .before in
+    let c13 = c10 .before .before .before in
+    let c17 = c13 .before .before .before .before in
+    let c22 = c17 .before .before .before .before .before in
+    let i = c22 .pre .1 .1 .0 in
+    let d = sister-start _ _ _ i (c22 .pre .1 .1 .1) (c22 .pre .1 .0) (c17 .choice-then .kept .1 .1 .0) (then-to (c17 .choice-then .ensures) (c13 .p .given .1)) in
+    let x = c10 .token .ensures .token (slash-token _ (c9 .if1 .left)) in
+    (c22 .pre .0, first-next i d x (c9 .if1 .left) _ _ (context-to (c6 .context .ensures) (c .before .before .n .given .1)) (c6 .context .kept .1 .1 .0))
 
 returns-4 : tie.Need-returns-4
-returns-4 c = from-rest _ (grown-more (then-to (c .before .before .before .before .before .before .before .before .before .before .before .before .before .before .before .before .before .before .before .before .choice-then .ensures) (c .before .before .before .before .before .before .before .before .before .before .before .before .before .before .before .before .p .given .1) .grown) (context-to (c .before .before .before .before .before .before .before .before .before .context .ensures) (c .before .before .before .before .before .n .given .1) .grown)) (c .before .before .rest .ensures)
+returns-4 c =
+    let c5 = c .before .before .before .before .before in
+    let c9 = c5 .before .before .before .before in
+    let c16 = c9 .before .before .before .before .before .before .before in
+    let c20 = c16 .before .before .before .before in
+    from-rest _ (grown-more (then-to (c20 .choice-then .ensures) (c16 .p .given .1) .grown) (context-to (c9 .context .ensures) (c5 .n .given .1) .grown)) (c .before .before .rest .ensures)
 
 pub sister-spec : {M : Type 1} → statement M
 sister-spec =
