@@ -6,7 +6,7 @@ typedef struct {
     uint8_t *code;
     size_t length;
     int spoiled, stranger;
-    uint8_t known[256]; // letters of line 1, names defined above
+    uint8_t known[128]; // letters of line 1, names defined above
 } Reader;
 
 static int peek(Reader *r) {

@@ -1,15 +1,17 @@
--- "The kind of every byte (letter, name, each sign, space, line end, stray) is one constant table of 256 entries." The reader knows bytes by their
--- kinds only.
+-- "The kind of every byte (letter, name, each sign, space, line end, stray) is one constant table": here the kinds, the table's rule. The reader
+-- knows bytes by their kinds only.
 use mathlib.Core.Path.{_≡_, refl}
 use mathlib.Core.Bool.{Bool, true, false, _&&_}
 use mathlib.Core.Logic.{inl, inr}
 use mathlib.Core.List.{List, [], _∷_}
-use Prim.Native.Nat.{ℕ, zero, suc, _+_, _≤_}
+use Prim.Native.Nat.{ℕ, zero, suc, _+_, _≤_, _<_, zero-le, suc-le-suc}
 use native.Mathlib.Omega.{arith}
-use lib.Dec.{eqb, leb}
-use lib.ListN.{getD}
+use borrow.Author.Tests.{le-leb, lt-leb, ne-eqb}
+use lib.Dec.{eqb, ltb, leb}
+use lib.ListN.{length, getD}
 use Rattle.automata.specs.Booleans.{choose}
-use Rattle.automata.specs.Basics.{SameCases, nat-test, same-cases}
+use Rattle.automata.specs.Basics.{SameCases, nat-test, same-cases, ltb-lt}
+use Rattle.automata.specs.Decide.{allBelow, all-below}
 
 -- The kinds, numbered so that those which begin an item, those which go on with one, and those which join chains stand in a row each; the signs in
 -- the order of `signs`.
@@ -146,3 +148,23 @@ module _ (b : ℕ) where
       go true t e = absurd (omega (arith, nat-test .sound letterKind (dotKind + i) e))
       go false true e = absurd (omega (arith, nat-test .sound nameKind (dotKind + i) e))
       go false false e = sign-place signs dotKind i (omega arith) e
+
+-- ---- "All bytes from 0x80 up are stray"
+
+-- the first of them; ASCII ends before it
+abbrev pub asciiEnd : ℕ
+asciiEnd = 128
+
+module _ (b : ℕ) where
+  -- a byte above all signs is none of them
+  no-sign : (ss : List ℕ) (k : ℕ) → ((i : ℕ) → i < length ss → getD ss i 0 < b) → signKind b ss k ≡ strayKind
+  no-sign [] k f = refl
+  no-sign (s ∷ ss) k f =
+      let low : s < b = f 0 (suc-le-suc zero-le) in
+      rw (ne-eqb b s (λ e. omega arith)) (no-sign ss (suc k) (λ i h. f (suc i) (suc-le-suc h)))
+
+  -- Letters and names end before 0x80, and every sign stands before it.
+  pub kind-high : asciiEnd ≤ b → kindOf b ≡ strayKind
+  kind-high h =
+      rw (le-leb 97 b (omega arith), lt-leb b 122 (omega arith), le-leb 65 b (omega arith), lt-leb b 90 (omega arith))
+      (no-sign signs dotKind λ i k. let low = ltb-lt (getD signs i 0) asciiEnd (all-below (λ j. ltb (getD signs j 0) asciiEnd) (length signs) refl i k) in omega arith)

@@ -44,3 +44,6 @@ pub const UNDERSCORE_KIND: u8 = 20;
 pub const LESS_KIND: u8 = 21;
 
 pub const CARET_KIND: u8 = 22;
+
+// From this byte on all are stray.
+pub const ASCII_END: usize = 128;

@@ -1,5 +1,6 @@
 // The kind of each byte of a book. The lexer knows bytes by their kinds only.
 use book::kinds::AMPERSAND_KIND;
+use book::kinds::ASCII_END;
 use book::kinds::AT_KIND;
 use book::kinds::BANG_KIND;
 use book::kinds::BAR_KIND;
@@ -26,9 +27,9 @@ ghost use mathlib.Core.Path.{_≡_};
 ghost use Rattle.book.specs.Kind.{kindOf};
 ghost use Rattle.lexer.specs.Kinds.{Kinds};
 
-pub type KindTable = [u8; 256];
+pub type KindTable = [u8; ASCII_END];
 
-// "The kind of every byte .. is one constant table of 256 entries", a mark at each sixteenth.
+// "The kind of every byte .. is one constant table"; "All bytes from 0x80 up are stray, so the table keeps 128 entries". A mark at each sixteenth.
 pub const KINDS: KindTable = [
     // 0x00
     STRAY_KIND,
@@ -166,142 +167,6 @@ pub const KINDS: KindTable = [
     STRAY_KIND,
     STRAY_KIND,
     STRAY_KIND,
-    // 0x80
-    STRAY_KIND,
-    STRAY_KIND,
-    STRAY_KIND,
-    STRAY_KIND,
-    STRAY_KIND,
-    STRAY_KIND,
-    STRAY_KIND,
-    STRAY_KIND,
-    STRAY_KIND,
-    STRAY_KIND,
-    STRAY_KIND,
-    STRAY_KIND,
-    STRAY_KIND,
-    STRAY_KIND,
-    STRAY_KIND,
-    STRAY_KIND,
-    // 0x90
-    STRAY_KIND,
-    STRAY_KIND,
-    STRAY_KIND,
-    STRAY_KIND,
-    STRAY_KIND,
-    STRAY_KIND,
-    STRAY_KIND,
-    STRAY_KIND,
-    STRAY_KIND,
-    STRAY_KIND,
-    STRAY_KIND,
-    STRAY_KIND,
-    STRAY_KIND,
-    STRAY_KIND,
-    STRAY_KIND,
-    STRAY_KIND,
-    // 0xA0
-    STRAY_KIND,
-    STRAY_KIND,
-    STRAY_KIND,
-    STRAY_KIND,
-    STRAY_KIND,
-    STRAY_KIND,
-    STRAY_KIND,
-    STRAY_KIND,
-    STRAY_KIND,
-    STRAY_KIND,
-    STRAY_KIND,
-    STRAY_KIND,
-    STRAY_KIND,
-    STRAY_KIND,
-    STRAY_KIND,
-    STRAY_KIND,
-    // 0xB0
-    STRAY_KIND,
-    STRAY_KIND,
-    STRAY_KIND,
-    STRAY_KIND,
-    STRAY_KIND,
-    STRAY_KIND,
-    STRAY_KIND,
-    STRAY_KIND,
-    STRAY_KIND,
-    STRAY_KIND,
-    STRAY_KIND,
-    STRAY_KIND,
-    STRAY_KIND,
-    STRAY_KIND,
-    STRAY_KIND,
-    STRAY_KIND,
-    // 0xC0
-    STRAY_KIND,
-    STRAY_KIND,
-    STRAY_KIND,
-    STRAY_KIND,
-    STRAY_KIND,
-    STRAY_KIND,
-    STRAY_KIND,
-    STRAY_KIND,
-    STRAY_KIND,
-    STRAY_KIND,
-    STRAY_KIND,
-    STRAY_KIND,
-    STRAY_KIND,
-    STRAY_KIND,
-    STRAY_KIND,
-    STRAY_KIND,
-    // 0xD0
-    STRAY_KIND,
-    STRAY_KIND,
-    STRAY_KIND,
-    STRAY_KIND,
-    STRAY_KIND,
-    STRAY_KIND,
-    STRAY_KIND,
-    STRAY_KIND,
-    STRAY_KIND,
-    STRAY_KIND,
-    STRAY_KIND,
-    STRAY_KIND,
-    STRAY_KIND,
-    STRAY_KIND,
-    STRAY_KIND,
-    STRAY_KIND,
-    // 0xE0
-    STRAY_KIND,
-    STRAY_KIND,
-    STRAY_KIND,
-    STRAY_KIND,
-    STRAY_KIND,
-    STRAY_KIND,
-    STRAY_KIND,
-    STRAY_KIND,
-    STRAY_KIND,
-    STRAY_KIND,
-    STRAY_KIND,
-    STRAY_KIND,
-    STRAY_KIND,
-    STRAY_KIND,
-    STRAY_KIND,
-    STRAY_KIND,
-    // 0xF0
-    STRAY_KIND,
-    STRAY_KIND,
-    STRAY_KIND,
-    STRAY_KIND,
-    STRAY_KIND,
-    STRAY_KIND,
-    STRAY_KIND,
-    STRAY_KIND,
-    STRAY_KIND,
-    STRAY_KIND,
-    STRAY_KIND,
-    STRAY_KIND,
-    STRAY_KIND,
-    STRAY_KIND,
-    STRAY_KIND,
-    STRAY_KIND,
 ];
 
 // The table, laid out once: an entry lends it to whatever looks at bytes.
@@ -315,5 +180,6 @@ pub fn kind(kinds: &KindTable, b: u8) -> u8
     requires { ⌜ Kinds (now kinds) ⌝ }
     ensures { λ r. ⌜ r ≡ kindOf b ⌝ }
 {
-    kinds[b as usize]
+    let i = b as usize;
+    if i < ASCII_END { kinds[i] } else { STRAY_KIND }
 }

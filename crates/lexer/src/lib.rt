@@ -23,41 +23,38 @@ pub struct Lexeme {
 }
 
 impl Cursor {
+    // The next token, past the spaces. One look at each byte.
+    pub fn token(self, kinds: &KindTable, s: &[u8]) -> Lexeme
+        requires { ⌜ Kinds (now kinds) ⌝ }
+        ensures { λ r. ⌜ Lexed (now (s .entry)) (self .at) r ⌝ }
+    {
+        let mut at = self.at;
+        while at < s.len() {
+            let byte = s[at];
+            let found = kind(kinds, byte);
+            if found != SPACE_KIND {
+                return Lexeme {
+                    kind: found,
+                    byte,
+                    start: Cursor { at },
+                    next: Cursor { at: at + 1 },
+                };
+            }
+            at += 1;
+        }
+        Lexeme {
+            kind: LINE_END_KIND,
+            byte: b'\n',
+            start: Cursor { at },
+            next: Cursor { at },
+        }
+    }
+
     // Past the spaces, to where the next token stands, or the line's end.
     pub fn skip(self, kinds: &KindTable, s: &[u8]) -> Cursor
         requires { ⌜ Kinds (now kinds) ⌝ }
         ensures { λ r. ⌜ Past (now (s .entry)) (self .at) (r .at) ⌝ }
     {
-        let mut at = self.at;
-        while at < s.len() {
-            if kind(kinds, s[at]) != SPACE_KIND {
-                return Cursor { at };
-            }
-            at += 1;
-        }
-        Cursor { at }
-    }
-
-    pub fn token(self, kinds: &KindTable, s: &[u8]) -> Lexeme
-        requires { ⌜ Kinds (now kinds) ⌝ }
-        ensures { λ r. ⌜ Lexed (now (s .entry)) (self .at) r ⌝ }
-    {
-        let start = self.skip(kinds, s);
-        let at = start.at;
-        if at < s.len() {
-            let b = s[at];
-            return Lexeme {
-                kind: kind(kinds, b),
-                byte: b,
-                start,
-                next: Cursor { at: at + 1 },
-            };
-        }
-        Lexeme {
-            kind: LINE_END_KIND,
-            byte: b'\n',
-            start,
-            next: start,
-        }
+        self.token(kinds, s).start
     }
 }

@@ -1,6 +1,6 @@
 -- Laws of a later line's tests: 6 on a line's program, and the order of 3 to 7.
 use mathlib.Core.Path.{_≡_, refl, sym, ap, _∙_, subst}
-use mathlib.Core.Bool.{Bool, true, false, _&&_}
+use mathlib.Core.Bool.{Bool, true, false, _&&_, true≢false}
 use mathlib.Core.Logic.{inl, inr}
 use mathlib.Core.List.{List, [], _∷_, _++_, append-assoc, append-nil}
 use Prim.Native.Nat.{ℕ, _+_, _*_, _-_, _≤_, _<_}
@@ -26,7 +26,7 @@ use Rattle.scans.specs.Lines.{lineOf, lineAt, Ends}
 use Rattle.reader.specs.Names.{Holds}
 use Rattle.reader.specs.Known.{codeKnown, Knows}
 use Rattle.forms.specs.Forms.{Defines, Rules, ReadsForm}
-use Rattle.reader.specs.Answers.{ReadsLine, ReadsNext}
+use Rattle.reader.specs.Answers.{programLength, ReadsLine, ReadsNext}
 use Rattle.reader.specs.declared.names.Names.{Names}
 use Rattle.forms.specs.declared.Code.{Code}
 use Rattle.forms.specs.declared.Code as code
@@ -87,6 +87,11 @@ module _ (ls ns : List ℕ) where
 -- a part of the buffer that starts at its first byte
 first-part : (o : List ℕ) (len : ℕ) → take (len - 0) (drop 0 o) ≡ take len o
 first-part o len = let z : len - 0 ≡ len = omega arith in rw z
+
+-- what is known of the bytes up to the program's length, as it is of the form's own length
+pub program-known : (o′ : List ℕ) {ls : List ℕ} {f : Names} {r : Bool} {len : ℕ} {x y : Code} → len ≡ programLength x → x ≡ y → Knows (take (len - 0) (drop 0 o′)) ls f r
+    → Knows (take (programLength y - 0) (drop 0 o′)) ls f r
+program-known o′ {ls} {f} {r} p e k = subst (λ n. Knows (take (n - 0) (drop 0 o′)) ls f r) (p ∙ ap programLength e) k
 
 -- ---- what passing the tests along the line says
 
@@ -186,6 +191,12 @@ module _ (s : List ℕ) (ended : Bool) (n : ℕ) (q : n ≡ lineTest (lineOf s e
           };
         }
 
+      -- 6, of whichever form: a line without a program has no symbol
+      pub stopped-known : (x : Code) → ReadsForm s o o′ x → {len : ℕ} → len ≡ programLength x → {r : Bool} → Knows (take (len - 0) (drop 0 o′)) ls f r → r ≡ false → ReadsLine (lineOf s ended) ls f o o′ (answer.the-variants.Refused 6)
+      stopped-known (code.the-variants.Define x n) d p k e = stopped-symbol (d .says) (program-known o′ {y = code.the-variants.Define x n} p refl k) e
+      stopped-known (code.the-variants.Rule n) d p k e = stopped-rule (d .says) (program-known o′ {y = code.the-variants.Rule n} p refl k) e
+      stopped-known code.the-variants.Malformed d p k e = record { says = record { is = λ ns h. absurd (true≢false (sym (program-known o′ {y = code.the-variants.Malformed} p refl k .says ns h) ∙ e)) } }
+
 -- ---- what the functions answer, case by case
 
 module _ {s o o′ : List ℕ} {r : Code} (d : ReadsForm s o o′ r) where
@@ -197,6 +208,11 @@ module _ {s o o′ : List ℕ} {r : Code} (d : ReadsForm s o o′ r) where
 
   pub form-not : r ≡ code.the-variants.Malformed → formOf s ≡ malformed
   form-not e = rw e at (d .says)
+
+pub form-fits : {s o o′ : List ℕ} {len : ℕ} (r : Code) → ReadsForm s o o′ r → len ≡ programLength r → len ≤ length o′
+form-fits (code.the-variants.Define x n) d e = omega (arith, d .says .fits)
+form-fits (code.the-variants.Rule n) d e = omega (arith, d .says .fits)
+form-fits code.the-variants.Malformed d e = omega arith
 
 -- ---- the line that starts at a place of the text
 

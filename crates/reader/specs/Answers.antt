@@ -12,12 +12,20 @@ use Rattle.book.specs.Line.{LineRead, reads, stops, readLine}
 use Rattle.book.specs.Program.{program}
 use Rattle.book.specs.StackLaws.{FormHeld}
 use Rattle.scans.specs.Lines.{lineAt, Ends}
+use Rattle.forms.specs.declared.Code as code
+use Rattle.forms.specs.declared.Code.{Code}
 use Rattle.reader.specs.Names.{Holds}
 use Rattle.reader.specs.declared.names.Names.{Names}
 use Rattle.reader.specs.declared.line.Answer as answer
 use Rattle.reader.specs.declared.line.Answer.{Answer}
 use Rattle.reader.specs.declared.line.LineAnswer as lineAnswer
 use Rattle.reader.specs.declared.line.LineAnswer.{LineAnswer}
+
+-- how many bytes of the buffer are the program of a form
+abbrev pub programLength : Code → ℕ
+programLength (code.the-variants.Define x len) = len
+programLength (code.the-variants.Rule len) = len
+programLength code.the-variants.Malformed = 0
 
 -- the line reads as X, with the letters of line 1 and the names above
 pub record Reads (l : Line) (letters : List ℕ) (f : Names) (X : LineRead) : Type 0 where

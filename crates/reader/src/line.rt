@@ -6,12 +6,13 @@ use forms::Code;
 use lexer::kinds::KindTable;
 use scans::ends;
 use scans::tests;
+ghost use mathlib.Core.Path.{_≡_};
 ghost use Prim.Native.Nat.{_<_, _*_, _+_, _≤_};
 ghost use lib.ListN.{length};
 ghost use Rattle.lexer.specs.Kinds.{Kinds};
 ghost use Rattle.forms.specs.Forms.{Room};
 ghost use Rattle.scans.specs.Lines.{lineOf};
-ghost use Rattle.reader.specs.Answers.{ReadsLine, ReadsNext};
+ghost use Rattle.reader.specs.Answers.{programLength, ReadsLine, ReadsNext};
 
 // What a line says: a name with the length of its program, or a rule with the length of its program, or the number of a refusal.
 pub enum Answer {
@@ -25,6 +26,17 @@ pub enum LineAnswer {
     Define(u8, usize, usize),
     Rule(usize, usize),
     Refused(u8),
+}
+
+// How long the program of a form is. A malformed line has none, and no symbol.
+fn program_length(code: Code) -> usize
+    ensures { λ r. ⌜ r ≡ programLength code ⌝ }
+{
+    match code {
+        Code::Define(name, len) => len,
+        Code::Rule(len) => len,
+        Code::Malformed => 0,
+    }
 }
 
 // The line of these bytes, which has its end or not. A name's own line does not define it.
@@ -44,22 +56,19 @@ pub fn check(
     if n != 0 {
         return Answer::Refused(n);
     }
-    match forms::form(kinds, line, out) {
+    let code = forms::form(kinds, line, out);
+    let end = program_length(code);
+    if !symbols::all_known(kinds, &out[0..end], letters, names) {
+        return Answer::Refused(6);
+    }
+    match code {
         Code::Define(name, len) => {
-            if !symbols::all_known(kinds, &out[0..len], letters, names) {
-                return Answer::Refused(6);
-            }
             if names.has(name) {
                 return Answer::Refused(7);
             }
             Answer::Define(name, len)
         }
-        Code::Rule(len) => {
-            if !symbols::all_known(kinds, &out[0..len], letters, names) {
-                return Answer::Refused(6);
-            }
-            Answer::Rule(len)
-        }
+        Code::Rule(len) => Answer::Rule(len),
         Code::Malformed => Answer::Refused(5),
     }
 }

@@ -55,6 +55,7 @@ pub const COMPILING: &[&str] = &[
     "< and ^ exchanged",
     "< and ^ are stray",
     "a rule is one of >",
+    "folds bytes by seven bits",
 ];
 
 /// While the input is no longer than this, what is ready is written before
@@ -171,6 +172,11 @@ pub fn compile(fault: &str) {
         "< and ^ are stray" => {
             for byte in input.iter_mut().filter(|byte| b"<^".contains(byte)) {
                 *byte = b'~';
+            }
+        }
+        "folds bytes by seven bits" => {
+            for byte in &mut input {
+                *byte %= 128;
             }
         }
         _ => {}

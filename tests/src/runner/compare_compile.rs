@@ -1,5 +1,6 @@
 //! The product's compiler against the reference.
 
+use crate::byte_examples;
 use crate::effort::Effort;
 use crate::entry::{Buffer, CompileEntry, Compiled, Reference, Request};
 use crate::examples::{self, Due, Example};
@@ -54,6 +55,14 @@ impl Comparison<'_> {
             }
             for (left, right, same) in sister_examples::alike() {
                 self.alike(tally, left, right, same);
+            }
+        });
+        tally.group("compile: every byte in every place", |tally| {
+            for example in byte_examples::high() {
+                self.example(tally, &example);
+            }
+            for (title, text) in byte_examples::low() {
+                self.text(tally, title, &text);
             }
         });
         tally.group("compile: further books", |tally| {

@@ -7,6 +7,7 @@
 mod acting;
 mod board_examples;
 mod by_format;
+mod byte_examples;
 mod compare_board;
 mod compare_compile;
 mod compare_factor;

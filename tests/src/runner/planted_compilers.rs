@@ -87,7 +87,7 @@ fn lines_of(text: &[u8]) -> Vec<Vec<u8>> {
 }
 
 pub fn all() -> Vec<Planted> {
-    [texts(), answers(), ruleless(), sisters(), limits(), recipes(), cards(), buffers()].into_iter().flatten().collect()
+    [texts(), bytes(), answers(), ruleless(), sisters(), limits(), recipes(), cards(), buffers()].into_iter().flatten().collect()
 }
 
 fn texts() -> Vec<Planted> {
@@ -154,6 +154,54 @@ fn texts() -> Vec<Planted> {
                 swapped
             });
             lines.collect::<Vec<_>>().concat()
+        }),
+    ]
+}
+
+/// Kinds of bytes that W5's table of 128 might get wrong.
+fn bytes() -> Vec<Planted> {
+    fn each(text: &[u8], change: fn(u8) -> u8) -> Vec<u8> {
+        text.iter().map(|&byte| change(byte)).collect()
+    }
+    fn as_a(from: u8, byte: u8) -> u8 {
+        if byte >= from {
+            b'a'
+        } else {
+            byte
+        }
+    }
+    vec![
+        text("folds bytes by seven bits", |text| each(text, |byte| byte % 128)),
+        text("folds the first byte of a line", |text| {
+            let lines = lines_of(text).into_iter().map(|mut line| {
+                line[0] %= 128;
+                line
+            });
+            lines.collect::<Vec<_>>().concat()
+        }),
+        text("folds letters alone", |text| {
+            each(text, |byte| if (byte % 128).is_ascii_lowercase() { byte % 128 } else { byte })
+        }),
+        text("folds spaces alone", |text| each(text, |byte| if byte == 0xA0 { b' ' } else { byte })),
+        text("folds line ends alone", |text| each(text, |byte| if byte == 0x8A { b'\n' } else { byte })),
+        text("bytes from 0x80 up are letters", |text| each(text, |byte| as_a(0x80, byte))),
+        text("byte 0xFF is a letter", |text| each(text, |byte| as_a(0xFF, byte))),
+        text("byte 0x80 is a bar", |text| each(text, |byte| if byte == 0x80 { b'|' } else { byte })),
+        text("passes over bytes from 0x80 up", |text| text.iter().copied().filter(u8::is_ascii).collect()),
+        text("a table that ends before |", |text| each(text, |byte| if byte < b'|' { byte } else { b'~' })),
+        after("a byte from 0x80 up before all else", |request, found| {
+            match lines_of(&request.text).iter().position(|line| !line.is_ascii()) {
+                Some(index) if found.number == 3 || found.number == 4 => refused(request, 5, index as u64 + 1),
+                _ => found,
+            }
+        }),
+        after("a byte from 0x80 up in line 1 stops nothing", |request, found| {
+            let lines = lines_of(&request.text);
+            if found.number == 5 && found.line == 1 && lines.first().is_some_and(|line| !line.is_ascii()) {
+                let first = lines[0].iter().copied().filter(u8::is_ascii).collect::<Vec<_>>();
+                return faultless(&Request { text: [vec![first], lines[1..].to_vec()].concat().concat(), ..request.clone() });
+            }
+            found
         }),
     ]
 }

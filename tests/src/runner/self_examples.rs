@@ -1,6 +1,7 @@
 //! The reference against results worked out by hand.
 
 use crate::board_examples;
+use crate::byte_examples;
 use crate::entry::{BoardEntry, MountedEntry, Reference};
 use crate::examples::{self, Due, Example};
 use crate::limits::{self, Nearest};
@@ -17,6 +18,7 @@ use reference::syntax::Line;
 pub fn run(tally: &mut Tally) {
     tally.group("reference: examples of document 01", |tally| all(tally, examples::paper()));
     tally.group("reference: how a text is read", |tally| all(tally, examples::reading()));
+    tally.group("reference: bytes from 0x80 up", |tally| all(tally, byte_examples::high()));
     tally.group("reference: texts without rules", |tally| all(tally, examples::ruleless()));
     tally.group("reference: how much is owed", |tally| all(tally, examples::owing()));
     tally.group("reference: forbidding and obliging rules", |tally| {

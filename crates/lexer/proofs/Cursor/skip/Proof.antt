@@ -1,51 +1,10 @@
--- `lexer::Cursor::skip` meets its contract: as the loop passes spaces, the tokens left stay the same.
-use mathlib.Core.Path.{_≡_, refl, _∙_}
-use Prim.Native.Nat.{_≤_, _-_}
-use native.Mathlib.Omega.{arith}
+-- `lexer::Cursor::skip` meets its contract: the token begins where the spaces end.
 use borrow.Author.Needs.{needs}
-use lib.ListN.{length, drop}
-use Rattle.book.specs.Text.{tokens}
-use Rattle.lexer.specs.Kinds.{Kinds}
-use Rattle.lexer.proofs.TokenLaws.{tokens-space}
 use Rattle.lexer.proofs.Cursor.skip.Statement.{statement}
 use Rattle.lexer.proofs.Cursor.skip.Tie as tie
 
-abbrev Inv-loop : tie.InvT-loop
-Inv-loop kinds s at₀ at = (tokens (drop at s) ≡ tokens (drop at₀ s)) × (at₀ ≤ at)
-
-abbrev μ-loop : tie.MeasureT-loop
-μ-loop kinds s at₀ at = length s - at
-
-loop-holds : tie.Need-loop-holds Inv-loop μ-loop
-loop-holds c = (refl, omega arith)
-
-returns : tie.Need-returns Inv-loop μ-loop
-returns c =
-    let v = c .before .before .before .before .loop .inv in
-    record { same = v .0; up = v .1; token = λ h e. c .if1 .taken (c .before .kind .ensures ∙ e) }
-
-loop-less : tie.Need-loop-less Inv-loop μ-loop
-loop-less c = omega arith
-
-loop-again : tie.Need-loop-again Inv-loop μ-loop
-loop-again c = (tokens-space _ _ _ (c .before .before .before .loop-test .taken) (c .before .kind .ensures) (c .if1 .left) ∙ c .before .before .before .before .loop .inv .0, omega arith)
-
-returns-2 : tie.Need-returns-2 Inv-loop μ-loop
-returns-2 c =
-    let v = c .before .loop .inv in
-    record { same = v .0; up = v .1; token = λ h e. omega arith }
+returns : tie.Need-returns
+returns c = c .before .token .ensures .start
 
 pub skip-spec : {M : Type 1} → statement M
-skip-spec =
-    tie.close
-    (tie.spec
-    Inv-loop
-    μ-loop
-    loop-holds
-    (λ c. search needs)
-    (λ c κs. search needs)
-    returns
-    (λ c. search needs)
-    loop-less
-    loop-again
-    returns-2)
+skip-spec = tie.close (tie.spec (λ c κs. search needs) returns)

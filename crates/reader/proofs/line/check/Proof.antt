@@ -1,6 +1,6 @@
 -- `reader::line::check` meets its contract: 3 to 7 in their order.
 use borrow.Author.Tests.{not-true, not-false}
-use Rattle.reader.proofs.CheckLaws.{passed-few, stopped-tests, stopped-form, stopped-symbol, stopped-name, read-name, stopped-rule, read-rule, form-name, form-rules, form-not, from-first}
+use Rattle.reader.proofs.CheckLaws.{passed-few, stopped-tests, stopped-form, stopped-known, stopped-name, read-name, read-rule, form-name, form-rules, form-not, form-fits, program-known, from-first}
 use Rattle.reader.proofs.line.check.Statement.{statement}
 use Rattle.reader.proofs.line.check.Tie as tie
 
@@ -11,31 +11,25 @@ form-requires : tie.Need-form-requires
 form-requires c κs = (c .before .before .before .before .before .before .pre .0, (c .before .before .before .before .before .before .pre .1, passed-few _ _ _ (c .before .before .line-test .ensures) (c .before .if1 .left)))
 
 part-all-known-end : tie.Need-part-all-known-end
-part-all-known-end c = (form-name (c .before .before .before .before .before .before .form .ensures) (c .before .before .name .given .1)) .fits
+part-all-known-end c = form-fits _ (c .before .before .before .before .form .ensures) (c .before .program-length .ensures)
 
 returns-2 : tie.Need-returns-2
-returns-2 c = stopped-symbol _ _ _ (c .before .before .before .before .before .before .before .before .before .before .before .before .line-test .ensures) _ _ _ _ (c .before .before .before .before .before .before .before .before .before .before .before .if1 .left) (form-name (c .before .before .before .before .before .before .before .before .before .form .ensures) (c .before .before .before .before .before .name .given .1)) (c .before .all-known .ensures) (not-true _ (c .if2 .taken))
+returns-2 c = stopped-known _ _ _ (c .before .before .before .before .before .before .before .before .before .before .line-test .ensures) _ _ _ _ (c .before .before .before .before .before .before .before .before .before .if1 .left) _ (c .before .before .before .before .before .before .before .form .ensures) (c .before .before .before .before .program-length .ensures) (c .before .all-known .ensures) (not-true _ (c .if2 .taken))
 
 has-requires : tie.Need-has-requires
-has-requires c κs = (form-name (c .before .before .before .before .before .before .before .before .before .form .ensures) (c .before .before .before .before .before .name .given .1)) .named
+has-requires c κs = (form-name (c .before .before .before .before .before .before .before .before .before .before .form .ensures) (c .before .code .given .1)) .named
 
 returns-3 : tie.Need-returns-3
-returns-3 c = stopped-name _ _ _ (c .before .before .before .before .before .before .before .before .before .before .before .before .before .before .line-test .ensures) _ _ _ _ (c .before .before .before .before .before .before .before .before .before .before .before .before .before .if1 .left) (form-name (c .before .before .before .before .before .before .before .before .before .before .before .form .ensures) (c .before .before .before .before .before .before .before .name .given .1)) (c .before .before .before .all-known .ensures) (not-false _ (c .before .before .if2 .left)) _ (c .before .has .ensures) (c .if3 .taken)
-
-part-all-known-end-2 : tie.Need-part-all-known-end-2
-part-all-known-end-2 c = (form-rules (c .before .before .before .before .before .before .form .ensures) (c .before .before .len .given .1)) .fits
+returns-3 c = stopped-name _ _ _ (c .before .before .before .before .before .before .before .before .before .before .before .before .before .before .before .line-test .ensures) _ _ _ _ (c .before .before .before .before .before .before .before .before .before .before .before .before .before .before .if1 .left) (form-name (c .before .before .before .before .before .before .before .before .before .before .before .before .form .ensures) (c .before .before .before .code .given .1)) (program-known _ (c .before .before .before .before .before .before .before .before .before .program-length .ensures) (c .before .before .before .code .given .1) (c .before .before .before .before .before .before .all-known .ensures)) (not-false _ (c .before .before .before .before .before .if2 .left)) _ (c .before .has .ensures) (c .if3 .taken)
 
 returns-4 : tie.Need-returns-4
-returns-4 c = stopped-rule _ _ _ (c .before .before .before .before .before .before .before .before .before .before .before .before .line-test .ensures) _ _ _ _ (c .before .before .before .before .before .before .before .before .before .before .before .if1 .left) (form-rules (c .before .before .before .before .before .before .before .before .before .form .ensures) (c .before .before .before .before .before .len .given .1)) (c .before .all-known2 .ensures) (not-true _ (c .if4 .taken))
+returns-4 c = read-name _ _ _ (c .before .before .before .before .before .before .before .before .before .before .before .before .before .before .before .line-test .ensures) _ _ _ _ (c .before .before .before .before .before .before .before .before .before .before .before .before .before .before .if1 .left) (form-name (c .before .before .before .before .before .before .before .before .before .before .before .before .form .ensures) (c .before .before .before .code .given .1)) (program-known _ (c .before .before .before .before .before .before .before .before .before .program-length .ensures) (c .before .before .before .code .given .1) (c .before .before .before .before .before .before .all-known .ensures)) (not-false _ (c .before .before .before .before .before .if2 .left)) _ (c .before .has .ensures) (c .if3 .left)
 
 returns-5 : tie.Need-returns-5
-returns-5 c = read-name _ _ _ (c .before .before .before .before .before .before .before .before .before .before .before .before .before .before .line-test .ensures) _ _ _ _ (c .before .before .before .before .before .before .before .before .before .before .before .before .before .if1 .left) (form-name (c .before .before .before .before .before .before .before .before .before .before .before .form .ensures) (c .before .before .before .before .before .before .before .name .given .1)) (c .before .before .before .all-known .ensures) (not-false _ (c .before .before .if2 .left)) _ (c .before .has .ensures) (c .if3 .left)
+returns-5 c = read-rule _ _ _ (c .before .before .before .before .before .before .before .before .before .before .before .before .before .line-test .ensures) _ _ _ _ (c .before .before .before .before .before .before .before .before .before .before .before .before .if1 .left) (form-rules (c .before .before .before .before .before .before .before .before .before .before .form .ensures) (c .before .code2 .given .1)) (program-known _ (c .before .before .before .before .before .before .before .program-length .ensures) (c .before .code2 .given .1) (c .before .before .before .before .all-known .ensures)) (not-false _ (c .before .before .before .if2 .left))
 
 returns-6 : tie.Need-returns-6
-returns-6 c = read-rule _ _ _ (c .before .before .before .before .before .before .before .before .before .before .before .before .line-test .ensures) _ _ _ _ (c .before .before .before .before .before .before .before .before .before .before .before .if1 .left) (form-rules (c .before .before .before .before .before .before .before .before .before .form .ensures) (c .before .before .before .before .before .len .given .1)) (c .before .all-known2 .ensures) (not-false _ (c .if4 .left))
-
-returns-7 : tie.Need-returns-7
-returns-7 c = stopped-form _ _ _ (c .before .before .before .before .before .before .before .line-test .ensures) _ _ _ _ (c .before .before .before .before .before .before .if1 .left) (form-not (c .before .before .before .before .form .ensures) (c .enum-told .given .1))
+returns-6 c = stopped-form _ _ _ (c .before .before .before .before .before .before .before .before .before .before .before .before .line-test .ensures) _ _ _ _ (c .before .before .before .before .before .before .before .before .before .before .before .if1 .left) (form-not (c .before .before .before .before .before .before .before .before .before .form .ensures) (c .enum-told .given .1))
 
 pub check-spec : {M : Type 1} → statement M
 check-spec =
@@ -44,27 +38,22 @@ check-spec =
     (λ c κs. c .before .before .before .pre .0)
     returns
     form-requires
-    (λ c. c .match .keys1)
+    (λ c κs. tt)
     (λ c. from-first _)
     (λ c. from-first _)
     part-all-known-end
-    (λ c κs. c .before .before .before .before .before .before .before .before .before .before .before .before .before .before .pre .0)
-    (λ c. c .before .before .before .before .before .before .before .before .before .form .kept .1 .1 .0)
+    (λ c κs. c .before .before .before .before .before .before .before .before .before .before .before .before .pre .0)
+    (λ c. c .before .before .before .before .before .before .before .form .kept .1 .1 .0)
     returns-2
+    (λ c. c .match .keys1)
     has-requires
-    (λ c. c .before .before .before .before .before .before .before .before .before .before .before .form .kept .1 .1 .0)
+    (λ c. c .before .before .before .before .before .before .before .before .before .before .before .before .form .kept .1 .1 .0)
     returns-3
     (λ c. c .match .keys2)
-    (λ c. from-first _)
-    (λ c. from-first _)
-    part-all-known-end-2
-    (λ c κs. c .before .before .before .before .before .before .before .before .before .before .before .before .before .before .pre .0)
-    (λ c. c .before .before .before .before .before .before .before .before .before .form .kept .1 .1 .0)
-    returns-4
     (λ c. c .match .keys3)
-    (λ c. c .before .before .before .before .before .before .before .before .before .before .before .form .kept .1 .1 .0)
+    (λ c. c .before .before .before .before .before .before .before .before .before .before .before .before .form .kept .1 .1 .0)
+    returns-4
+    (λ c. c .before .before .before .before .before .before .before .before .before .before .form .kept .1 .1 .0)
     returns-5
     (λ c. c .before .before .before .before .before .before .before .before .before .form .kept .1 .1 .0)
-    returns-6
-    (λ c. c .before .before .before .before .form .kept .1 .1 .0)
-    returns-7)
+    returns-6)
