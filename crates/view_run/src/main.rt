@@ -1,8 +1,6 @@
 // Runs the view on the paper's first card: a view that judges plan after plan, a view whose counts are forged, and a card that is refused. A line for each
 // answer.
-use libc::STDOUT_FILENO;
 use run::Answer;
-use run::Verdict;
 use view::View;
 ghost use mathlib.Core.Path.{_≡_};
 ghost use Rattle.automata.specs.Format.{narrow};
@@ -46,50 +44,20 @@ fn forged<'a, 'p>(card: &'a [u8], plan: &'p [u8]) -> Answer
     )
 }
 
-fn say(word: &[u8], number: usize) {
-    io::write_all(STDOUT_FILENO, word);
-    io::print_decimal(STDOUT_FILENO, number as u64);
-}
-
 fn say_counts(card: &[u8]) {
     let k = view::counts(card);
-    say(b"letters ", k.letters);
-    say(b" states ", k.states);
-    say(b" number ", k.number as usize);
-    io::write_all(STDOUT_FILENO, b"\n");
-}
-
-fn say_verdict(verdict: Verdict) {
-    match verdict {
-        Verdict::Allowed => {
-            io::write_all(STDOUT_FILENO, b"allowed");
-        }
-        Verdict::Unfinished(owed) => {
-            say(b"unfinished ", owed);
-        }
-        Verdict::Hopeless(k) => {
-            say(b"hopeless ", k);
-        }
-    }
-}
-
-fn say_answer(answer: Answer) {
-    match answer {
-        Answer::Judged(verdict) => say_verdict(verdict),
-        Answer::Refused(number, before) => {
-            say(b"refused ", number as usize);
-            say(b" after ", before);
-        }
-    }
-    io::write_all(STDOUT_FILENO, b"\n");
+    printing::number(b"letters ", k.letters);
+    printing::number(b" states ", k.states);
+    printing::number(b" number ", k.number as usize);
+    printing::word(b"\n");
 }
 
 fn say_several(card: &[u8], first: &[u8], second: &[u8]) {
     let answers = several(card, first, second);
     let one = answers.first;
     let other = answers.second;
-    say_answer(one);
-    say_answer(other);
+    printing::reply(one);
+    printing::reply(other);
 }
 
 // The card of the book `:ab`, `>b / .*a _ .*`, with the given marks byte for state 0.
@@ -128,8 +96,8 @@ fn on_card(card: &[u8]) {
     say_counts(card);
     say_several(card, plan, longer);
     say_several(card, b"b", b"abcb");
-    say_answer(forged(card, plan));
-    say_answer(forged(card, longer));
+    printing::reply(forged(card, plan));
+    printing::reply(forged(card, longer));
 }
 
 // No card: each plan is refused with the card's number.
@@ -137,7 +105,7 @@ fn on_wrong(card: &[u8]) {
     let plan = b"ab";
     say_counts(card);
     say_several(card, plan, b"c");
-    say_answer(forged(card, plan));
+    printing::reply(forged(card, plan));
 }
 
 fn main() {
