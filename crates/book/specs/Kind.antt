@@ -6,7 +6,7 @@ use mathlib.Core.Logic.{inl, inr}
 use mathlib.Core.List.{List, [], _∷_}
 use Prim.Native.Nat.{ℕ, zero, suc, _+_, _≤_, _<_, zero-le, suc-le-suc}
 use native.Mathlib.Omega.{arith}
-use borrow.Author.Tests.{le-leb, lt-leb, ne-eqb}
+use borrow.Author.Tests.{le-leb, lt-leb, eq-eqb, ne-eqb}
 use lib.Dec.{eqb, ltb, leb}
 use lib.ListN.{length, getD}
 use Rattle.automata.specs.Booleans.{choose}
@@ -148,6 +148,10 @@ module _ (b : ℕ) where
       go true t e = absurd (omega (arith, nat-test .sound letterKind (dotKind + i) e))
       go false true e = absurd (omega (arith, nat-test .sound nameKind (dotKind + i) e))
       go false false e = sign-place signs dotKind i (omega arith) e
+
+  -- A sign is the one byte of its kind.
+  pub sign-only : (i : ℕ) → kindOf b ≡ dotKind + i → b ≡ getD signs i 0
+  sign-only i e = sign-byte i (eq-eqb (kindOf b) (dotKind + i) e)
 
 -- ---- "All bytes from 0x80 up are stray"
 

@@ -51,7 +51,7 @@ fn show_all(kinds: &KindTable, text: &[u8])
 {
     let mut at = 0;
     while at < text.len() {
-        let end = line_end(kinds, text, at);
+        let end = line_end(text, at);
         show(kinds, &text[at..end]);
         at = end + 1;
     }

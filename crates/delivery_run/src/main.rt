@@ -1,5 +1,6 @@
 // Runs the whole way on some of the paper's books and plans, on a book of the three kinds of rules, on one without rules and on a text of no bytes, a line
 // each: length, peak, letters and states of the card and the board's reply; or the refusal with its line. The card buffer is longer than the card and holds other bytes, and so do the work buffers.
+
 // The whole way with buffers of its own.
 fn deliver(text: &[u8], plan: &[u8]) {
     let mut card = [7u8; 4000];

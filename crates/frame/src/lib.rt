@@ -101,7 +101,7 @@ fn first_line(kinds: &KindTable, text: &[u8]) -> Opened
     if text.len() == 0 {
         return Opened::Lines(0, 0);
     }
-    let end = ends::line_end(kinds, text, 0);
+    let end = ends::line_end(text, 0);
     let ended = end < text.len();
     match head::read_head(kinds, &text[0..end], ended) {
         Head::Letters(_m) => Opened::Lines(1, end),

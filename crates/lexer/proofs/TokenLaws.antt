@@ -19,8 +19,8 @@ front : (s : List ℕ) (i : ℕ) → i < length s → drop i s ≡ getD s i 0 �
 front s i h = rw (add-one, drop-cons s i 0)
 
 -- a space is passed
-pub tokens-space : (s : List ℕ) (i k : ℕ) → i < length s → k ≡ kindOf (getD s i 0) → k ≡ spaceKind → tokens (drop (i + 1) s) ≡ tokens (drop i s)
-tokens-space s i k h q e = rw (front s i h, eq-eqb (kindOf (getD s i 0)) spaceKind (sym q ∙ e))
+pub tokens-space : (s : List ℕ) (i : ℕ) → i < length s → getD s i 0 ≡ 32 → tokens (drop (i + 1) s) ≡ tokens (drop i s)
+tokens-space s i h e = rw (front s i h, e)
 
 -- anything else is a token
 pub tokens-other : (s : List ℕ) (i k : ℕ) → i < length s → k ≡ kindOf (getD s i 0) → (k ≡ spaceKind → ⊥) → tokens (drop i s) ≡ getD s i 0 ∷ tokens (drop (i + 1) s)

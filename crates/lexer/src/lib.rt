@@ -3,7 +3,6 @@
 pub mod kinds;
 
 use book::kinds::LINE_END_KIND;
-use book::kinds::SPACE_KIND;
 use kinds::KindTable;
 use kinds::kind;
 ghost use Rattle.lexer.specs.Kinds.{Kinds};
@@ -23,7 +22,7 @@ pub struct Lexeme {
 }
 
 impl Cursor {
-    // The next token, past the spaces. One look at each byte.
+    // The next token, past the spaces. A space is known by its byte, so that only the token is looked up.
     pub fn token(self, kinds: &KindTable, s: &[u8]) -> Lexeme
         requires { ⌜ Kinds (now kinds) ⌝ }
         ensures { λ r. ⌜ Lexed (now (s .entry)) (self .at) r ⌝ }
@@ -31,10 +30,9 @@ impl Cursor {
         let mut at = self.at;
         while at < s.len() {
             let byte = s[at];
-            let found = kind(kinds, byte);
-            if found != SPACE_KIND {
+            if byte != b' ' {
                 return Lexeme {
-                    kind: found,
+                    kind: kind(kinds, byte),
                     byte,
                     start: Cursor { at },
                     next: Cursor { at: at + 1 },

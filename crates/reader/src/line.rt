@@ -52,7 +52,7 @@ pub fn check(
     requires { ⌜ Room (now line) (now out) ⌝ }
     ensures { λ r. ⌜ ReadsLine (lineOf (now (line .entry)) ended) (now (letters .entry)) names (now (out .entry)) (now (out .exit)) r ⌝ }
 {
-    let n = tests::line_test(kinds, line, ended);
+    let n = tests::line_test(line, ended);
     if n != 0 {
         return Answer::Refused(n);
     }
@@ -87,7 +87,7 @@ pub fn read_line(
     requires { ⌜ 2 * length (now text) + 64 ≤ length (now out) ⌝ }
     ensures { λ r. ⌜ ReadsNext (now (text .entry)) at (now (letters .entry)) names (now (out .entry)) (now (out .exit)) r ⌝ }
 {
-    let end = ends::line_end(kinds, text, at);
+    let end = ends::line_end(text, at);
     let ended = end < text.len();
     match check(kinds, &text[at..end], ended, letters, names, out) {
         Answer::Define(name, len) => LineAnswer::Define(name, len, end + 1),

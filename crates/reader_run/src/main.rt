@@ -52,7 +52,7 @@ fn first_refusal(kinds: &KindTable, text: &[u8]) -> Outcome
     if text.len() == 0 {
         return Outcome { number: 0, line: 0 };
     }
-    let end = line_end(kinds, text, 0);
+    let end = line_end(text, 0);
     let ended = end < text.len();
     match read_head(kinds, &text[0..end], ended) {
         Head::Refused(number) => Outcome { number, line: 1 },

@@ -64,7 +64,7 @@ pub fn read_head(kinds: &KindTable, line: &[u8], ended: bool) -> Head
     requires { ⌜ Kinds (now kinds) ⌝ }
     ensures { λ r. ⌜ readHead narrow (lineOf (now (line .entry)) ended) ≡ headOf (now (line .entry)) r ⌝ }
 {
-    let n = tests::line_test(kinds, line, ended);
+    let n = tests::line_test(line, ended);
     if n != 0 {
         return Head::Refused(n);
     }

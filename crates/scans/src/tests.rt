@@ -1,17 +1,10 @@
 // The tests along a whole line, whatever its form: 3, 4, and 5 for a line without its end.
-use book::kinds::CLOSE_KIND;
-use book::kinds::OPEN_KIND;
-use book::kinds::UNDERSCORE_KIND;
-use lexer::kinds::KindTable;
-use lexer::kinds::kind;
 ghost use mathlib.Core.Path.{_≡_};
 ghost use Rattle.book.specs.Text.{lineTest};
-ghost use Rattle.lexer.specs.Kinds.{Kinds};
 ghost use Rattle.scans.specs.Lines.{lineOf};
 
 // The refusal of the line by these tests, or 0, in one pass. The count of `(` less `)` may fall below 0, so both are counted apart.
-pub fn line_test(kinds: &KindTable, line: &[u8], ended: bool) -> u8
-    requires { ⌜ Kinds (now kinds) ⌝ }
+pub fn line_test(line: &[u8], ended: bool) -> u8
     ensures { λ r. ⌜ r ≡ lineTest (lineOf (now (line .entry)) ended) ⌝ }
 {
     let mut opens: usize = 0;
@@ -19,18 +12,18 @@ pub fn line_test(kinds: &KindTable, line: &[u8], ended: bool) -> u8
     let mut gaps: usize = 0;
     let mut i = 0;
     while i < line.len() {
-        let k = kind(kinds, line[i]);
+        let b = line[i];
         i += 1;
-        if k == OPEN_KIND {
+        if b == b'(' {
             opens += 1;
             if 4 < opens {
                 if closes < opens - 4 {
                     return 3;
                 }
             }
-        } else if k == CLOSE_KIND {
+        } else if b == b')' {
             closes += 1;
-        } else if k == UNDERSCORE_KIND {
+        } else if b == b'_' {
             gaps += 1;
         }
     }

@@ -12,7 +12,7 @@ first-refusal-spec =
     tie.close
     (tie.spec
     (λ c. tt)
-    (λ c κs. (c .before .before .pre .0, omega arith))
+    (λ c κs. omega arith)
     (λ c. search needs)
     (λ c. search needs)
     (λ c. c .line-end .ensures .within)

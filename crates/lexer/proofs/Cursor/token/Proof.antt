@@ -4,6 +4,7 @@ use Prim.Native.Nat.{_≤_, _-_}
 use native.Mathlib.Omega.{arith}
 use borrow.Author.Needs.{needs}
 use lib.ListN.{length, drop}
+use Rattle.book.specs.Kind.{sign-only}
 use Rattle.book.specs.Text.{tokens}
 use Rattle.lexer.specs.Token.{Past}
 use Rattle.lexer.proofs.TokenLaws.{tokens-space, past-token, past-end, lexed-token, lexed-end}
@@ -23,15 +24,14 @@ returns : tie.Need-returns Inv-loop μ-loop
 returns c =
     let v = c .before .before .before .before .loop .inv in
     let h = c .before .before .before .loop-test .taken in
-    let k = c .before .kind .ensures in
-    let p : Past _ _ _ = record { same = v .0; up = v .1; token = λ h e. c .if1 .taken (k ∙ e) } in
-    lexed-token p (record { rest-is = past-token p h; kind-is = k; falls = omega (arith, p .up) })
+    let p : Past _ _ _ = record { same = v .0; up = v .1; token = λ h e. c .before .if1 .taken (sign-only _ 11 e) } in
+    lexed-token p (record { rest-is = past-token p h; kind-is = c .kind .ensures; falls = omega (arith, p .up) })
 
 loop-less : tie.Need-loop-less Inv-loop μ-loop
 loop-less c = omega arith
 
 loop-again : tie.Need-loop-again Inv-loop μ-loop
-loop-again c = (tokens-space _ _ _ (c .before .before .before .loop-test .taken) (c .before .kind .ensures) (c .if1 .left) ∙ c .before .before .before .before .loop .inv .0, omega arith)
+loop-again c = (tokens-space _ _ (c .before .before .loop-test .taken) (c .if1 .left) ∙ c .before .before .before .loop .inv .0, omega arith)
 
 returns-2 : tie.Need-returns-2 Inv-loop μ-loop
 returns-2 c =

@@ -17,7 +17,7 @@ pub read-line-spec : {M : Type 1} → statement M
 read-line-spec =
     tie.close
     (tie.spec
-    (λ c κs. (c .before .before .before .pre .0, in-text _ _ (c .before .before .before .pre .1 .0)))
+    (λ c κs. in-text _ _ (c .before .before .before .pre .1 .0))
     (λ c. c .line-end .ensures .from)
     (λ c. c .line-end .ensures .from)
     (λ c. c .line-end .ensures .within)
