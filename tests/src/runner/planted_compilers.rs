@@ -87,7 +87,10 @@ fn lines_of(text: &[u8]) -> Vec<Vec<u8>> {
 }
 
 pub fn all() -> Vec<Planted> {
-    [texts(), bytes(), answers(), ruleless(), sisters(), limits(), recipes(), cards(), buffers()].into_iter().flatten().collect()
+    [texts(), bytes(), answers(), ruleless(), sisters(), limits(), recipes(), cards(), buffers()]
+        .into_iter()
+        .flatten()
+        .collect()
 }
 
 fn texts() -> Vec<Planted> {
@@ -199,7 +202,10 @@ fn bytes() -> Vec<Planted> {
             let lines = lines_of(&request.text);
             if found.number == 5 && found.line == 1 && lines.first().is_some_and(|line| !line.is_ascii()) {
                 let first = lines[0].iter().copied().filter(u8::is_ascii).collect::<Vec<_>>();
-                return faultless(&Request { text: [vec![first], lines[1..].to_vec()].concat().concat(), ..request.clone() });
+                return faultless(&Request {
+                    text: [vec![first], lines[1..].to_vec()].concat().concat(),
+                    ..request.clone()
+                });
             }
             found
         }),
