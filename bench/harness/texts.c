@@ -142,7 +142,7 @@ Texts ruleless_texts(void) { return named_texts(ruleless, sizeof ruleless / size
 #define A117 A60 A24 A23 A10
 #define CROWD "(" A23 ")*&(" A24 ")*"
 
-// Accepted ones first. Then lines that are spoiled, deep, crowded with contexts or have a stranger; then 8 or 9, by the order of stages.
+// Accepted ones first. Then lines that are spoiled, deep, crowded with contexts, have a stranger or a byte from 0x80 up; then 8 or 9, by the order of stages.
 static Named kinds[] = {
     {"forbids", ":ab\n<b / .*a _ .*\n"},
     {"obliges", ":ab\n^b / .*a _ .*\n"},
@@ -190,6 +190,13 @@ static Named kinds[] = {
     {"forbids-a-stranger", ":ab\n<c/a_b\n"},
     {"obliges-a-stranger", ":ab\n^a/a_A\n"},
     {"forbids-beside-a-stranger", ":ab\n<a/c_b\n"},
+    {"eighth-bit-letter", ":ab\n>\341\n"},
+    {"eighth-bit-name", ":ab\n=\301 a\n"},
+    {"eighth-bit-space", ":ab\n>a\240\n"},
+    {"eighth-bit-line-end", ":ab\212>a\n"},
+    {"eighth-bit-first", ":ab\n\276a\n"},
+    {"eighth-bit-in-line-1", ":a\342\n>a\n"},
+    {"eighth-bit-and-deep", ":ab\n>\377(((((\n"},
     {"pattern-over-120-states", ":a\n<" A117 "aa/" CROWD "_a\n"},
     {"pattern-crowded", ":a\n^" CROWD "/" A117 "aa_a\n"},
     {"complement-over-120-states", ":a\n^" A117 "a/" CROWD "_a\n"},
