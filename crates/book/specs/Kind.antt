@@ -1,5 +1,5 @@
--- "The kind of every byte (letter, name, each sign, space, line end, stray) is one constant table": here the kinds, the table's rule. The reader
--- knows bytes by their kinds only.
+-- "The kind of every byte (letter, name, each sign, space, line end, stray) is one constant table": here are the kinds; crates/lexer has the table.
+-- The definitions of the reader know bytes by their kinds only.
 use mathlib.Core.Path.{_≡_, refl}
 use mathlib.Core.Bool.{Bool, true, false, _&&_}
 use mathlib.Core.Logic.{inl, inr}
@@ -11,7 +11,7 @@ use lib.Dec.{eqb, ltb, leb}
 use lib.ListN.{length, getD}
 use Rattle.automata.specs.Booleans.{choose}
 use Rattle.automata.specs.Basics.{SameCases, nat-test, same-cases, ltb-lt}
-use Rattle.automata.specs.Decide.{allBelow, all-below}
+use Rattle.automata.specs.Decide.{all-below}
 
 -- The kinds, numbered so that those which begin an item, those which go on with one, and those which join chains stand in a row each; the signs in
 -- the order of `signs`.
@@ -149,7 +149,7 @@ module _ (b : ℕ) where
       go false true e = absurd (omega (arith, nat-test .sound nameKind (dotKind + i) e))
       go false false e = sign-place signs dotKind i (omega arith) e
 
-  -- A sign is the one byte of its kind.
+  -- The same from an equation: a sign is the one byte of its kind.
   pub sign-only : (i : ℕ) → kindOf b ≡ dotKind + i → b ≡ getD signs i 0
   sign-only i e = sign-byte i (eq-eqb (kindOf b) (dotKind + i) e)
 

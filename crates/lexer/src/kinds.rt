@@ -1,4 +1,4 @@
-// The kind of each byte of a book. The lexer knows bytes by their kinds only.
+// The kind of each byte of a book.
 use book::kinds::AMPERSAND_KIND;
 use book::kinds::ASCII_END;
 use book::kinds::AT_KIND;
@@ -169,7 +169,7 @@ pub const KINDS: KindTable = [
     STRAY_KIND,
 ];
 
-// The table, laid out once: an entry lends it to whatever looks at bytes.
+// The table, laid out once: an entry lends it to whatever looks a byte up.
 pub fn table() -> KindTable
     ensures { λ r. ⌜ Kinds r ⌝ }
 {

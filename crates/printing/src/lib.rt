@@ -1,4 +1,4 @@
-// What the small programs print, on standard output: a word with a number behind it, a verdict, a board's reply, and the answers of the whole way.
+// What `view_run` and `delivery_run` print, on standard output: a word with a number behind it, a verdict, a board's reply, and the answers of the whole way.
 use handing::BoardAnswer;
 use handing::Delivered;
 use libc::STDOUT_FILENO;

@@ -137,7 +137,7 @@ module _ (s : List ℕ) (ended : Bool) (n : ℕ) (q : n ≡ lineTest (lineOf s e
         named-read ns = form-read ns ∙ ap (checkForm ls ns) (d .form)
 
         -- 6
-        pub stopped-symbol : r ≡ false → ReadsLine (lineOf s ended) ls f o o′ (answer.the-variants.Refused 6)
+        stopped-symbol : r ≡ false → ReadsLine (lineOf s ended) ls f o o′ (answer.the-variants.Refused 6)
         stopped-symbol e = record { says = record { is = λ ns h. named-read ns ∙ rw (known-is ns h, e) } }
 
         -- 7
@@ -171,7 +171,7 @@ module _ (s : List ℕ) (ended : Bool) (n : ℕ) (q : n ≡ lineTest (lineOf s e
         unfolding checkForm
         rule-read ns = form-read ns ∙ ap (checkForm ls ns) (d .form)
 
-        pub stopped-rule : r ≡ false → ReadsLine (lineOf s ended) ls f o o′ (answer.the-variants.Refused 6)
+        stopped-rule : r ≡ false → ReadsLine (lineOf s ended) ls f o o′ (answer.the-variants.Refused 6)
         stopped-rule e = record { says = record { is = λ ns h. rule-read ns ∙ rw (rule-is ns h, e) } }
 
         pub read-rule : r ≡ true → ReadsLine (lineOf s ended) ls f o o′ (answer.the-variants.Rule len)

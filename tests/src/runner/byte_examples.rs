@@ -1,4 +1,4 @@
-//! Every byte in every place of a book. Of the bytes from 0x80 up, which are
+//! Every byte in 24 places of a book. Of the bytes from 0x80 up, which are
 //! stray (W5), the results are worked out by hand.
 
 use crate::examples::{refused, Example};

@@ -57,7 +57,7 @@ impl Comparison<'_> {
                 self.alike(tally, left, right, same);
             }
         });
-        tally.group("compile: every byte in every place", |tally| {
+        tally.group("compile: every byte in 24 places", |tally| {
             for example in byte_examples::high() {
                 self.example(tally, &example);
             }
