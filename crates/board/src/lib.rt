@@ -13,7 +13,7 @@ ghost use Rattle.board.specs.Answers.{loading, stepping};
 const UNFINISHED: u8 = 0;
 
 // What loading answers: the card's letters and states, or the number of a refusal.
-#[derive(Drop)]
+#[derive(Clone, Copy)]
 pub enum Loaded {
     Accepted(usize, usize),
     Refused(u8),
@@ -34,7 +34,7 @@ pub fn load(card: &[u8]) -> Loaded
 }
 
 // What one step answers: the next state and its marks byte; or, where that is 0, the next state and the fewest further letters; or the number of a refusal.
-#[derive(Drop)]
+#[derive(Clone, Copy)]
 pub enum Stepped {
     Moved(usize, u8),
     Owing(usize, usize),

@@ -14,7 +14,7 @@ use book::kinds::{
 use lexer::kinds::KindTable;
 use signs::{Spot, negate, nots, put, put_if, suffixed};
 
-#[derive(Drop)]
+#[derive(Clone, Copy)]
 pub enum Made {
     Done(Spot),
     Refused,

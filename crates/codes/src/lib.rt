@@ -9,7 +9,7 @@ use book::codes::{
 
 // Where an operand comes from: a letter and a name by their bytes, a given machine (0 `@`, 1 `.*`, 2 `.`, 3 the mark), a register (0 the book so far,
 // 1 the pattern, 2 the right side).
-#[derive(Drop)]
+#[derive(Clone, Copy)]
 pub enum Source {
     Letter(u8),
     Name(u8),
@@ -19,7 +19,7 @@ pub enum Source {
 
 // A code pushes an operand; or has an operation, by its number, on so many machines of the stack, or on an operand and the top; or makes `A+`; or stores
 // the top in a register; or is no code.
-#[derive(Drop)]
+#[derive(Clone, Copy)]
 pub enum Sort {
     Push(Source),
     Top(u8, usize),

@@ -21,7 +21,7 @@ const UNFINISHED: u8 = 0;
 const DEAD: u8 = 2;
 
 // How many plans are allowed, unfinished and hopeless; or the number of a refusal.
-#[derive(Drop)]
+#[derive(Clone, Copy)]
 pub enum Answer {
     Counts(u64, u64, u64),
     Refused(u8),

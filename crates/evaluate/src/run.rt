@@ -92,7 +92,7 @@ fn step(
 }
 
 // The most sets that a stage of the program made, or the number of a refusal.
-#[derive(Drop)]
+#[derive(Clone, Copy)]
 pub enum Evaluated {
     Made(usize),
     Refused(u8),

@@ -8,7 +8,7 @@ ghost use Rattle.card.specs.Alphabet.{column as columnOf};
 ghost use Rattle.fields.specs.Counts.{Counted, counts_of};
 
 // How many letters and how many states the contents give, or that the contents are not right.
-#[derive(Drop)]
+#[derive(Clone, Copy)]
 pub enum Counts {
     Of(usize, usize),
     Bad,

@@ -8,7 +8,7 @@ use crate::table;
 use rows::sum;
 
 // What is seen while a row is filled: its sum, and whether a state in it is accepting.
-#[derive(Drop)]
+#[derive(Clone, Copy)]
 pub struct Poured {
     pub sum: usize,
     pub accepting: bool,

@@ -10,7 +10,7 @@ ghost use Rattle.forbidden.specs.Pass.{Searchable, Searched, Bettered};
 const PLACES: usize = 242;
 
 // A factor's start and length, or none; or the number of a refusal and, for 27, how many letters precede the first that is not on the card.
-#[derive(Drop)]
+#[derive(Clone, Copy)]
 pub enum Answer {
     None,
     At(usize, usize),
@@ -18,7 +18,7 @@ pub enum Answer {
 }
 
 // The best stretch so far: its start and length; a length past the plan's where there is none.
-#[derive(Drop)]
+#[derive(Clone, Copy)]
 struct Best {
     start: usize,
     length: usize,

@@ -40,7 +40,7 @@ const OBLIGING_PROGRAM: [u8; 2] = [COMPLEMENT_CODE, STORE_PATTERN_CODE];
 const FINISH_PROGRAM: [u8; 3] = [ERASE_CODE, COMPLEMENT_CODE, MEET_CODE];
 
 // A name with the length of its program, the length of a rule's program, or that the line is of neither form.
-#[derive(Drop)]
+#[derive(Clone, Copy)]
 pub enum Code {
     Define(u8, usize),
     Rule(usize),

@@ -84,7 +84,7 @@ pub fn put_card(letters: &[u8], peak: usize, slot: &[u8], card: &mut [u8]) -> Co
 }
 
 // Where the letters of line 1 begin and end, or the number of a refusal with its line. A text of no bytes has no letters, and no line behind them.
-#[derive(Drop)]
+#[derive(Clone, Copy)]
 pub enum Opened {
     Lines(usize, usize),
     Refused(u8, usize),

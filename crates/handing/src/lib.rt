@@ -11,14 +11,14 @@ use board::Loaded;
 use compiler::Compiled;
 
 // What the board answers on a card and a plan: the card's letters and states, and the answer of judging; or the number of a card that does not load.
-#[derive(Drop)]
+#[derive(Clone, Copy)]
 pub enum BoardAnswer {
     Judged(usize, usize, run::Answer),
     NotLoaded(u8),
 }
 
 // The card's length and the peak with what the board answers; or the number of the book's refusal and its line.
-#[derive(Drop)]
+#[derive(Clone, Copy)]
 pub enum Delivered {
     Card(usize, usize, BoardAnswer),
     Refused(u8, usize),

@@ -12,7 +12,7 @@ use libc::{STDERR_FILENO, STDOUT_FILENO};
 const READS: u64 = 140737488355328;
 
 // The state behind all bytes, and whether their text was written.
-#[derive(Drop)]
+#[derive(Clone, Copy)]
 pub struct Answered {
     pub state: State,
     pub written: bool,

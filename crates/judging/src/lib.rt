@@ -11,14 +11,14 @@ use plan::Judging;
 use reply::LONGEST;
 
 // Between two pieces: the plan so far, and whether a byte of it has come.
-#[derive(Drop)]
+#[derive(Clone, Copy)]
 pub struct State {
     pub judging: Judging,
     pub open: bool,
 }
 
 // The state behind the bytes that were used, and how long the text of the plans that ended in them is.
-#[derive(Drop)]
+#[derive(Clone, Copy)]
 pub struct Fed {
     pub state: State,
     pub used: usize,

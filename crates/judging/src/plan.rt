@@ -3,7 +3,7 @@ ghost use Rattle.std.specs.Prelude.{◌≡◌, [], ◌+◌, ◌<◌, ◌^◌, le
 ghost use Rattle.judging.specs.Plan.{Tests, Columns, Owed, Judges, More, Answers};
 
 // The number of the card's refusal, or 0 and its counts; and the run of the plan so far.
-#[derive(Drop)]
+#[derive(Clone, Copy)]
 pub struct Judging {
     pub number: u8,
     pub m: usize,

@@ -11,7 +11,7 @@ use slots::given;
 pub const SLOT: usize = 3362;
 
 // Where a line's machine is kept: in the slot of a name, or as the book so far.
-#[derive(Drop)]
+#[derive(Clone, Copy)]
 pub enum Place {
     Name(u8),
     Book,

@@ -8,14 +8,14 @@ ghost use Rattle.lexer.specs.Token.{Past, Lexed};
 use book::kinds::LINE_END_KIND;
 use kinds::{KindTable, kind};
 
-#[derive(Drop)]
+#[derive(Clone, Copy)]
 pub struct Cursor {
     pub at: usize,
 }
 
 // A token, as its kind and its byte, with the cursor before it, where the spaces end, and past it. At the line's end it is the line's end, with which
 // no part of a choice begins or goes on, and the cursor stays.
-#[derive(Drop)]
+#[derive(Clone, Copy)]
 pub struct Lexeme {
     pub kind: u8,
     pub byte: u8,

@@ -8,7 +8,7 @@ use lexer::kinds::KindTable;
 use progress::{Book, Ended, Next};
 
 // Whether a book goes on, at its next line; and how its lines end, where it does not.
-#[derive(Drop)]
+#[derive(Clone, Copy)]
 struct Course {
     on: bool,
     book: Book,

@@ -7,7 +7,7 @@ ghost use Rattle.minimise.specs.Minimised.{Fitting, Minimised};
 use classes::refine::refine;
 
 // How many states the smallest machine has, or that these are more than allowed.
-#[derive(Drop)]
+#[derive(Clone, Copy)]
 pub enum Kept {
     States(usize),
     TooMany,

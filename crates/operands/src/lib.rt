@@ -4,7 +4,7 @@ pub mod copies;
 pub mod operand;
 
 // The most sets that a stage may make, the most states that a kept machine may have, and the bytes of a slot.
-#[derive(Drop)]
+#[derive(Clone, Copy)]
 pub struct Layout {
     pub sets: usize,
     pub states: usize,

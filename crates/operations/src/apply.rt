@@ -14,7 +14,7 @@ use operands::{Layout, copies, operand};
 use stages::stage;
 
 // The height of the stack behind a code and the most sets that one of its stages made; or the number of a refusal; or too few machines.
-#[derive(Drop)]
+#[derive(Clone, Copy)]
 pub enum Stepped {
     Next(usize, usize),
     Refused(u8),

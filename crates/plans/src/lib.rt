@@ -15,7 +15,7 @@ ghost use Rattle.plans.specs.Many.{three, JudgesLines};
 const LINE_END: u8 = 10;
 
 // How many plans were judged and how many bytes they took, or the number of the card's refusal.
-#[derive(Drop)]
+#[derive(Clone, Copy)]
 pub enum Many {
     Judged(usize, usize),
     Refused(u8),

@@ -10,7 +10,7 @@ use kept::Place;
 use reader::line::LineAnswer;
 use reader::names::Names;
 
-#[derive(Drop)]
+#[derive(Clone, Copy)]
 pub struct Book {
     pub at: usize,
     pub line: usize,
@@ -19,7 +19,7 @@ pub struct Book {
 }
 
 // The most sets that a stage made, or the number of a refusal with its line.
-#[derive(Drop)]
+#[derive(Clone, Copy)]
 pub enum Ended {
     Done(usize),
     Refused(u8, usize),
@@ -97,7 +97,7 @@ impl Book {
 
 // What the reader says of a line: whether it was read; then where its machine is kept, the length of its program and where the next line starts; else
 // the number of a refusal.
-#[derive(Drop)]
+#[derive(Clone, Copy)]
 pub struct Told {
     pub on: bool,
     pub number: u8,
@@ -135,7 +135,7 @@ pub fn tell(answer: LineAnswer) -> Told
 }
 
 // Whether the book goes on; then the book behind the line, else the number of a refusal.
-#[derive(Drop)]
+#[derive(Clone, Copy)]
 pub struct Next {
     pub on: bool,
     pub number: u8,

@@ -13,7 +13,7 @@ use lexer::kinds::KindTable;
 use scans::{ends, tests};
 
 // What a line says: a name with the length of its program, or a rule with the length of its program, or the number of a refusal.
-#[derive(Drop)]
+#[derive(Clone, Copy)]
 pub enum Answer {
     Define(u8, usize),
     Rule(usize),
@@ -21,7 +21,7 @@ pub enum Answer {
 }
 
 // The same of a line of a text, with the place where the next line starts.
-#[derive(Drop)]
+#[derive(Clone, Copy)]
 pub enum LineAnswer {
     Define(u8, usize, usize),
     Rule(usize, usize),

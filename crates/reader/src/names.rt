@@ -4,7 +4,7 @@ ghost use Rattle.book.specs.Kind.{is_name};
 ghost use Rattle.reader.specs.Names.{Holds, More};
 
 // A flag for each name from A to Z.
-#[derive(Drop)]
+#[derive(Clone, Copy)]
 pub struct Names {
     pub defined: [bool; 26],
 }

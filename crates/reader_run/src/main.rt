@@ -10,7 +10,7 @@ use reader::names::Names;
 use scans::ends::line_end;
 use scans::head::{Head, read_head};
 
-#[derive(Drop)]
+#[derive(Clone, Copy)]
 struct Outcome {
     number: u8,
     line: usize,

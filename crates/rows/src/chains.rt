@@ -4,7 +4,7 @@ ghost use Rattle.std.specs.Prelude.{true, ◌≡◌, ℕ, ◌+◌, ◌*◌, ◌/
 ghost use Rattle.rows.specs.Chains.{Chained, Looked, Appended};
 ghost use Rattle.rows.specs.Sums.{row_hash};
 
-#[derive(Drop)]
+#[derive(Clone, Copy)]
 pub enum Found {
     At(usize),
     Nothing,
@@ -105,7 +105,7 @@ pub fn append(rows: &mut [u8], w: usize, count: usize, row: &[u8])
     ensures { Appended w count rows.old row.now rows.new }
 {
     let at = count * w;
-    bytes::copy(row, &mut rows[at..at + w]);
+    rows[at..at + w].copy_from_slice(row);
 }
 
 // The row `count`, whose hash is h, becomes the last of its chain.

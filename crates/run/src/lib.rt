@@ -12,7 +12,7 @@ ghost use Rattle.run.specs.Reading.{run_of, reply_of};
 ghost use Rattle.run.specs.Walk.{Ready, Underway, ColumnTable, OwedTable, KnownTo, Walked, Runs, Tells};
 
 // A place in a plan, or none.
-#[derive(Drop)]
+#[derive(Clone, Copy)]
 pub enum Place {
     None,
     At(usize),
@@ -20,7 +20,7 @@ pub enum Place {
 
 // What is kept between two pieces of a plan: the state, how many letters were taken, after how many the state was dead first, and how many precede
 // the first letter that is not on the card.
-#[derive(Drop)]
+#[derive(Clone, Copy)]
 pub struct Run {
     pub state: usize,
     pub letters: usize,
@@ -29,7 +29,7 @@ pub struct Run {
 }
 
 // "allowed, unfinished, or hopeless with a place"; unfinished with the fewest further letters after which the plan is allowed
-#[derive(Drop)]
+#[derive(Clone, Copy)]
 pub enum Verdict {
     Allowed,
     Unfinished(usize),
@@ -37,14 +37,14 @@ pub enum Verdict {
 }
 
 // A verdict, or the number of a refusal and, for 27, how many letters precede the first that is not on the card.
-#[derive(Drop)]
+#[derive(Clone, Copy)]
 pub enum Answer {
     Judged(Verdict),
     Refused(u8, usize),
 }
 
 // How a walk ends: at the piece's end, or after some letters, in a dead state or before a letter that is not on the card.
-#[derive(Drop)]
+#[derive(Clone, Copy)]
 pub enum Walk {
     Done(usize),
     Dead(usize, usize),
@@ -52,7 +52,7 @@ pub enum Walk {
 }
 
 // What a run says at the plan's end: the answer, or, of an unfinished plan, its last state.
-#[derive(Drop)]
+#[derive(Clone, Copy)]
 pub enum End {
     Told(Answer),
     Owing(usize),

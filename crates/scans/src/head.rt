@@ -12,7 +12,7 @@ use book::kinds::{COLON_KIND, LETTER_KIND};
 use lexer::kinds::{KindTable, kind};
 
 // How many letters stand behind the line's `:`, or the number of a refusal.
-#[derive(Drop)]
+#[derive(Clone, Copy)]
 pub enum Head {
     Letters(usize),
     Refused(u8),

@@ -2,7 +2,7 @@
 
 // The operation's code (0 `|`, 1 `&`, 2 `-`, 3 concatenation, 4 star, 5 erase), the number of columns, for each operand its number of states and
 // where its transitions begin, the bytes of a row, and the most sets. Star and erase take their one operand twice.
-#[derive(Drop)]
+#[derive(Clone, Copy)]
 pub struct Shape {
     pub op: u8,
     pub k: usize,

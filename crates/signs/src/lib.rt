@@ -11,14 +11,14 @@ use lexer::Cursor;
 use lexer::kinds::KindTable;
 
 // How far the line is read, and how far the code is written.
-#[derive(Drop)]
+#[derive(Clone, Copy)]
 pub struct Spot {
     pub cursor: Cursor,
     pub pos: usize,
 }
 
 // How many '!' stand in a row, and where they end.
-#[derive(Drop)]
+#[derive(Clone, Copy)]
 pub struct Negations {
     pub cursor: Cursor,
     pub count: usize,

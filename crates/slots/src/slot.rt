@@ -5,7 +5,7 @@ ghost use Rattle.rows.specs.Rows.{number_at};
 ghost use Rattle.slots.specs.Slot.{Slot, Written, UnpackedAt, Loaded};
 
 // The numbers of states of the two operands.
-#[derive(Drop)]
+#[derive(Clone, Copy)]
 pub struct Sizes {
     pub left: usize,
     pub right: usize,

@@ -7,7 +7,7 @@ ghost use Rattle.stream.specs.Input.{Within};
 const ZERO: u8 = 48;
 
 // An input's bytes, as many as were read up to its end or the buffer's; or that a read failed, which is not the input's end.
-#[derive(Drop)]
+#[derive(Clone, Copy)]
 pub enum Input {
     Whole(usize),
     Failed,

@@ -2,7 +2,7 @@
 // laws; and what a stage answers.
 
 // How many sets are reached, or that they are more than the limit.
-#[derive(Drop)]
+#[derive(Clone, Copy)]
 pub enum Explored {
     Sets(usize),
     TooMany,

@@ -8,7 +8,7 @@ ghost use Rattle.run.specs.Reading.{reply_of};
 ghost use Rattle.view.specs.Numbers.{numbers_of, view_numbers};
 
 // What loading answers, as a struct: letters, states and 0; or 0, 0 and the number of the refusal, 21 to 26.
-#[derive(Drop)]
+#[derive(Clone, Copy)]
 pub struct Counted {
     pub letters: usize,
     pub states: usize,
@@ -16,7 +16,7 @@ pub struct Counted {
 }
 
 // The caller's bytes, and what loading answers of them.
-#[derive(Drop)]
+#[derive(Clone, Copy)]
 pub struct View<'a> {
     pub bytes: &'a [u8],
     pub letters: usize,

@@ -9,7 +9,7 @@ use run::Answer;
 use view::View;
 
 // Two answers.
-#[derive(Drop)]
+#[derive(Clone, Copy)]
 struct Both {
     first: Answer,
     second: Answer,

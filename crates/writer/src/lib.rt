@@ -5,7 +5,7 @@ ghost use Rattle.writer.specs.Written.{Kept, Written, kept_card};
 use sections::{contents, marks, moves};
 
 // The card's length, or that the buffer is too short for it.
-#[derive(Drop)]
+#[derive(Clone, Copy)]
 pub enum Wrote {
     Length(usize),
     TooShort,
