@@ -1,0 +1,8 @@
+-- `start` meets its contract.
+use borrow.Author.Rules.{rules}
+use Rattle.arrivals.proofs.RoundLaws.{started}
+use Rattle.arrivals.proofs.start.Goals as goal
+
+pub returns : goal.returns
+returns c =
+    started _ _ c.clear.ensures c.requires

@@ -1,0 +1,18 @@
+-- `part` meets its contract: the states before i have their classes.
+use borrow.Author.Rules.{rules}
+use mathlib.Core.Path.{◌≡◌, ◌∙◌}
+use Prim.Native.Nat.{ℕ, ◌-◌, ◌≤◌, ◌<◌}
+use native.Mathlib.Omega.{arith}
+use lib.ListN.{length, get_or}
+use Rattle.classes.specs.Refine.{side_of}
+use Rattle.entries.proofs.EntryLaws.{filled_more}
+use Rattle.classes.proofs.RefineLaws.{side_low}
+use Rattle.classes.proofs.refine.part.Given as goal
+
+abbrev pub invariant-loop-i : goal.invariant-loop-i
+invariant-loop-i l =
+    (l.i ≤ l.n) × (length l.work ≡ length l.initial.work) × ((p : ℕ) → p < l.i → get_or l.work p 0 ≡ side_of l.table l.other p)
+
+abbrev pub decreases-loop-i : goal.decreases-loop-i
+decreases-loop-i l =
+    l.n - l.i

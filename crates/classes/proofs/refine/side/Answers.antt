@@ -1,0 +1,21 @@
+-- `side` meets its contract.
+use mathlib.Core.Path.{sym, ◌∙◌}
+use Rattle.classes.proofs.RefineLaws.{side_same, side_other}
+use borrow.Author.Rules.{rules}
+use Rattle.classes.proofs.refine.side.Goals as goal
+
+-- src/refine.rt:127:8
+
+-- src/refine.rt:127:26
+
+-- src/refine.rt:128:9
+
+-- src/refine.rt:123:1
+
+pub returns-then-flag : goal.returns-then-flag
+returns-then-flag c =
+    sym (side_same c.args.table.now c.args.other c.args.p (sym c.flag.ensures ∙ c.if-flag.true ∙ c.flag-2.ensures))
+
+pub returns : goal.returns
+returns c =
+    sym (side_other c.args.table.now c.args.other c.args.p (λ e. c.if-flag.false (c.flag.ensures ∙ e ∙ sym c.flag-2.ensures)))

@@ -1,0 +1,25 @@
+-- `accepts` of a concatenation meets its contract.
+use Rattle.sets.proofs.ConcatLaws.{concat_long, concat_flags, concat_accepts}
+use borrow.Author.Rules.{rules}
+use native.Mathlib.Omega.{arith}
+use Rattle.concatenation.proofs.accepts.Goals as goal
+
+pub slice_bounds-some_accepting-count : goal.slice_bounds-some_accepting-count
+slice_bounds-some_accepting-count c =
+    let args = c.args in
+    omega (arith, concat_long args.s args.a.now args.b.now c.requires.fits c.requires.op_value args.from.now c.requires.source)
+
+pub slice_bounds-some_accepting-start : goal.slice_bounds-some_accepting-start
+slice_bounds-some_accepting-start c =
+    let args = c.args in
+    omega (arith, concat_long args.s args.a.now args.b.now c.requires.fits c.requires.op_value args.from.now c.requires.source)
+
+pub some_accepting-requires : goal.some_accepting-requires
+some_accepting-requires c =
+    let args = c.args in
+    record { n_in_bounds = omega (arith, c.requires.fits.right.long, c.requires.fits.right.flags); n_in_bounds_2 = concat_flags args.s args.a.now args.b.now c.requires.fits c.requires.op_value args.from.now c.requires.source; }
+
+pub returns : goal.returns
+returns c =
+    let args = c.args in
+    concat_accepts args.s args.a.now args.b.now c.requires.fits c.requires.op_value args.from.now c.requires.source _ c.some_accepting.ensures

@@ -1,0 +1,16 @@
+-- `first_flags` of a concatenation meets its contract.
+use mathlib.Core.Path.{ap, ◌∙◌}
+use native.Mathlib.Omega.{arith}
+use lib.ListN.{length}
+use borrow.Author.Rules.{rules}
+use Rattle.rows.proofs.SumLaws.{summed_none}
+use Rattle.sets.specs.Fits.{with_zero}
+use Rattle.concatenation.proofs.first_flags.Goals as goal
+
+pub gain-requires : goal.gain-requires
+gain-requires c =
+    record { p_in_bounds = c.requires.a_nonzero; flags_nonzero = omega (arith, c.clear.auto.row, c.requires.flags_nonzero.0); summed = summed_none 2 (length c.args.flags.now) _ c.clear.ensures (omega (arith, c.requires.flags_nonzero.1)); }
+
+pub returns : goal.returns
+returns c =
+    (c.gain.ensures.0 ∙ ap (with_zero _) c.clear.ensures, c.gain.ensures.1)

@@ -1,0 +1,17 @@
+-- `step` meets its contract: the states passed have their places.
+use borrow.Author.Rules.{rules, scaled_Fits}
+use mathlib.Core.Path.{◌≡◌}
+use mathlib.Core.Logic.{inl, inr, ⊎_elim}
+use Prim.Native.Nat.{◌+◌, ◌*◌, ◌≤◌, ◌-◌}
+use native.Mathlib.Nat.{zero-mul}
+use native.Mathlib.Omega.{arith}
+use Rattle.ends.proofs.EndsLaws.{SteppedTo, stepped_start, move_place, end_inside, next_place_lem, next_low, place_read, stepped_next, stepped_done}
+use Rattle.ends.proofs.step.Given as goal
+
+abbrev pub invariant-loop-q : goal.invariant-loop-q
+invariant-loop-q l =
+    (l.q ≤ l.n) × (l.at ≡ l.q * l.m + l.column) × SteppedTo l.moves l.m l.n l.column l.from l.to l.initial.ends l.ends l.last l.q
+
+abbrev pub decreases-loop-q : goal.decreases-loop-q
+decreases-loop-q l =
+    l.n - l.q

@@ -1,0 +1,27 @@
+-- `next` of an erase meets its contract.
+use mathlib.Core.Path.{sym, ap, ◌∙◌}
+use native.Mathlib.Omega.{arith}
+use lib.ListN.{length}
+use borrow.Author.Rules.{rules}
+use Rattle.rows.specs.Sums.{row_sum}
+use Rattle.rows.proofs.SumLaws.{sum_none}
+use Rattle.sets.proofs.EraseLaws.{erase_closes, erase_clear, erase_mark, erase_letter}
+use Rattle.erase.proofs.next.Goals as goal
+
+pub lead-requires : goal.lead-requires
+lead-requires c =
+    let a = c.args in
+    let closes = erase_closes a.s a.a.now a.b.now c.requires.step.fits c.requires.op_value c.clear.new.0 (c.clear.auto.row ∙ c.requires.step.long) in
+    let blank = erase_clear a.s a.a.now a.b.now c.requires.step.fits c.requires.op_value (length a.row.now) _ c.requires.step.long c.clear.ensures in
+    record { closes = closes; c_lt_k = (c.requires.step.column, c.requires.step.fits.left_small); counted = c.requires.lists.counted; row_value = blank; }
+
+pub returns-then-c-k : goal.returns-then-c-k
+returns-then-c-k c =
+    let a = c.args in
+    (erase_letter a.s a.a.now a.b.now c.requires.step.fits c.requires.op_value a.c c.requires.step.column a.from.now a.members.now a.held c.requires.lists _ c.lead.ensures.0 c.if-c-k.true, c.lead.ensures.1.is)
+
+pub returns : goal.returns
+returns c =
+    let a = c.args in
+    let blank = erase_clear a.s a.a.now a.b.now c.requires.step.fits c.requires.op_value (length a.row.now) _ c.requires.step.long c.clear.ensures in
+    (erase_mark a.s a.a.now a.b.now c.requires.step.fits c.requires.op_value a.c c.requires.step.column a.from.now _ blank (omega arith), sym (ap (row_sum 0) blank ∙ sum_none 0 a.s.na))

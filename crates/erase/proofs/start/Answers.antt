@@ -1,0 +1,19 @@
+-- `start` of an erase meets its contract.
+use mathlib.Core.Path.{◌∙◌}
+use native.Mathlib.Omega.{arith}
+use lib.ListN.{length}
+use borrow.Author.Rules.{rules}
+use Rattle.rows.proofs.SumLaws.{summed_none}
+use Rattle.sets.proofs.EraseLaws.{erase_width, erase_closes, erase_clear, erase_start}
+use Rattle.erase.proofs.start.Goals as goal
+
+pub chase-requires : goal.chase-requires
+chase-requires c =
+    let a = c.args in
+    record { closes = erase_closes a.s a.a.now a.b.now c.requires.fits c.requires.op_value c.clear.new.0 (c.clear.auto.row ∙ c.requires.row_len); p_lt_n = c.requires.fits.left.some; summed = summed_none 0 (length a.row.now) _ c.clear.ensures (omega (arith, c.requires.row_len, erase_width a.s a.a.now a.b.now c.requires.fits c.requires.op_value, c.requires.fits.left_small)); }
+
+pub returns : goal.returns
+returns c =
+    let a = c.args in
+    let blank = erase_clear a.s a.a.now a.b.now c.requires.fits c.requires.op_value (length a.row.now) _ c.requires.row_len c.clear.ensures in
+    (erase_start a.s a.a.now a.b.now c.requires.fits c.requires.op_value _ _ blank c.chase.ensures.0, c.chase.ensures.1.is)

@@ -1,0 +1,136 @@
+-- `explore` meets its contract: the transitions are laid out one by one, then the flags.
+use mathlib.Core.Path.{◌≡◌, refl, sym, ◌∙◌}
+use Prim.Native.Nat.{◌*◌, ◌-◌, ◌<◌}
+use native.Mathlib.Omega.{arith}
+use lib.ListN.{length}
+use borrow.Author.Rules.{rules}
+use Rattle.rows.specs.Rows.{row_at}
+use Rattle.rows.proofs.SumLaws.{hash_is}
+use Rattle.sets.specs.Fits.{Listed}
+use Rattle.sets.specs.Operations.{operation_of}
+use Rattle.explore.proofs.ExploreLaws.{Running, first_room, run_start_lem, run_turning, run_source, listing_kept, run_below, run_less, run_on_lem, run_wrap, run_many, run_flagging, run_done}
+use Rattle.explore.proofs.explore.Goals as goal
+
+pub twins-requires : goal.twins-requires
+twins-requires c =
+    record { fits = c.requires.explores.fits; table_value = refl; }
+
+pub start_row-sum-requires : goal.start_row-sum-requires
+start_row-sum-requires c =
+    record { fits = c.requires.explores.fits; row_len = c.requires.explores.room.row_long; }
+
+pub append-requires : goal.append-requires
+append-requires c =
+    record { row_len = c.start_row-sum.auto.row ∙ c.requires.explores.room.row_long; w_in_bounds = first_room c.requires.explores.room; }
+
+pub chain-requires : goal.chain-requires
+chain-requires c =
+    record { count_in_bounds = (omega (arith, c.requires.explores.room.some, c.requires.explores.room.table_long), omega arith); h_bound = (c.hash-h.ensures.1, refl); }
+
+pub loop-state-init : goal.loop-state-init
+loop-state-init c =
+    let a = c.args in
+    let h = hash_is _ c.start_row-sum.result _ c.start_row-sum.ensures.1 c.hash-h.ensures.0 in (
+      run_start_lem a.s a.a.now a.b.now a.rows.now a.row.now a.table.now _ _ _ _ c.hash-h.result c.requires.explores c.start_row-sum.ensures.0 c.start_row-sum.auto.row c.append.ensures c.append.auto.rows h c.hash-h.ensures.1 c.chain.ensures.0 c.chain.ensures.1,
+      refl,
+      refl,
+      refl,
+      refl,
+      λ h. absurd (omega arith),
+    )
+
+pub list-held-requires : goal.list-held-requires
+list-held-requires c =
+    let a = c.args in
+    let l = c.loop-state in
+    record { w_value = c.requires.explores.fits.width; w_in_bounds = run_source a.s a.a.now a.b.now l.rows l.row l.table l.heads l.count l.state l.column l.q l.invariant.0 c.loop-state-test.true; listing = listing_kept c.requires.listing l.members l.invariant.4; listed = l.invariant.5; }
+
+pub twin-twin-requires : goal.twin-twin-requires
+twin-twin-requires c =
+    c.twins.ensures.small
+
+pub advance-requires : goal.advance-requires
+advance-requires c =
+    let a = c.args in
+    let l = c.loop-state in
+    record { turning = run_turning a.s a.a.now a.b.now l.rows l.row l.table l.heads l.count l.state l.column l.q l.invariant.0 c.loop-state-test.true; listed = c.list-held.ensures; twins = λ h. let t = c.twin-twin.ensures h in rw (sym t.1) at (c.twins.ensures.twin l.column t.0 (rw t.1 at h)); }
+
+pub shape_of-rows-in_default : goal.shape_of-rows-in_default
+shape_of-rows-in_default c =
+    c.advance.auto.rows ∙ c.loop-state.invariant.1 ∙ c.append.auto.rows
+
+pub shape_of-row-in_default : goal.shape_of-row-in_default
+shape_of-row-in_default c =
+    c.advance.auto.row ∙ c.loop-state.invariant.2 ∙ c.start_row-sum.auto.row
+
+pub shape_of-members-in_default : goal.shape_of-members-in_default
+shape_of-members-in_default c =
+    c.list-held.auto.members ∙ c.loop-state.invariant.4
+
+pub shape_of-table-in_default : goal.shape_of-table-in_default
+shape_of-table-in_default c =
+    c.advance.auto.table ∙ c.loop-state.invariant.3 ∙ c.chain.auto.links
+
+pub returns-in_default : goal.returns-in_default
+returns-in_default c =
+    let a = c.args in let l = c.loop-state in run_many a.s a.a.now a.b.now l.rows l.row l.table l.heads l.count l.state l.column l.q l.invariant.0 c.loop-state-test.true c.advance.new.1.1.1.0 c.advance.new.1.1.1.1.0 c.advance.new.1.1.1.1.1.0 c.advance.new.1.1.1.1.1.1.0 c.advance.auto.rows c.advance.auto.row c.advance.auto.table c.advance.result c.advance.ensures.0 c.in_default.is
+
+pub overflow_add-state : goal.overflow_add-state
+overflow_add-state c =
+    let i = c.loop-state.invariant.0 in omega (arith, i.state, i.partial.within, i.room.small)
+
+pub loop-state-smaller-then-column-k : goal.loop-state-smaller-then-column-k
+loop-state-smaller-then-column-k c =
+    let a = c.args in let l = c.loop-state in run_less a.s a.a.now a.b.now l.rows l.row l.table l.heads l.count l.state l.column l.q l.invariant.0 c.loop-state-test.true
+
+pub loop-state-preserved-then-column-k : goal.loop-state-preserved-then-column-k
+loop-state-preserved-then-column-k c =
+    let a = c.args in
+    let l = c.loop-state in (
+      run_wrap a.s a.a.now a.b.now l.rows l.row l.table l.heads l.count l.state l.column l.q l.invariant.0 c.loop-state-test.true c.advance.new.1.1.1.0 c.advance.new.1.1.1.1.0 c.advance.new.1.1.1.1.1.0 c.advance.new.1.1.1.1.1.1.0 c.advance.auto.rows c.advance.auto.row c.advance.auto.table c.advance.result c.advance.ensures.0 _ c.in-Sets.is c.if-column-k.true,
+      ◌∙◌ {b = length l.rows} c.advance.auto.rows l.invariant.1,
+      ◌∙◌ {b = length l.row} c.advance.auto.row l.invariant.2,
+      ◌∙◌ {b = length l.table} c.advance.auto.table l.invariant.3,
+      ◌∙◌ {b = length l.members} c.list-held.auto.members l.invariant.4,
+      λ h. absurd (omega arith),
+    )
+
+pub loop-state-smaller : goal.loop-state-smaller
+loop-state-smaller c =
+    let a = c.args in let l = c.loop-state in run_less a.s a.a.now a.b.now l.rows l.row l.table l.heads l.count l.state l.column l.q l.invariant.0 c.loop-state-test.true
+
+pub loop-state-preserved : goal.loop-state-preserved
+loop-state-preserved c =
+    let a = c.args in
+    let l = c.loop-state in (
+      run_on_lem a.s a.a.now a.b.now l.rows l.row l.table l.heads l.count l.state l.column l.q l.invariant.0 c.loop-state-test.true c.advance.new.1.1.1.0 c.advance.new.1.1.1.1.0 c.advance.new.1.1.1.1.1.0 c.advance.new.1.1.1.1.1.1.0 c.advance.auto.rows c.advance.auto.row c.advance.auto.table c.advance.result c.advance.ensures.0 _ c.in-Sets.is c.if-column-k.false,
+      ◌∙◌ {b = length l.rows} c.advance.auto.rows l.invariant.1,
+      ◌∙◌ {b = length l.row} c.advance.auto.row l.invariant.2,
+      ◌∙◌ {b = length l.table} c.advance.auto.table l.invariant.3,
+      ◌∙◌ {b = length l.members} c.list-held.auto.members l.invariant.4,
+      λ h. rw c.advance.ensures.1 c.list-held.ensures,
+    )
+
+pub flag_rows-requires : goal.flag_rows-requires
+flag_rows-requires c =
+    let a = c.args in let l = c.loop-state in run_flagging a.s a.a.now a.b.now l.rows l.row l.table l.heads l.count l.state l.column l.q l.invariant.0 c.loop-state-test.false
+
+pub shape_of-rows : goal.shape_of-rows
+shape_of-rows c =
+    c.loop-state.invariant.1 ∙ c.append.auto.rows
+
+pub shape_of-row : goal.shape_of-row
+shape_of-row c =
+    c.loop-state.invariant.2 ∙ c.start_row-sum.auto.row
+
+pub shape_of-members : goal.shape_of-members
+shape_of-members c =
+    c.loop-state.invariant.4
+
+pub shape_of-table : goal.shape_of-table
+shape_of-table c =
+    c.flag_rows.auto.table ∙ c.loop-state.invariant.3 ∙ c.chain.auto.links
+
+pub returns : goal.returns
+returns c =
+    let a = c.args in let l = c.loop-state in run_done a.s a.a.now a.b.now l.rows l.row l.table l.heads l.count l.state l.column l.q l.invariant.0 c.loop-state-test.false _ c.flag_rows.auto.table c.flag_rows.ensures

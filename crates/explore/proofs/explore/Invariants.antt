@@ -1,0 +1,20 @@
+-- `explore` meets its contract: the transitions are laid out one by one, then the flags.
+use mathlib.Core.Path.{◌≡◌, refl, sym, ◌∙◌}
+use Prim.Native.Nat.{◌*◌, ◌-◌, ◌<◌}
+use native.Mathlib.Omega.{arith}
+use lib.ListN.{length}
+use borrow.Author.Rules.{rules}
+use Rattle.rows.specs.Rows.{row_at}
+use Rattle.rows.proofs.SumLaws.{hash_is}
+use Rattle.sets.specs.Fits.{Listed}
+use Rattle.sets.specs.Operations.{operation_of}
+use Rattle.explore.proofs.ExploreLaws.{Running, first_room, run_start_lem, run_turning, run_source, listing_kept, run_below, run_less, run_on_lem, run_wrap, run_many, run_flagging, run_done}
+use Rattle.explore.proofs.explore.Given as goal
+
+abbrev pub invariant-loop-state : goal.invariant-loop-state
+invariant-loop-state l =
+    Running l.s l.a l.b l.rows l.row l.table l.heads l.count l.state l.column l.q × (length l.rows ≡ length l.initial.rows) × (length l.row ≡ length l.initial.row) × (length l.table ≡ length l.initial.table) × (length l.members ≡ length l.initial.members) × (0 < l.column → Listed (operation_of l.s.op) l.s.na l.s.nb (row_at l.s.w l.state l.rows) l.held l.members)
+
+abbrev pub decreases-loop-state : goal.decreases-loop-state
+decreases-loop-state l =
+    l.s.limit * l.s.k - l.q

@@ -1,0 +1,27 @@
+-- `gather_long` meets its contract: the members before q are listed; what stands behind them is free.
+use mathlib.Core.Logic.{⊎_elim}
+use mathlib.Core.Path.{◌≡◌, refl, ◌∙◌}
+use Prim.Native.Nat.{◌-◌, ◌≤◌}
+use native.Mathlib.Omega.{arith}
+use lib.ListN.{length, length-set}
+use borrow.Author.Rules.{rules}
+use Rattle.rows.specs.Rows.{flag_at}
+use Rattle.flags.specs.Members.{Lists}
+use Rattle.flags.proofs.FlagLaws.{flag_set, flag_clear}
+use Rattle.flags.proofs.MemberLaws.{lists_none, lists_out, lists_in, lists_keep}
+use Rattle.flags.proofs.bits.gather_long.Goals as goal
+
+pub loop-q-init : goal.loop-q-init
+loop-q-init c =
+    (omega arith, omega arith, lists_none _ c.args.members.now, refl)
+
+pub loop-q-preserved : goal.loop-q-preserved
+loop-q-preserved c =
+    ⊎_elim
+    (λ w. (omega arith, omega (arith, w.1), rw w.1 (lists_in c.loop-q.invariant.2 (flag_set c.args.from.now c.loop-q.q w.0.taken) (omega (arith, c.requires.1))), length-set c.loop-q.members c.loop-q.count c.loop-q.q ∙ c.loop-q.invariant.3))
+    (λ w. (omega arith, omega (arith, w.1), rw w.1 (lists_keep c.loop-q.q (lists_out c.loop-q.invariant.2 (flag_clear c.args.from.now c.loop-q.q w.0.left))), length-set c.loop-q.members c.loop-q.count c.loop-q.q ∙ c.loop-q.invariant.3))
+    c.if-from-q-ne0.branch
+
+pub returns : goal.returns
+returns c =
+    let e : c.loop-q.q ≡ c.args.n = omega arith in rw e at c.loop-q.invariant.2

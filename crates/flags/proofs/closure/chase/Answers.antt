@@ -1,0 +1,33 @@
+-- `chase` meets its contract: each turn sets one flag more.
+use Prim.Native.Nat.{◌-◌, ◌<◌}
+use native.Mathlib.Omega.{arith}
+use borrow.Author.Rules.{rules}
+use Rattle.rows.specs.Sums.{Summed}
+use Rattle.flags.specs.Closure.{unset}
+use Rattle.flags.specs.Flags.{cell}
+use Rattle.flags.proofs.ClosureLaws.{unset_less, Chasing, chase_start, chase_more, chase_end}
+use Rattle.flags.proofs.FlagLaws.{flag_set}
+use Rattle.flags.proofs.TableLaws.{cell_in}
+use Rattle.flags.proofs.closure.chase.Goals as goal
+
+pub loop-row-init : goal.loop-row-init
+loop-row-init c =
+    let a = c.args in (chase_start (cell a.base a.k (a.k - 1) a.t.now) a.n a.p a.row.now c.requires.closes.long c.requires.p_lt_n, c.requires.summed)
+
+pub step-q-requires : goal.step-q-requires
+step-q-requires c =
+    cell_in c.args.base c.args.n c.args.k c.args.t.now c.requires.closes.table c.loop-row.q (c.args.k - 1) c.loop-row.invariant.0.within (omega (arith, c.requires.closes.columns))
+
+pub loop-row-smaller : goal.loop-row-smaller
+loop-row-smaller c =
+    rw c.flag-all.ensures.0 (unset_less c.loop-row.row c.loop-row.q (omega (arith, c.loop-row.invariant.0.long, c.loop-row.invariant.0.within)) c.loop-row-test.true)
+
+pub loop-row-preserved : goal.loop-row-preserved
+loop-row-preserved c =
+    let a = c.args in
+    let h : c.step-q.result < a.n = rw c.step-q.ensures (c.requires.closes.table.inside c.loop-row.q (a.k - 1) c.loop-row.invariant.0.within (omega (arith, c.requires.closes.columns))) in
+    (rw c.flag-all.ensures.0 (chase_more c.loop-row.invariant.0 c.step-q.result c.step-q.ensures h), c.flag-all.ensures.1)
+
+pub returns : goal.returns
+returns c =
+    (chase_end c.loop-row.invariant.0 (flag_set c.loop-row.row c.loop-row.q c.loop-row-test.false), c.loop-row.invariant.1)

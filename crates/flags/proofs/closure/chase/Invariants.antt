@@ -1,0 +1,19 @@
+-- `chase` meets its contract: each turn sets one flag more.
+use Prim.Native.Nat.{◌-◌, ◌<◌}
+use native.Mathlib.Omega.{arith}
+use borrow.Author.Rules.{rules}
+use Rattle.rows.specs.Sums.{Summed}
+use Rattle.flags.specs.Closure.{unset}
+use Rattle.flags.specs.Flags.{cell}
+use Rattle.flags.proofs.ClosureLaws.{unset_less, Chasing, chase_start, chase_more, chase_end}
+use Rattle.flags.proofs.FlagLaws.{flag_set}
+use Rattle.flags.proofs.TableLaws.{cell_in}
+use Rattle.flags.proofs.closure.chase.Given as goal
+
+abbrev pub invariant-loop-row : goal.invariant-loop-row
+invariant-loop-row l =
+    Chasing (cell l.base l.k (l.k - 1) l.t) l.n l.p l.initial.row l.row l.q × Summed 0 l.row l.all
+
+abbrev pub decreases-loop-row : goal.decreases-loop-row
+decreases-loop-row l =
+    unset l.row

@@ -1,0 +1,15 @@
+-- `accepting` meets its contract.
+use Prim.Native.Nat.{◌≤◌, ◌-◌}
+use native.Mathlib.Omega.{arith}
+use lib.ListN.{length}
+use borrow.Author.Rules.{rules}
+use Rattle.live.proofs.LiveLaws.{FlagsUpto, flags_start, flags_next, flags_done}
+use Rattle.live.proofs.accepting.Given as goal
+
+abbrev pub invariant-loop-p : goal.invariant-loop-p
+invariant-loop-p l =
+    (l.p ≤ length l.marks) × FlagsUpto 120 l.marks l.flags l.p
+
+abbrev pub decreases-loop-p : goal.decreases-loop-p
+decreases-loop-p l =
+    length l.marks - l.p

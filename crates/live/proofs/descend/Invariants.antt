@@ -1,0 +1,18 @@
+-- `descend` meets its contract: the states from p on are visited.
+use mathlib.Core.Path.{◌≡◌}
+use Prim.Native.Nat.{◌*◌, ◌≤◌}
+use native.Mathlib.Nat.{le_refl}
+use native.Mathlib.Omega.{arith}
+use lib.ListN.{length}
+use borrow.Author.Rules.{rules}
+use Rattle.moves.specs.TableLaws.{row_back, row_room_back, below_most}
+use Rattle.live.proofs.LiveLaws.{SweepUpto, sweep_start, sweep_same, sweep_new, sweep_done, one_below}
+use Rattle.live.proofs.descend.Given as goal
+
+abbrev pub invariant-loop-p : goal.invariant-loop-p
+invariant-loop-p l =
+    (l.p ≤ length l.marks) × (l.at ≡ l.p * l.m) × SweepUpto 120 l.m l.marks l.moves l.initial.flags l.flags l.p (length l.marks) l.changed
+
+abbrev pub decreases-loop-p : goal.decreases-loop-p
+decreases-loop-p l =
+    l.p

@@ -1,0 +1,21 @@
+-- `arrive` meets its contract.
+use mathlib.Core.Path.{sym, ◌∙◌}
+use mathlib.Core.Logic.{⊎_elim}
+use native.Mathlib.Omega.{arith}
+use borrow.Author.Rules.{rules}
+use Rattle.numbering.proofs.ArrivalLaws.{arrive_old, arrive_new, arrive_room}
+use Rattle.numbering.proofs.arrive.Goals as goal
+
+pub returns-then-wide-s : goal.returns-then-wide-s
+returns-then-wide-s c =
+    arrive_old c.requires.roll _ _ c.if-x-count.true (sym c.wide.ensures ∙ c.if-wide-s.true)
+
+pub bounds-order-count : goal.bounds-order-count
+bounds-order-count c =
+    arrive_room c.requires.roll _ _ c.requires.s_bound c.wide-x.ensures
+    (λ h e. ⊎_elim (λ w. w.3.left (w.2.ensures ∙ e)) (λ w. absurd (omega (arith, w.left))) c.if-x-count.branch)
+
+pub returns : goal.returns
+returns c =
+    arrive_new c.requires.roll _ _ c.requires.s_bound c.wide-x.ensures
+    (λ h e. ⊎_elim (λ w. w.3.left (w.2.ensures ∙ e)) (λ w. absurd (omega (arith, w.left))) c.if-x-count.branch)

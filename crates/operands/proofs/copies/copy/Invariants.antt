@@ -1,0 +1,17 @@
+-- `operands::copies::copy` meets its contract. The loop's invariant: the length is that of the slot's machine, and the bytes before i are copied.
+use borrow.Author.Rules.{rules}
+use mathlib.Core.Path.{◌≡◌, refl}
+use Prim.Native.Nat.{◌+◌, ◌-◌, ◌≤◌}
+use native.Mathlib.Omega.{arith}
+use lib.ListN.{length, get_or, drop}
+use Rattle.slots.specs.Slot.{Written, written_none, written_more}
+use Rattle.operands.specs.Stack.{fills, counted}
+use Rattle.operands.proofs.copies.copy.Given as goal
+
+abbrev pub invariant-loop-i : goal.invariant-loop-i
+invariant-loop-i l =
+    (l.i ≤ l.len) × (l.len ≡ fills l.most l.k (drop l.from l.src)) × (l.from + l.len ≤ length l.src) × (l.to + l.len ≤ length l.initial.dst) × Written l.initial.dst l.dst l.to l.i (λ j. get_or l.src (l.from + j) 0)
+
+abbrev pub decreases-loop-i : goal.decreases-loop-i
+decreases-loop-i l =
+    l.len - l.i

@@ -1,0 +1,7 @@
+-- `operations::apply::told` meets its contract.
+use borrow.Author.Rules.{rules}
+use Rattle.operations.proofs.apply.told.Goals as goal
+
+pub returns-in-Made : goal.returns-in-Made
+returns-in-Made c =
+    rw c.in-Made.is

@@ -1,0 +1,17 @@
+-- `passes` meets its contract. The measure: each pass but the last leaves more classes, and a pass has at most 26 columns.
+use mathlib.Core.Path.{◌≡◌}
+use Prim.Native.Nat.{◌+◌, ◌*◌, ◌≤◌, ◌-◌}
+use native.Mathlib.Nat.{le_refl}
+use native.Mathlib.Omega.{arith}
+use lib.ListN.{length}
+use borrow.Author.Rules.{rules}
+use Rattle.partition.proofs.ReducedLaws.{ClassesUpto, upto_start, columns_of, refined_low, refined_grows, classes_on, classes_stay, classes_again, stretch_alone, stretch_settled, stretch_late}
+use Rattle.partition.proofs.equivalence.passes.Given as goal
+
+abbrev pub invariant-loop-count : goal.invariant-loop-count
+invariant-loop-count l =
+    (l.n ≡ length l.marks) × (l.c ≤ l.m) × (l.begun ≤ l.before) × ClassesUpto l.m l.marks l.moves l.classes l.count l.before l.c × (length l.keys ≡ 120)
+
+abbrev pub decreases-loop-count : goal.decreases-loop-count
+decreases-loop-count l =
+    (l.n - l.before) * 27 + (l.n - l.count) + (l.m - l.c)

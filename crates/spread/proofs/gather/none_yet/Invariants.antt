@@ -1,0 +1,18 @@
+-- `none_yet` meets its contract: the entries below i are 0.
+use borrow.Author.Rules.{rules}
+use mathlib.Core.Path.{◌≡◌, refl, ◌∙◌}
+use Prim.Native.Nat.{ℕ, ◌+◌, ◌-◌, ◌≤◌, ◌<◌}
+use native.Mathlib.Omega.{arith}
+use native.Mathlib.Nat.{not-suc-le-zero}
+use lib.ListN.{length, get_or}
+use Rattle.spread.specs.Gather.{first_of}
+use Rattle.spread.proofs.SpreadLaws.{cleared_same, cleared_more}
+use Rattle.spread.proofs.gather.none_yet.Given as goal
+
+abbrev pub invariant-loop-i : goal.invariant-loop-i
+invariant-loop-i l =
+    (l.i ≤ l.n) × (length l.work ≡ length l.initial.work) × ((q : ℕ) → q < l.n + l.n → get_or l.work q 0 ≡ get_or l.initial.work q 0) × ((d : ℕ) → d < l.i → first_of l.n l.work d ≡ 0)
+
+abbrev pub decreases-loop-i : goal.decreases-loop-i
+decreases-loop-i l =
+    l.n - l.i

@@ -1,0 +1,15 @@
+-- `nearest` meets its contract.
+use Prim.Native.Nat.{◌+◌, ◌≤◌, ◌-◌}
+use native.Mathlib.Omega.{arith}
+use borrow.Author.Rules.{rules}
+use Rattle.sweeps.specs.Change.{Nearest}
+use Rattle.sweeps.proofs.ChangeLaws.{near_start, near_next, near_done}
+use Rattle.sweeps.proofs.nearest.Given as goal
+
+abbrev pub invariant-loop-i : goal.invariant-loop-i
+invariant-loop-i l =
+    (l.i ≤ l.m) × Nearest l.moves l.at l.i l.side l.keys l.far l.best
+
+abbrev pub decreases-loop-i : goal.decreases-loop-i
+decreases-loop-i l =
+    l.m - l.i
