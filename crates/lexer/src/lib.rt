@@ -1,5 +1,8 @@
 // The kinds of a book's bytes, and a cursor by value over a line's bytes: it skips spaces, gives one token and hands itself back past it.
 // These are parts: callers lend the table of kinds, as `table` lays it out.
+
+#![tactic(auto)]
+
 pub mod kinds;
 
 ghost use Rattle.lexer.specs.Kinds.{Kinds};

@@ -1,5 +1,4 @@
 -- `lexer::Cursor::skip` meets its contract: the token begins where the spaces end.
-use borrow.Author.Rules.{rules}
 use Rattle.lexer.proofs.Cursor.skip.Goals as goal
 
 pub returns : goal.returns

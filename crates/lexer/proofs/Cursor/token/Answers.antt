@@ -1,11 +1,7 @@
 -- `lexer::Cursor::token` meets its contract: as the loop passes spaces, the tokens left stay the same; where it ends, a token stands, or the bytes end.
-use mathlib.Core.Path.{◌≡◌, refl, ◌∙◌}
-use Prim.Native.Nat.{◌≤◌, ◌-◌}
+use mathlib.Core.Path.{refl, ◌∙◌}
 use native.Mathlib.Omega.{arith}
-use borrow.Author.Rules.{rules}
-use lib.ListN.{length, drop}
 use Rattle.book.specs.Kind.{sign_only}
-use Rattle.book.specs.Text.{tokens}
 use Rattle.lexer.specs.Token.{Past}
 use Rattle.lexer.proofs.TokenLaws.{tokens_space, past_token, past_end, lexed_token, lexed_end}
 use Rattle.lexer.proofs.Cursor.token.Goals as goal

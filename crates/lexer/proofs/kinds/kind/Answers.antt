@@ -1,6 +1,5 @@
 -- `lexer::kinds::kind` meets its contract: the table's rule at a byte below 0x80, and the law of the bytes from there on.
 use mathlib.Core.Path.{sym}
-use borrow.Author.Rules.{rules}
 use Rattle.book.specs.Kind.{kind_high}
 use Rattle.lexer.proofs.kinds.kind.Goals as goal
 
