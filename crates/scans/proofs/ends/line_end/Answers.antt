@@ -1,11 +1,8 @@
 -- `scans::ends::line_end` meets its contract: no byte passed is a line end.
 use mathlib.Core.Path.{refl, ap}
-use Prim.Native.Nat.{◌-◌, ◌≤◌}
 use native.Mathlib.Omega.{arith}
-use borrow.Author.Rules.{rules}
-use lib.ListN.{length}
 use Rattle.book.specs.Kind.{kind_of, sign_only}
-use Rattle.scans.proofs.LineLaws.{Plain, plain_next, ends_at}
+use Rattle.scans.proofs.LineLaws.{plain_next, ends_at}
 use Rattle.scans.proofs.ends.line_end.Goals as goal
 
 pub returns-then-text-i-eq10 : goal.returns-then-text-i-eq10

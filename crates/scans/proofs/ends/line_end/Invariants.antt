@@ -1,11 +1,7 @@
 -- `scans::ends::line_end` meets its contract: no byte passed is a line end.
-use mathlib.Core.Path.{refl, ap}
 use Prim.Native.Nat.{◌-◌, ◌≤◌}
-use native.Mathlib.Omega.{arith}
-use borrow.Author.Rules.{rules}
 use lib.ListN.{length}
-use Rattle.book.specs.Kind.{kind_of, sign_only}
-use Rattle.scans.proofs.LineLaws.{Plain, plain_next, ends_at}
+use Rattle.scans.proofs.LineLaws.{Plain}
 use Rattle.scans.proofs.ends.line_end.Given as goal
 
 abbrev pub invariant-loop-i : goal.invariant-loop-i

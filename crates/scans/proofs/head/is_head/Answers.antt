@@ -1,7 +1,6 @@
 -- `scans::head::is_head` meets its contract: each answer is one test of line 1.
 use mathlib.Core.Path.{sym, ◌∙◌}
 use Rattle.scans.proofs.LineLaws.{head_none, head_sign, head_short, head_long, head_rises}
-use borrow.Author.Rules.{rules}
 use Rattle.scans.proofs.head.is_head.Goals as goal
 
 pub returns-then-line-lt1 : goal.returns-then-line-lt1

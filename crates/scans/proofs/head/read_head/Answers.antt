@@ -1,7 +1,6 @@
 -- `scans::head::read_head` meets its contract: the tests of the line, then those of line 1.
 use mathlib.Core.Path.{sym, ◌∙◌}
 use Rattle.scans.proofs.LineLaws.{head_tested, head_letters, head_malformed, head_length}
-use borrow.Author.Rules.{rules}
 use Rattle.scans.proofs.head.read_head.Goals as goal
 
 pub returns-then-n-ne0 : goal.returns-then-n-ne0

@@ -1,9 +1,5 @@
 -- `scans::head::rises` meets its contract: what is left rises above the last letter exactly when the whole rises.
-use mathlib.Core.Path.{◌≡◌, sym, ◌∙◌}
-use Prim.Native.Nat.{◌-◌}
-use borrow.Author.Rules.{rules}
-use lib.ListN.{length, drop}
-use Rattle.book.specs.Text.{rising}
+use mathlib.Core.Path.{sym, ◌∙◌}
 use Rattle.scans.proofs.LineLaws.{rises_not, rises_low, rises_on, rises_end}
 use Rattle.scans.proofs.head.rises.Goals as goal
 

@@ -1,10 +1,8 @@
 -- `scans::head::rises` meets its contract: what is left rises above the last letter exactly when the whole rises.
-use mathlib.Core.Path.{◌≡◌, sym, ◌∙◌}
+use mathlib.Core.Path.{◌≡◌}
 use Prim.Native.Nat.{◌-◌}
-use borrow.Author.Rules.{rules}
 use lib.ListN.{length, drop}
 use Rattle.book.specs.Text.{rising}
-use Rattle.scans.proofs.LineLaws.{rises_not, rises_low, rises_on, rises_end}
 use Rattle.scans.proofs.head.rises.Given as goal
 
 abbrev pub invariant-loop-i : goal.invariant-loop-i

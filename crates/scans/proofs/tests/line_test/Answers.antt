@@ -1,12 +1,9 @@
 -- `scans::tests::line_test` meets its contract: along the line, what is left decides as the whole; each answer is one test.
 use mathlib.Core.Path.{refl, sym, ap, ◌∙◌}
-use Prim.Native.Nat.{◌-◌}
 use native.Mathlib.Omega.{arith}
-use borrow.Author.Rules.{rules}
-use lib.ListN.{length}
 use Rattle.automata.specs.Booleans.{choose}
 use Rattle.book.specs.Kind.{kind_of, sign_only}
-use Rattle.scans.proofs.LineLaws.{Along, along_start, along_over, along_open, along_close, along_gap, along_other, shallow, gaps_all, test_deep, test_contexts, test_end}
+use Rattle.scans.proofs.LineLaws.{along_start, along_over, along_open, along_close, along_gap, along_other, shallow, gaps_all, test_deep, test_contexts, test_end}
 use Rattle.scans.proofs.tests.line_test.Goals as goal
 
 pub loop-i-init : goal.loop-i-init
