@@ -1,5 +1,7 @@
 // The parts of a card's bytes: the counts of its contents, and its letters, marks and moves. No judgement but that of the contents. These are parts: but
 // for `contents` and `column`, callers give cards whose contents are right.
+#![tactic(auto)]
+
 ghost use Rattle.std.specs.Prelude.{◌≡◌, ◌+◌, ◌≤◌, length};
 ghost use Rattle.automata.specs.Format.{narrow};
 ghost use Rattle.card.specs.Number.{number_at};

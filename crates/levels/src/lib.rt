@@ -1,6 +1,8 @@
 // How far a state is from acceptance: the fewest letters of a word that is accepted from it. Breadth-first search: each state that is reached gets a level, the
 // letters that lead to it, and a place in the order, and the first state in this order with a move to an accepting one ends the search. It looks at each move
 // twice at most, with four bytes a state. Parts for the board: they have requires, and are no entries.
+#![tactic(auto)]
+
 ghost use Rattle.std.specs.Prelude.{◌≡◌, ◌≢◌, ℕ, ◌+◌, ◌<◌, ◌≤◌, length, get_or};
 ghost use Rattle.moves.specs.Holds.{Table};
 ghost use Rattle.levels.specs.Levels.{most_levels, Accepts, Front, Reached, Spread, Unseen, DistanceExactly, DistancesExactly};

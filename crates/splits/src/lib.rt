@@ -1,5 +1,7 @@
 // Classes of states in an array, each named by its least state, split by keys: a class is split by linking the classes that it falls into, least states first,
 // without a table of pairs. A split costs n steps and the links followed. Parts for the partition: they have requires, and are no entries.
+#![tactic(auto)]
+
 ghost use Rattle.std.specs.Prelude.{◌≡◌, ◌≤◌, ◌<◌, length};
 ghost use Rattle.moves.specs.Holds.{AcceptKeys};
 ghost use Rattle.splits.specs.Splits.{Links, Found, Named, Split, Columns, ColumnKeys, Refined};

@@ -17,4 +17,4 @@ slice_bounds-search-end-2 c =
 pub search-requires : goal.search-requires
 search-requires c =
     let p = c.requires in
-    record { table = (table_more 120 most_levels _ _ _ (omega arith) p.0, p.1, p.2); unseen = (unseen _ 120 p.0.states_most, blank _ 120 p.0.states_most); }
+    record { table = (table_more 120 most_levels _ _ _ (omega arith) p.0, p.1, p.2); unseen = (unseen _ 120 p.0.states_most, blank _ 120 p.0.states_most) }

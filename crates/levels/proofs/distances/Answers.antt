@@ -1,12 +1,12 @@
 -- `distances` meets its contract: the states below p have their numbers.
 use mathlib.Core.Path.{refl}
-use mathlib.Core.Logic.{⊎_elim}
 use Prim.Native.Nat.{◌≤◌, ◌-◌}
 use native.Mathlib.Omega.{arith}
 use lib.ListN.{length}
 use borrow.Author.Rules.{rules}
 use Rattle.levels.proofs.LevelsLaws.{DistancesTo, numbers_start, numbers_other, numbers_set, numbers_done}
 use Rattle.levels.proofs.distances.Goals as goal
+use Rattle.levels.proofs.distances.Goals.{then-marks-p-eq-UNFINISHED, else-marks-p-eq-UNFINISHED}
 
 pub loop-p-init : goal.loop-p-init
 loop-p-init c =
@@ -32,10 +32,12 @@ pub loop-p-preserved : goal.loop-p-preserved
 loop-p-preserved c =
     let u = c.loop-p.invariant.1 in (
       omega arith,
-      ⊎_elim
-          (λ w. rw w.2 (numbers_set _ _ _ _ _ _ (omega (arith, c.requires.states_most)) w.1.ensures u))
-          (λ w. rw w.1 (numbers_other _ _ _ _ _ w.0.left u))
-          c.if-marks-p-eq-UNFINISHED.branch,
+      elim c.if-marks-p-eq-UNFINISHED.branch [
+        | then-marks-p-eq-UNFINISHED w ↦
+            rw w.all-is (numbers_set _ _ _ _ _ _ (omega (arith, c.requires.states_most)) w.distance-d.ensures u)
+        | else-marks-p-eq-UNFINISHED w ↦
+            rw w.all-is (numbers_other _ _ _ _ _ w.if-marks-p-eq-UNFINISHED.false u)
+      ],
     )
 
 pub returns : goal.returns

@@ -60,7 +60,7 @@ overflow_add-letters c =
 pub accepts-requires : goal.accepts-requires
 accepts-requires c =
     let S = c.loop-i.invariant.1 in
-    record { m_in_bounds = row_room _ _ _ _ c.requires.table.0 _ _ refl (head_inside _ _ _ c.requires.table.0 _ _ _ _ _ S c.loop-i-test.true); by_index = c.requires.table.0.inside; }
+    record { m_in_bounds = row_room _ _ _ _ c.requires.table.0 _ _ refl (head_inside _ _ _ c.requires.table.0 _ _ _ _ _ S c.loop-i-test.true); by_index = c.requires.table.0.inside }
 
 pub overflow_cast-result : goal.overflow_cast-result
 overflow_cast-result c =
@@ -82,7 +82,7 @@ returns-then-accepts c =
 pub spread-count-requires : goal.spread-count-requires
 spread-count-requires c =
     let S = c.loop-i.invariant.1 in
-    let x = c.loop-i-test.true in record { m_in_bounds = (row_room _ _ _ _ c.requires.table.0 _ _ refl (head_inside _ _ _ c.requires.table.0 _ _ _ _ _ S x), rw S.order.levels (head_front _ _ _ c.requires.table.0 _ _ _ _ _ S x)); by_index = λ q h. omega (arith, c.requires.table.0.inside q h, S.order.levels); }
+    let x = c.loop-i-test.true in record { m_in_bounds = (row_room _ _ _ _ c.requires.table.0 _ _ refl (head_inside _ _ _ c.requires.table.0 _ _ _ _ _ S x), rw S.order.levels (head_front _ _ _ c.requires.table.0 _ _ _ _ _ S x)); by_index = λ q h. omega (arith, c.requires.table.0.inside q h, S.order.levels) }
 
 pub overflow_add-i : goal.overflow_add-i
 overflow_add-i c =

@@ -25,7 +25,7 @@ loop-p-preserved-then-start-q c =
 
 pub find-found-requires : goal.find-found-requires
 find-found-requires c =
-    record { links = split_links 120 _ _ _ _ _ _ _ c.requires.0 c.requires.2 c.loop-p-test.true c.loop-p.invariant.1; start_le_n = (omega (arith, c.requires.2.low c.loop-p.p c.loop-p-test.true, c.loop-p.invariant.1.rest c.loop-p.p (le_refl c.loop-p.p)), omega arith); }
+    record { links = split_links 120 _ _ _ _ _ _ _ c.requires.0 c.requires.2 c.loop-p-test.true c.loop-p.invariant.1; start_le_n = (omega (arith, c.requires.2.low c.loop-p.p c.loop-p-test.true, c.loop-p.invariant.1.rest c.loop-p.p (le_refl c.loop-p.p)), omega arith) }
 
 pub bounds-keys-found : goal.bounds-keys-found
 bounds-keys-found c =
