@@ -1,5 +1,7 @@
 // For every state of a card the place of a plan where it is dead first, read from the plan's end: before any letter, and one letter more on the left. A card
 // has one dead state at most. These are parts: what they require, one load establishes.
+#![tactic(auto)]
+
 ghost use Rattle.std.specs.Prelude.{◌≤◌, ◌<◌, length};
 ghost use Rattle.ends.specs.Ends.{DeadState, Filled, Stepping, Stepped};
 

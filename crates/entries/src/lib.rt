@@ -1,5 +1,7 @@
 // Entries of lists of 16-bit numbers, and of a table: what is read and written, as numbers of the machine's own width.
 // These are parts: callers give places that are within.
+#![tactic(auto)]
+
 ghost use Rattle.std.specs.Prelude.{◌≡◌, ◌<◌, length, get_or, set};
 ghost use Rattle.automata.specs.Partition.{bit};
 ghost use Rattle.automata.specs.Table.{flag_of, ClosedTable};

@@ -1,5 +1,7 @@
 // The states that letters reach, numbered by first arrival: states in rising order and for each the letters in rising order; the mark column is passed over.
 // Parts for the card writer: they have requires, and are no entries.
+#![tactic(auto)]
+
 ghost use Rattle.std.specs.Prelude.{◌≡◌, suc, ◌<◌, length};
 ghost use Rattle.automata.specs.Table.{ClosedTable};
 ghost use Rattle.numbering.specs.Arrival.{Roll, Arrived, Row, Rowed, Arranged};

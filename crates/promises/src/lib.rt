@@ -1,1 +1,2 @@
 // Definitions and laws only: they stand in specs/.
+#![tactic(auto)]

@@ -6,7 +6,7 @@ use native.Mathlib.Nat.{mul-le-mul_right, suc-mul, add-sub_cancel_left, zero-add
 use native.Mathlib.Omega.{arith}
 use mathlib.Core.List.{[], ◌∷◌}
 use lib.ListN.{length, take, drop, length-take, length-append, length-drop, drop_of_length-le}
-use lib.Seq.{take-length, take_at, drop_at, take-nil, take-take, take_all, drop-append-le, take-append-le, length-take-le}
+use lib.Seq.{drop-length, take-length, take_at, drop_at, take-nil, take-take, take_all, drop-append-le, take-append-le, length-take-le}
 use Rattle.rows.specs.Chains.{Appended}
 use Rattle.rows.specs.Rows.{row_at}
 
@@ -77,3 +77,9 @@ module _ (w n : ℕ) (s row ys : List ℕ) (e : length row ≡ w) (h : n * w + w
 
   pub appended : Appended w n s row after
   appended = record { before = kept; here = put }
+
+-- A row copied over a part as long is that row in front of nothing of the part.
+pub copied : (new row part : List ℕ) → length new ≡ length part → new ≡ row → new ≡ take (length row) row ++ drop (length row) part
+copied new row part l e =
+    let s : length row ≡ length part = sym (ap length e) ∙ l in
+    e ∙ sym (append-nil row) ∙ ap (λ (r : List ℕ). row ++ r) (sym (drop-length part) ∙ ap (λ n. drop n part) (sym s)) ∙ ap (λ (r : List ℕ). r ++ drop (length row) part) (sym (take-length row))

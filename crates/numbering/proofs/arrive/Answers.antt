@@ -1,10 +1,10 @@
 -- `arrive` meets its contract.
 use mathlib.Core.Path.{sym, ◌∙◌}
-use mathlib.Core.Logic.{⊎_elim}
 use native.Mathlib.Omega.{arith}
 use borrow.Author.Rules.{rules}
 use Rattle.numbering.proofs.ArrivalLaws.{arrive_old, arrive_new, arrive_room}
 use Rattle.numbering.proofs.arrive.Goals as goal
+use Rattle.numbering.proofs.arrive.Goals.{then-x-count+else-wide-s, else-x-count}
 
 pub returns-then-wide-s : goal.returns-then-wide-s
 returns-then-wide-s c =
@@ -13,9 +13,9 @@ returns-then-wide-s c =
 pub bounds-order-count : goal.bounds-order-count
 bounds-order-count c =
     arrive_room c.requires.roll _ _ c.requires.s_bound c.wide-x.ensures
-    (λ h e. ⊎_elim (λ w. w.3.left (w.2.ensures ∙ e)) (λ w. absurd (omega (arith, w.left))) c.if-x-count.branch)
+    (λ h e. elim c.if-x-count.branch [ then-x-count+else-wide-s w ↦ w.if-wide-s.false (w.wide.ensures ∙ e) | else-x-count w ↦ absurd (omega (arith, w.if-x-count.false)) ])
 
 pub returns : goal.returns
 returns c =
     arrive_new c.requires.roll _ _ c.requires.s_bound c.wide-x.ensures
-    (λ h e. ⊎_elim (λ w. w.3.left (w.2.ensures ∙ e)) (λ w. absurd (omega (arith, w.left))) c.if-x-count.branch)
+    (λ h e. elim c.if-x-count.branch [ then-x-count+else-wide-s w ↦ w.if-wide-s.false (w.wide.ensures ∙ e) | else-x-count w ↦ absurd (omega (arith, w.if-x-count.false)) ])

@@ -27,7 +27,7 @@ overflow_add-s c =
 
 pub row-count-requires : goal.row-count-requires
 row-count-requires c =
-    record { row = row_of _ _ _ c.requires.closed_table _ (turn_state _ _ _ c.requires.closed_table _ _ _ _ c.loop-i.invariant c.loop-i-test.true _ c.wide-s.ensures); roll = c.loop-i.invariant.roll; }
+    record { row = row_of _ _ _ c.requires.closed_table _ (turn_state _ _ _ c.requires.closed_table _ _ _ _ c.loop-i.invariant c.loop-i-test.true _ c.wide-s.ensures); roll = c.loop-i.invariant.roll }
 
 pub overflow_add-i : goal.overflow_add-i
 overflow_add-i c =

@@ -21,7 +21,7 @@ bounds-slot-at c =
 
 pub arrive-r-requires : goal.arrive-r-requires
 arrive-r-requires c =
-    record { roll = c.loop-c.invariant.1.roll; s_bound = omega (arith, c.wide-s.ensures, c.requires.row.inside c.loop-c.c c.loop-c-test.true); }
+    record { roll = c.loop-c.invariant.1.roll; s_bound = omega (arith, c.wide-s.ensures, c.requires.row.inside c.loop-c.c c.loop-c-test.true) }
 
 pub loop-c-preserved : goal.loop-c-preserved
 loop-c-preserved c =

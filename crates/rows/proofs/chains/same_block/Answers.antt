@@ -1,7 +1,6 @@
 -- `same_block` meets its contract: the bytes of the block before i are equal, or `same` is false.
 use mathlib.Core.Bool.{true, false≢true}
 use mathlib.Core.List.{List}
-use mathlib.Core.Logic.{⊎_elim}
 use mathlib.Core.Path.{◌≡◌, sym, ap, ◌∙◌}
 use Prim.Native.Nat.{ℕ, ◌+◌, ◌-◌, ◌<◌, ◌≤◌}
 use native.Mathlib.Omega.{arith}
@@ -9,14 +8,15 @@ use lib.ListN.{length, get_or}
 use borrow.Author.Count.{below_more}
 use borrow.Author.Rules.{rules}
 use Rattle.rows.proofs.chains.same_block.Goals as goal
+use Rattle.rows.proofs.chains.same_block.Goals.{then-a-at, else-a-at}
 
 pub loop-i-preserved : goal.loop-i-preserved
 loop-i-preserved c =
     let v = c.loop-i.invariant in
-    ⊎_elim
-    (λ w. (omega arith, λ t. absurd (false≢true (sym w.1 ∙ t)), λ z. absurd (w.0.taken (ap (λ (l : List ℕ). get_or l (c.args.at + c.loop-i.i) 0) z))))
-    (λ w. (omega arith, λ t. below_more _ _ (v.1 (sym w.1 ∙ t)) w.0.left, λ z. w.1 ∙ v.2 z))
-    c.if-a-at.branch
+    elim c.if-a-at.branch [
+      | then-a-at w ↦ (omega arith, λ t. absurd (false≢true (sym w.same-is ∙ t)), λ z. absurd (w.if-a-at.true (ap (λ (l : List ℕ). get_or l (c.args.at + c.loop-i.i) 0) z)))
+      | else-a-at w ↦ (omega arith, λ t. below_more _ _ (v.1 (sym w.same-is ∙ t)) w.if-a-at.false, λ z. w.same-is ∙ v.2 z)
+    ]
 
 pub returns : goal.returns
 returns c =

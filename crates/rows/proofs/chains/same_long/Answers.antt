@@ -15,14 +15,6 @@ use Rattle.rows.proofs.chains.same_block.Reads as same-block-reads
 use Rattle.rows.proofs.chains.same_long.Invariants.{SameFrom}
 use Rattle.rows.proofs.chains.same_long.Goals as goal
 
-not_true : (x : Bool) → not x ≡ true → x ≡ false
-not_true true e = absurd (false≢true e)
-not_true false e = refl
-
-not_false : (x : Bool) → not x ≡ false → x ≡ true
-not_false true e = refl
-not_false false e = absurd (false≢true (sym e))
-
 -- The bytes from the place `at` on are equal.
 
 -- A block that is equal, in front of bytes that are: those from a place behind its start are equal.
@@ -40,16 +32,16 @@ loop-at-init c =
 
 pub returns-then-not-same_block : goal.returns-then-not-same_block
 returns-then-not-same_block c =
-    (λ t. absurd (false≢true t), λ z. absurd (false≢true (sym (not_true _ c.if-not-same_block.true) ∙ c.same_block.ensures.1 z)))
+    (λ t. absurd (false≢true t), λ z. absurd (false≢true (sym c.if-not-same_block.true ∙ c.same_block.ensures.1 z)))
 
 pub returns-then-at-eq0 : goal.returns-then-at-eq0
 returns-then-at-eq0 c =
-    (λ t. ext_get_or 0 _ _ c.requires.a_len (λ j h. (with_block c.loop-at.at 0 (omega arith) (c.same_block.ensures.0 (not_false _ c.if-not-same_block.false)) c.loop-at.invariant.1).same j (omega arith) h), λ z. refl)
+    (λ t. ext_get_or 0 _ _ c.requires.a_len (λ j h. (with_block c.loop-at.at 0 (omega arith) (c.same_block.ensures.0 c.if-not-same_block.false) c.loop-at.invariant.1).same j (omega arith) h), λ z. refl)
 
 pub loop-at-preserved-then-at-lt-BLOCK : goal.loop-at-preserved-then-at-lt-BLOCK
 loop-at-preserved-then-at-lt-BLOCK c =
-    (omega arith, with_block c.loop-at.at 16 (omega arith) (c.same_block.ensures.0 (not_false _ c.if-not-same_block.false)) c.loop-at.invariant.1)
+    (omega arith, with_block c.loop-at.at 16 (omega arith) (c.same_block.ensures.0 c.if-not-same_block.false) c.loop-at.invariant.1)
 
 pub loop-at-preserved : goal.loop-at-preserved
 loop-at-preserved c =
-    (omega arith, with_block c.loop-at.at _ (omega arith) (c.same_block.ensures.0 (not_false _ c.if-not-same_block.false)) c.loop-at.invariant.1)
+    (omega arith, with_block c.loop-at.at _ (omega arith) (c.same_block.ensures.0 c.if-not-same_block.false) c.loop-at.invariant.1)
