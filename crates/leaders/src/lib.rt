@@ -1,5 +1,7 @@
 // Which leader of its class a state goes with in a round: two states are compared by the classes that their columns lead to. A part for the refinement: it has
 // requires, and is no entry.
+#![tactic(auto)]
+
 ghost use Rattle.std.specs.Prelude.{◌≡◌, ◌<◌, get_or, take};
 ghost use Rattle.automata.specs.Machine.{automaton};
 ghost use Rattle.automata.specs.Refinement.{SameSignature};

@@ -1,6 +1,6 @@
 -- Classes by answer and number: each state goes by the first that has both, and such classes are on the way to those of equivalent states.
 use mathlib.Core.Path.{◌≡◌, refl, sym, ap, ◌∙◌}
-use mathlib.Core.Bool.{Bool, true, false, not, true≢false}
+use mathlib.Core.Bool.{Bool, true, false}
 use mathlib.Core.Logic.{◌⊎◌, inl, inr, ◌≢◌}
 use mathlib.Core.List.{List, []}
 use Prim.Native.Nat.{ℕ, suc, ◌+◌, ◌-◌, ◌≤◌, ◌<◌, zero-le}
@@ -263,10 +263,6 @@ gathered_numbered n t side w v N G = record { flags = N.flags; room = rw G.long 
 
 pub settled_numbered : (base n k : ℕ) (t w v : List ℕ) (r : Bool) → Sized base n k t w → Settling base n k t w v r → Numbered n t v
 settled_numbered base n k t w v r S T = record { flags = omega (arith, S.closed.flags, S.closed.long); room = rw T.kept.long S.room; few = S.few; most = T.most }
-
-pub not_false : (r : Bool) → not r ≡ false → r ≡ true
-not_false true e = refl
-not_false false e = absurd (true≢false e)
 
 bit_cases : (b : Bool) → (bit b ≡ 0) ⊎ (bit b ≡ 1)
 bit_cases true = inr refl

@@ -1,4 +1,6 @@
 // The states of a table spread over classes by answer and by how far a change is. A part for the refinement: it has requires, and is no entry.
+#![tactic(auto)]
+
 mod change;
 mod gather;
 

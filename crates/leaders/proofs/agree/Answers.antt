@@ -1,5 +1,4 @@
 -- `agree` meets its contract.
-use borrow.Author.Rules.{rules}
 use Rattle.leaders.proofs.RoundLaws.{agree_no, agree_yes}
 use Rattle.leaders.proofs.agree.Goals as goal
 

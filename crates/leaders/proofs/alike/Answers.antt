@@ -1,12 +1,9 @@
 -- `alike` meets its contract. The loop: the columns passed lead to one class.
-use borrow.Author.Rules.{rules}
 use mathlib.Core.Path.{◌≡◌}
-use Prim.Native.Nat.{◌+◌, ◌-◌, ◌≤◌}
+use Prim.Native.Nat.{◌+◌}
 use native.Mathlib.Omega.{arith}
-use lib.ListN.{take}
-use Rattle.automata.specs.Table.{table_machine}
-use Rattle.entries.specs.Entries.{class_of}
-use Rattle.leaders.proofs.RoundLaws.{SameBelow, row_long_lem, alike_start, alike_parts, alike_more, alike_last, alike_end}
+use Rattle.std.proofs.lemmas.Bool.{not_from_false, not_from_true}
+use Rattle.leaders.proofs.RoundLaws.{row_long_lem, alike_start, alike_parts, alike_more, alike_last, alike_end}
 use Rattle.leaders.proofs.alike.Goals as goal
 
 pub loop-c-init : goal.loop-c-init
@@ -19,11 +16,11 @@ overflow_add-c c =
 
 pub agree-requires : goal.agree-requires
 agree-requires c =
-    record { compared = c.requires.compared; c_lt_k = omega arith; }
+    record { compared = c.requires.compared; c_lt_k = omega arith }
 
 pub returns-then-not-agree : goal.returns-then-not-agree
 returns-then-not-agree c =
-    alike_parts c.requires.compared _ _ c.agree.ensures (omega arith) c.if-not-agree.true
+    alike_parts c.requires.compared _ _ c.agree.ensures (omega arith) (not_from_false _ c.if-not-agree.true)
 
 pub overflow_add-c-in-loop-c : goal.overflow_add-c-in-loop-c
 overflow_add-c-in-loop-c c =
@@ -31,11 +28,11 @@ overflow_add-c-in-loop-c c =
 
 pub agree-requires-in-loop-c : goal.agree-requires-in-loop-c
 agree-requires-in-loop-c c =
-    record { compared = c.requires.compared; c_lt_k = c.loop-c-test.true; }
+    record { compared = c.requires.compared; c_lt_k = c.loop-c-test.true }
 
 pub returns-then-not-agree-2 : goal.returns-then-not-agree-2
 returns-then-not-agree-2 c =
-    alike_parts c.requires.compared _ _ c.agree-in-loop-c.ensures c.loop-c-test.true c.if-not-agree-2.true
+    alike_parts c.requires.compared _ _ c.agree-in-loop-c.ensures c.loop-c-test.true (not_from_false _ c.if-not-agree-2.true)
 
 pub overflow_add-c-in-loop-c-2 : goal.overflow_add-c-in-loop-c-2
 overflow_add-c-in-loop-c-2 c =
@@ -44,11 +41,11 @@ overflow_add-c-in-loop-c-2 c =
 pub loop-c-preserved : goal.loop-c-preserved
 loop-c-preserved c =
     let e : c.loop-c.c + 1 + 1 ≡ c.loop-c.c + 2 = omega arith in
-    (omega arith, rw e at (alike_more c.requires.compared _ _ c.agree-in-loop-c.ensures c.if-not-agree-2.false (alike_more c.requires.compared _ _ c.agree.ensures c.if-not-agree.false c.loop-c.invariant.1)))
+    (omega arith, rw e at (alike_more c.requires.compared _ _ c.agree-in-loop-c.ensures (not_from_true _ c.if-not-agree-2.false) (alike_more c.requires.compared _ _ c.agree.ensures (not_from_true _ c.if-not-agree.false) c.loop-c.invariant.1)))
 
 pub agree-requires-then-c-k : goal.agree-requires-then-c-k
 agree-requires-then-c-k c =
-    record { compared = c.requires.compared; c_lt_k = c.if-c-k.true; }
+    record { compared = c.requires.compared; c_lt_k = c.if-c-k.true }
 
 pub returns-then-c-k : goal.returns-then-c-k
 returns-then-c-k c =

@@ -1,12 +1,9 @@
 -- `alike` meets its contract. The loop: the columns passed lead to one class.
-use borrow.Author.Rules.{rules}
-use mathlib.Core.Path.{◌≡◌}
-use Prim.Native.Nat.{◌+◌, ◌-◌, ◌≤◌}
-use native.Mathlib.Omega.{arith}
+use Prim.Native.Nat.{◌-◌, ◌≤◌}
 use lib.ListN.{take}
 use Rattle.automata.specs.Table.{table_machine}
 use Rattle.entries.specs.Entries.{class_of}
-use Rattle.leaders.proofs.RoundLaws.{SameBelow, row_long_lem, alike_start, alike_parts, alike_more, alike_last, alike_end}
+use Rattle.leaders.proofs.RoundLaws.{SameBelow}
 use Rattle.leaders.proofs.alike.Given as goal
 
 abbrev pub invariant-loop-c : goal.invariant-loop-c

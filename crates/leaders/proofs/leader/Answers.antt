@@ -1,11 +1,7 @@
 -- `leader` meets its contract. The loop: r leads a class, and no later leader goes with p; the measure is r, since the links go down.
 use Prim.Native.Nat.{◌<◌}
 use native.Mathlib.Omega.{arith}
-use lib.ListN.{take}
-use Rattle.automata.specs.Table.{table_machine}
-use Rattle.entries.specs.Entries.{class_of}
-use Rattle.entries.specs.Classes.{next}
-use Rattle.leaders.proofs.RoundLaws.{Searching, class_low, class_same, leader_start, leader_first, leader_found, leader_end, leader_next}
+use Rattle.leaders.proofs.RoundLaws.{class_low, class_same, leader_start, leader_first, leader_found, leader_end, leader_next}
 use Rattle.leaders.proofs.leader.Goals as goal
 
 pub at-c-requires : goal.at-c-requires
@@ -16,7 +12,7 @@ pub alike-requires : goal.alike-requires
 alike-requires c =
     let u = c.requires.under in
     let b : c.at-c.result < c.args.n = omega (arith, class_low u _ c.at-c.ensures, u.inside) in
-    record { compared = record { closed = u.closed; room = omega (arith, u.room); one = b; other = u.inside }; p_value = u.told _ _ b u.inside (class_same u _ c.at-c.ensures); }
+    record { compared = record { closed = u.closed; room = omega (arith, u.room); one = b; other = u.inside }; p_value = u.told _ _ b u.inside (class_same u _ c.at-c.ensures) }
 
 pub returns-then-alike : goal.returns-then-alike
 returns-then-alike c =
@@ -46,7 +42,7 @@ pub alike-requires-in-loop-r : goal.alike-requires-in-loop-r
 alike-requires-in-loop-r c =
     let u = c.requires.under in
     let b : c.loop-r.r < c.args.n = omega (arith, c.loop-r.invariant.below, u.inside) in
-    record { compared = record { closed = u.closed; room = omega (arith, u.room); one = b; other = u.inside }; p_value = u.told _ _ b u.inside c.loop-r.invariant.class; }
+    record { compared = record { closed = u.closed; room = omega (arith, u.room); one = b; other = u.inside }; p_value = u.told _ _ b u.inside c.loop-r.invariant.class }
 
 pub returns-then-alike-2 : goal.returns-then-alike-2
 returns-then-alike-2 c =

@@ -1,11 +1,9 @@
 -- `leader` meets its contract. The loop: r leads a class, and no later leader goes with p; the measure is r, since the links go down.
-use Prim.Native.Nat.{◌<◌}
-use native.Mathlib.Omega.{arith}
 use lib.ListN.{take}
 use Rattle.automata.specs.Table.{table_machine}
 use Rattle.entries.specs.Entries.{class_of}
 use Rattle.entries.specs.Classes.{next}
-use Rattle.leaders.proofs.RoundLaws.{Searching, class_low, class_same, leader_start, leader_first, leader_found, leader_end, leader_next}
+use Rattle.leaders.proofs.RoundLaws.{Searching}
 use Rattle.leaders.proofs.leader.Given as goal
 
 abbrev pub invariant-loop-r : goal.invariant-loop-r

@@ -1,23 +1,7 @@
 -- `spread` meets its contract.
-use borrow.Author.Rules.{rules}
-use mathlib.Core.Path.{◌∙◌}
 use native.Mathlib.Omega.{arith}
-use Rattle.spread.proofs.SpreadLaws.{settled_numbered, gathered_numbered, spread_refining, refining_same, not_false}
+use Rattle.spread.proofs.SpreadLaws.{settled_numbered, gathered_numbered, spread_refining, refining_same}
 use Rattle.spread.proofs.spread.Goals as goal
-
--- src/change.rt:168:9
-
--- src/change.rt:169:9
-
--- src/change.rt:169:9
-
--- src/change.rt:171:5
-
--- src/change.rt:172:5
-
--- src/change.rt:163:1
-
--- src/change.rt:163:1
 
 pub returns-then-not-changes : goal.returns-then-not-changes
 returns-then-not-changes c =
@@ -33,4 +17,4 @@ gather-requires-2 c =
 
 pub returns : goal.returns
 returns c =
-    spread_refining _ _ _ _ _ _ _ c.requires.sized.closed (omega (arith, c.requires.sized.room, c.gather-2.ensures.long, c.gather.ensures.long, c.changes.ensures.kept.long)) (c.changes.ensures.alike (not_false _ c.if-not-changes.false)) c.gather.ensures c.gather-2.ensures
+    spread_refining _ _ _ _ _ _ _ c.requires.sized.closed (omega (arith, c.requires.sized.room, c.gather-2.ensures.long, c.gather.ensures.long, c.changes.ensures.kept.long)) (c.changes.ensures.alike c.if-not-changes.false) c.gather.ensures c.gather-2.ensures

@@ -1,10 +1,5 @@
 -- `ascend` meets its contract: the states below p are closed, where none was lowered.
-use borrow.Author.Rules.{rules}
-use mathlib.Core.Path.{◌≡◌, refl, ◌∙◌}
-use Prim.Native.Nat.{◌+◌, ◌-◌, ◌≤◌}
 use native.Mathlib.Omega.{arith}
-use lib.ListN.{length}
-use Rattle.spread.specs.Change.{Swept}
 use Rattle.spread.proofs.ChangeLaws.{measured_same, swept_start, swept_yes, swept_no, swept_done}
 use Rattle.spread.proofs.change.ascend.Goals as goal
 

@@ -1,11 +1,6 @@
 -- `ascend` meets its contract: the states below p are closed, where none was lowered.
-use borrow.Author.Rules.{rules}
-use mathlib.Core.Path.{◌≡◌, refl, ◌∙◌}
-use Prim.Native.Nat.{◌+◌, ◌-◌, ◌≤◌}
-use native.Mathlib.Omega.{arith}
-use lib.ListN.{length}
+use Prim.Native.Nat.{◌-◌, ◌≤◌}
 use Rattle.spread.specs.Change.{Swept}
-use Rattle.spread.proofs.ChangeLaws.{measured_same, swept_start, swept_yes, swept_no, swept_done}
 use Rattle.spread.proofs.change.ascend.Given as goal
 
 abbrev pub invariant-loop-p : goal.invariant-loop-p

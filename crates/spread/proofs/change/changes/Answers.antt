@@ -1,12 +1,7 @@
 -- `changes` meets its contract: after each pair of sweeps the numbers are backed.
-use borrow.Author.Rules.{rules}
-use mathlib.Core.Path.{◌≡◌, refl, sym, ◌∙◌}
-use mathlib.Core.Bool.{false≢true}
-use Prim.Native.Nat.{◌-◌, ◌≤◌}
 use native.Mathlib.Omega.{arith}
-use lib.ListN.{length}
-use Rattle.spread.specs.Change.{Backed, SameClasses}
-use Rattle.spread.proofs.ChangeLaws.{sized_same, measured_same, same_classes_refl, same_classes_more, unknown_backed, settled, unsettled}
+use Rattle.std.proofs.lemmas.Bool.{not_from_false}
+use Rattle.spread.proofs.ChangeLaws.{measured_same, same_classes_refl, same_classes_more, unknown_backed, settled, unsettled}
 use Rattle.spread.proofs.change.changes.Goals as goal
 
 pub unknown-requires : goal.unknown-requires
@@ -31,7 +26,7 @@ shape_of-work-then-not-ascend c =
 
 pub returns-then-not-ascend : goal.returns-then-not-ascend
 returns-then-not-ascend c =
-    settled _ _ _ _ _ _ _ _ c.requires.closed (same_classes_more _ _ _ _ c.unknown.ensures.0 (same_classes_more _ _ _ _ c.loop-j.invariant.2 c.descend.ensures.1)) c.if-not-ascend.true c.ascend.ensures
+    settled _ _ _ _ _ _ _ _ c.requires.closed (same_classes_more _ _ _ _ c.unknown.ensures.0 (same_classes_more _ _ _ _ c.loop-j.invariant.2 c.descend.ensures.1)) (not_from_false _ c.if-not-ascend.true) c.ascend.ensures
 
 pub loop-j-preserved : goal.loop-j-preserved
 loop-j-preserved c =

@@ -1,10 +1,5 @@
 -- `descend` meets its contract.
-use borrow.Author.Rules.{rules}
-use mathlib.Core.Path.{◌≡◌, refl, ◌∙◌}
-use Prim.Native.Nat.{◌+◌, ◌-◌, ◌≤◌}
 use native.Mathlib.Omega.{arith}
-use lib.ListN.{length}
-use Rattle.spread.specs.Change.{Backed, SameClasses}
 use Rattle.spread.proofs.ChangeLaws.{measured_same, same_classes_refl, same_classes_more}
 use Rattle.spread.proofs.change.descend.Goals as goal
 

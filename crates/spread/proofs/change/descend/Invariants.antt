@@ -1,11 +1,6 @@
 -- `descend` meets its contract.
-use borrow.Author.Rules.{rules}
-use mathlib.Core.Path.{◌≡◌, refl, ◌∙◌}
-use Prim.Native.Nat.{◌+◌, ◌-◌, ◌≤◌}
-use native.Mathlib.Omega.{arith}
-use lib.ListN.{length}
+use Prim.Native.Nat.{◌≤◌}
 use Rattle.spread.specs.Change.{Backed, SameClasses}
-use Rattle.spread.proofs.ChangeLaws.{measured_same, same_classes_refl, same_classes_more}
 use Rattle.spread.proofs.change.descend.Given as goal
 
 abbrev pub invariant-loop-p : goal.invariant-loop-p

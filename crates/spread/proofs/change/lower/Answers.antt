@@ -1,5 +1,4 @@
 -- `lower` meets its contract.
-use borrow.Author.Rules.{rules}
 use mathlib.Core.Path.{refl}
 use native.Mathlib.Omega.{arith}
 use Rattle.spread.proofs.ChangeLaws.{lower_yes, lower_no}
@@ -19,7 +18,7 @@ overflow_add-n-then-x-at c =
 
 pub put-requires : goal.put-requires
 put-requires c =
-    record { i_in_bounds = omega (arith, c.requires.0.sized.room, c.requires.1); x_bound = omega (arith, c.requires.0.sized.few, c.nearest-x.ensures.least.most); }
+    record { i_in_bounds = omega (arith, c.requires.0.sized.room, c.requires.1); x_bound = omega (arith, c.requires.0.sized.few, c.nearest-x.ensures.least.most) }
 
 pub returns-then-x-at : goal.returns-then-x-at
 returns-then-x-at c =

@@ -1,9 +1,6 @@
 -- `nearest` meets its contract: no column passed shows a nearer change.
-use borrow.Author.Rules.{rules}
 use mathlib.Core.Path.{refl}
-use Prim.Native.Nat.{◌+◌, ◌-◌, ◌≤◌}
 use native.Mathlib.Omega.{arith}
-use Rattle.spread.specs.Change.{Nearest}
 use Rattle.spread.proofs.ChangeLaws.{near_start, near_change, near_next, near_done}
 use Rattle.spread.proofs.change.nearest.Goals as goal
 
@@ -21,7 +18,7 @@ loop-c-init c =
 
 pub target-s-requires : goal.target-s-requires
 target-s-requires c =
-    record { closed_table = c.requires.0.sized.closed; p_lt_n = c.requires.1; c_lt_k = c.loop-c-test.true; }
+    record { closed_table = c.requires.0.sized.closed; p_lt_n = c.requires.1; c_lt_k = c.loop-c-test.true }
 
 pub flag-requires : goal.flag-requires
 flag-requires c =

@@ -1,10 +1,6 @@
 -- `nearest` meets its contract: no column passed shows a nearer change.
-use borrow.Author.Rules.{rules}
-use mathlib.Core.Path.{refl}
-use Prim.Native.Nat.{◌+◌, ◌-◌, ◌≤◌}
-use native.Mathlib.Omega.{arith}
+use Prim.Native.Nat.{◌-◌, ◌≤◌}
 use Rattle.spread.specs.Change.{Nearest}
-use Rattle.spread.proofs.ChangeLaws.{near_start, near_change, near_next, near_done}
 use Rattle.spread.proofs.change.nearest.Given as goal
 
 abbrev pub invariant-loop-c : goal.invariant-loop-c

@@ -1,12 +1,7 @@
 -- `unknown` meets its contract: the numbers below i are n - 1.
-use borrow.Author.Rules.{rules}
-use mathlib.Core.Path.{◌≡◌, refl, ◌∙◌}
-use Prim.Native.Nat.{ℕ, suc, ◌+◌, ◌-◌, ◌≤◌, ◌<◌}
+use Prim.Native.Nat.{◌-◌}
 use native.Mathlib.Omega.{arith}
 use native.Mathlib.Nat.{not-suc-le-zero}
-use lib.ListN.{length}
-use Rattle.entries.specs.Classes.{next}
-use Rattle.spread.specs.Change.{SameClasses}
 use Rattle.spread.proofs.ChangeLaws.{same_classes_refl, unknown_more, unknown_kept}
 use Rattle.spread.proofs.change.unknown.Goals as goal
 
@@ -24,7 +19,7 @@ overflow_sub-n c =
 
 pub put-requires : goal.put-requires
 put-requires c =
-    record { i_in_bounds = omega (arith, c.loop-i-test.true, c.requires.1, c.loop-i.invariant.1.long); x_bound = omega (arith, c.requires.2); }
+    record { i_in_bounds = omega (arith, c.loop-i-test.true, c.requires.1, c.loop-i.invariant.1.long); x_bound = omega (arith, c.requires.2) }
 
 pub loop-i-preserved : goal.loop-i-preserved
 loop-i-preserved c =

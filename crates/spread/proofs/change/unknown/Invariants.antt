@@ -1,13 +1,8 @@
 -- `unknown` meets its contract: the numbers below i are n - 1.
-use borrow.Author.Rules.{rules}
-use mathlib.Core.Path.{◌≡◌, refl, ◌∙◌}
-use Prim.Native.Nat.{ℕ, suc, ◌+◌, ◌-◌, ◌≤◌, ◌<◌}
-use native.Mathlib.Omega.{arith}
-use native.Mathlib.Nat.{not-suc-le-zero}
-use lib.ListN.{length}
+use mathlib.Core.Path.{◌≡◌}
+use Prim.Native.Nat.{ℕ, suc, ◌-◌, ◌≤◌, ◌<◌}
 use Rattle.entries.specs.Classes.{next}
 use Rattle.spread.specs.Change.{SameClasses}
-use Rattle.spread.proofs.ChangeLaws.{same_classes_refl, unknown_more, unknown_kept}
 use Rattle.spread.proofs.change.unknown.Given as goal
 
 abbrev pub invariant-loop-i : goal.invariant-loop-i

@@ -1,10 +1,6 @@
 -- `gather` meets its contract: the states below p have joined.
-use borrow.Author.Rules.{rules}
-use mathlib.Core.Path.{◌≡◌, sym, ◌∙◌}
-use Prim.Native.Nat.{◌+◌, ◌-◌, ◌≤◌}
+use mathlib.Core.Path.{sym, ◌∙◌}
 use native.Mathlib.Omega.{arith}
-use lib.ListN.{length}
-use Rattle.spread.specs.Gather.{Gathering}
 use Rattle.spread.proofs.SpreadLaws.{gather_starts, gather_passes, gather_joins, gather_done, cleared_numbered, cleared_gathered, joins_fits}
 use Rattle.spread.proofs.gather.gather.Goals as goal
 

@@ -1,42 +1,8 @@
 -- `join` meets its contract.
-use borrow.Author.Rules.{rules}
-use mathlib.Core.Path.{◌≡◌, sym, ap, ◌∙◌}
-use Prim.Native.Nat.{◌+◌, ◌-◌}
+use Prim.Native.Nat.{◌+◌}
 use native.Mathlib.Omega.{arith}
 use Rattle.spread.proofs.SpreadLaws.{join_first, join_later}
 use Rattle.spread.proofs.gather.join.Goals as goal
-
--- src/change.rt:136:27
-
--- src/change.rt:136:9
-
--- src/change.rt:137:32
-
--- src/change.rt:137:27
-
--- src/change.rt:137:9
-
--- src/change.rt:139:24
-
--- src/change.rt:139:19
-
--- src/change.rt:139:32
-
--- src/change.rt:139:9
-
--- src/change.rt:140:9
-
--- src/change.rt:141:9
-
--- src/change.rt:141:9
-
--- src/change.rt:143:18
-
--- src/change.rt:143:5
-
--- src/change.rt:132:1
-
--- src/change.rt:132:1
 
 pub returns-then-f-eq0 : goal.returns-then-f-eq0
 returns-then-f-eq0 c =
@@ -44,7 +10,7 @@ returns-then-f-eq0 c =
 
 pub put-requires-2 : goal.put-requires-2
 put-requires-2 c =
-    record { i_in_bounds = omega (arith, c.requires.0, c.requires.1); x_bound = omega (arith, c.at-f.ensures, c.slice_known-1.given (c.args.n + (c.args.n + c.at-d.result))); }
+    record { i_in_bounds = omega (arith, c.requires.0, c.requires.1); x_bound = omega (arith, c.at-f.ensures, c.slice_known-1.given (c.args.n + (c.args.n + c.at-d.result))) }
 
 pub returns : goal.returns
 returns c =

@@ -1,11 +1,7 @@
 -- `none_yet` meets its contract: the entries below i are 0.
-use borrow.Author.Rules.{rules}
-use mathlib.Core.Path.{◌≡◌, refl, ◌∙◌}
-use Prim.Native.Nat.{ℕ, ◌+◌, ◌-◌, ◌≤◌, ◌<◌}
+use mathlib.Core.Path.{refl, ◌∙◌}
 use native.Mathlib.Omega.{arith}
 use native.Mathlib.Nat.{not-suc-le-zero}
-use lib.ListN.{length, get_or}
-use Rattle.spread.specs.Gather.{first_of}
 use Rattle.spread.proofs.SpreadLaws.{cleared_same, cleared_more}
 use Rattle.spread.proofs.gather.none_yet.Goals as goal
 
@@ -15,7 +11,7 @@ loop-i-init c =
 
 pub put-requires : goal.put-requires
 put-requires c =
-    record { i_in_bounds = omega (arith, c.loop-i-test.true, c.requires, c.loop-i.invariant.1); x_bound = omega arith; }
+    record { i_in_bounds = omega (arith, c.loop-i-test.true, c.requires, c.loop-i.invariant.1); x_bound = omega arith }
 
 pub loop-i-preserved : goal.loop-i-preserved
 loop-i-preserved c =

@@ -1,12 +1,8 @@
 -- `none_yet` meets its contract: the entries below i are 0.
-use borrow.Author.Rules.{rules}
-use mathlib.Core.Path.{◌≡◌, refl, ◌∙◌}
+use mathlib.Core.Path.{◌≡◌}
 use Prim.Native.Nat.{ℕ, ◌+◌, ◌-◌, ◌≤◌, ◌<◌}
-use native.Mathlib.Omega.{arith}
-use native.Mathlib.Nat.{not-suc-le-zero}
 use lib.ListN.{length, get_or}
 use Rattle.spread.specs.Gather.{first_of}
-use Rattle.spread.proofs.SpreadLaws.{cleared_same, cleared_more}
 use Rattle.spread.proofs.gather.none_yet.Given as goal
 
 abbrev pub invariant-loop-i : goal.invariant-loop-i
