@@ -1,6 +1,8 @@
 // Test 25: which states are live, and whether each is marked so. Reachability back from the accepting states, by sweeps over an array of flags, down and up in
 // turn: a sweep looks at the moves of the states that are not live yet, and mostly one or two are enough, n + 1 at most. Nothing is assumed of the
 // states but that their moves stay among them. Parts for the board: they have requires, and are no entries.
+#![tactic(auto)]
+
 ghost use Rattle.std.specs.Prelude.{◌≡◌, ℕ, ◌+◌, ◌≤◌, ◌<◌, length, get_or};
 ghost use Rattle.moves.specs.Holds.{Table};
 ghost use Rattle.live.specs.LiveSweeps.{Leads, Visited, Sweep, FlagsOf, LiveExactly, MarksExactly};

@@ -16,7 +16,7 @@ loop-p-init c =
 pub visit-requires : goal.visit-requires
 visit-requires c =
     let t = c.requires.table in
-    record { m_in_bounds = (row_room _ _ _ _ t _ _ c.loop-p.invariant.1 c.loop-p-test.true, omega (arith, t.states_most), c.loop-p.invariant.2.long); by_index = below_most _ _ _ _ t; }
+    record { m_in_bounds = (row_room _ _ _ _ t _ _ c.loop-p.invariant.1 c.loop-p-test.true, omega (arith, t.states_most), c.loop-p.invariant.2.long); by_index = below_most _ _ _ _ t }
 
 pub loop-p-preserved-then-visit : goal.loop-p-preserved-then-visit
 loop-p-preserved-then-visit c =

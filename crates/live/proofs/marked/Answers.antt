@@ -1,11 +1,13 @@
 -- `marked` meets its contract: the marks bytes below p are right.
-use mathlib.Core.Logic.{⊎_elim}
+use mathlib.Core.Path.{ap}
+use mathlib.Core.Bool.{not}
 use Prim.Native.Nat.{◌≤◌, ◌-◌}
 use native.Mathlib.Omega.{arith}
 use lib.ListN.{length}
 use borrow.Author.Rules.{rules}
 use Rattle.live.proofs.LiveLaws.{MarksUpto, marks_start, marks_done, marks_accepting, marks_dead, marks_live, not_dead, not_live, no_mark}
 use Rattle.live.proofs.marked.Goals as goal
+use Rattle.live.proofs.marked.Goals.{in-0+else-not-lives, in-1, in-2+else-lives}
 
 pub loop-p-init : goal.loop-p-init
 loop-p-init c =
@@ -17,7 +19,7 @@ bounds-flags-p c =
 
 pub returns-then-not-lives : goal.returns-then-not-lives
 returns-then-not-lives c =
-    not_live _ _ _ _ c.live.ensures _ c.loop-p-test.true c.in-0.is c.if-not-lives.true
+    not_live _ _ _ _ c.live.ensures _ c.loop-p-test.true c.in-0.is (ap not c.if-not-lives.true)
 
 pub returns-then-lives : goal.returns-then-lives
 returns-then-lives c =
@@ -25,17 +27,16 @@ returns-then-lives c =
 
 pub returns-in_default : goal.returns-in_default
 returns-in_default c =
-    no_mark _ _ _ _ c.live.ensures _ c.loop-p-test.true c.in_default.rest.0.0.1 c.in_default.rest.0.1 c.in_default.rest.1
+    no_mark _ _ _ _ c.live.ensures _ c.loop-p-test.true (λ e. omega arith) (λ e. omega arith) (λ e. omega arith)
 
 pub loop-p-preserved : goal.loop-p-preserved
-loop-p-preserved c =
-    (
+loop-p-preserved c = (
   omega arith,
-  ⊎_elim
-      (λ w. marks_live _ _ _ _ c.live.ensures _ c.loop-p-test.true c.loop-p.invariant.1 w.0.keys1 w.1.left)
-      (λ v. ⊎_elim
-      (λ w. marks_accepting _ _ _ _ c.live.ensures _ c.loop-p-test.true c.loop-p.invariant.1 w.keys2)
-      (λ w. marks_dead _ _ _ _ c.live.ensures _ c.loop-p-test.true c.loop-p.invariant.1 w.0.keys3 w.1.left) v) c.match-b.branch,
+  elim c.match-b.branch [
+    | in-0+else-not-lives w ↦ marks_live _ _ _ _ c.live.ensures _ c.loop-p-test.true c.loop-p.invariant.1 w.in-0.is (ap not w.if-not-lives.false)
+    | in-1 w ↦ marks_accepting _ _ _ _ c.live.ensures _ c.loop-p-test.true c.loop-p.invariant.1 w.in-1.is
+    | in-2+else-lives w ↦ marks_dead _ _ _ _ c.live.ensures _ c.loop-p-test.true c.loop-p.invariant.1 w.in-2.is w.if-lives.false
+  ],
 )
 
 pub returns : goal.returns
