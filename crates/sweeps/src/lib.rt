@@ -2,6 +2,8 @@
 // letters no two states are, so that one split by these numbers does the work of as many rounds as there are letters. Bellman and Ford's relaxation in
 // place, with Yen's sweeps in turn: most moves lead to later states, so that the sweep from the last state to the first does nearly all of it. A sweep
 // looks at each move once; after eight pairs of sweeps the numbers are given up. A part for the partition: it has requires, and is no entry.
+#![tactic(auto)]
+
 ghost use Rattle.std.specs.Prelude.{true, ◌⊎◌, ◌≡◌, ℕ, ◌+◌, ◌≤◌, ◌<◌, length, get_or, replicate};
 ghost use Rattle.distance.specs.Distance.{behind as behind_of};
 ghost use Rattle.moves.specs.Holds.{Table, AcceptKeys};

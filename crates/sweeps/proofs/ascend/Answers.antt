@@ -17,19 +17,17 @@ loop-p-init c =
 pub lower-requires : goal.lower-requires
 lower-requires c =
     let r = lowered_room _ _ _ _ _ _ c.loop-p.invariant.2.backed c.loop-p-test.true c.requires.table.states_most in
-    record { m_in_bounds = (row_room _ _ _ _ c.requires.table _ _ c.loop-p.invariant.1 c.loop-p-test.true, r.0, r.1, r.2); by_index = below_most _ _ _ _ c.requires.table; }
+    record { m_in_bounds = (row_room _ _ _ _ c.requires.table _ _ c.loop-p.invariant.1 c.loop-p-test.true, r.0, r.1, r.2); by_index = below_most _ _ _ _ c.requires.table }
 
 pub loop-p-preserved-then-lower : goal.loop-p-preserved-then-lower
-loop-p-preserved-then-lower c =
-    (
+loop-p-preserved-then-lower c = (
   omega arith,
   row_on _ _ _ c.loop-p.invariant.1,
   ascend_yes _ _ _ _ _ _ _ _ c.loop-p.invariant.2 _ c.loop-p.invariant.1 c.loop-p-test.true c.requires.table.states_most _ c.lower.ensures,
 )
 
 pub loop-p-preserved : goal.loop-p-preserved
-loop-p-preserved c =
-    (
+loop-p-preserved c = (
   omega arith,
   row_on _ _ _ c.loop-p.invariant.1,
   ascend_no _ _ _ _ _ _ _ _ c.loop-p.invariant.2 _ c.loop-p.invariant.1 c.loop-p-test.true c.requires.table.states_most _ c.if-lower.false c.lower.ensures,

@@ -1,5 +1,6 @@
 -- `changes` meets its contract.
-use mathlib.Core.Bool.{false≢true}
+use mathlib.Core.Path.{ap}
+use mathlib.Core.Bool.{not, false≢true}
 use Prim.Native.Nat.{◌≤◌, ◌-◌}
 use native.Mathlib.Omega.{arith}
 use lib.ListN.{length}
@@ -14,15 +15,15 @@ loop-j-init c =
 
 pub descend-requires : goal.descend-requires
 descend-requires c =
-    record { table = c.requires.table; backed = c.loop-j.invariant.1; }
+    record { table = c.requires.table; backed = c.loop-j.invariant.1 }
 
 pub ascend-requires : goal.ascend-requires
 ascend-requires c =
-    record { table = c.requires.table; backed = c.descend.ensures; }
+    record { table = c.requires.table; backed = c.descend.ensures }
 
 pub returns-then-not-ascend : goal.returns-then-not-ascend
 returns-then-not-ascend c =
-    λ _. changes_alike _ _ _ _ _ c.requires.table c.requires.accept_keys.0 _ c.if-not-ascend.true c.ascend.ensures
+    λ _. changes_alike _ _ _ _ _ c.requires.table c.requires.accept_keys.0 _ (ap not c.if-not-ascend.true) c.ascend.ensures
 
 pub loop-j-preserved : goal.loop-j-preserved
 loop-j-preserved c =

@@ -20,11 +20,10 @@ overflow_sub-at c =
 pub lower-requires : goal.lower-requires
 lower-requires c =
     let r = lowered_room _ _ _ _ _ (c.loop-p.p - 1) c.loop-p.invariant.2 (omega arith) c.requires.table.states_most in
-    record { m_in_bounds = (row_room_back _ _ _ _ c.requires.table _ _ c.loop-p-test.true c.loop-p.invariant.0 c.loop-p.invariant.1, r.0, r.1, r.2); by_index = below_most _ _ _ _ c.requires.table; }
+    record { m_in_bounds = (row_room_back _ _ _ _ c.requires.table _ _ c.loop-p-test.true c.loop-p.invariant.0 c.loop-p.invariant.1, r.0, r.1, r.2); by_index = below_most _ _ _ _ c.requires.table }
 
 pub loop-p-preserved : goal.loop-p-preserved
-loop-p-preserved c =
-    (
+loop-p-preserved c = (
   omega arith,
   (row_back _ _ _ c.loop-p-test.true c.loop-p.invariant.1).1,
   lowered_backed _ _ _ _ _ _ c.loop-p.invariant.2 _ _ (row_back _ _ _ c.loop-p-test.true c.loop-p.invariant.1).1 (omega arith) c.requires.table.states_most _ c.lower.ensures,
