@@ -14,7 +14,7 @@ loop-count-init c =
 
 pub refine-parts-requires : goal.refine-parts-requires
 refine-parts-requires c =
-    record { columns = (columns_of _ _ _ c.requires.table.0 _ _ c.loop-count.invariant.0 c.if-c-m.true, c.loop-count.invariant.3.long, c.loop-count.invariant.3.named); keys_len = search rules; }
+    record { columns = (columns_of _ _ _ c.requires.table.0 _ _ c.loop-count.invariant.0 c.if-c-m.true, c.loop-count.invariant.3.long, c.loop-count.invariant.3.named); keys_len = search rules }
 
 pub loop-count-preserved-then-left-gt0 : goal.loop-count-preserved-then-left-gt0
 loop-count-preserved-then-left-gt0 c =

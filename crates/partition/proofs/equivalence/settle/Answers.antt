@@ -13,7 +13,7 @@ split-begun-requires c =
 
 pub passes-count-requires : goal.passes-count-requires
 passes-count-requires c =
-    record { table = (c.requires.table.0, c.requires.table.1, c.accept_keys.ensures.long); classed = classed_first _ _ _ c.requires.table.0 _ _ _ c.accept_keys.ensures (rw c.requires.classes_value at c.split-begun.ensures); }
+    record { table = (c.requires.table.0, c.requires.table.1, c.accept_keys.ensures.long); classed = classed_first _ _ _ c.requires.table.0 _ _ _ c.accept_keys.ensures (rw c.requires.classes_value at c.split-begun.ensures) }
 
 pub returns-then-count-marks : goal.returns-then-count-marks
 returns-then-count-marks c =
@@ -25,7 +25,7 @@ returns-then-count-begun c =
 
 pub finish-requires : goal.finish-requires
 finish-requires c =
-    record { table = c.requires.table; classed = c.passes-count.ensures.classed; }
+    record { table = c.requires.table; classed = c.passes-count.ensures.classed }
 
 pub returns : goal.returns
 returns c =
