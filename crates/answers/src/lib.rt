@@ -1,4 +1,5 @@
 // What a stage over lent buffers answers: the types; the definitions and laws stand in specs/.
+#![tactic(auto)]
 
 // The most sets that a stage may make, and the most states that a kept machine may have.
 #[derive(Clone, Copy)]

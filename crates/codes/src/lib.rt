@@ -1,4 +1,5 @@
 // What each code of a line's program asks for.
+#![tactic(auto)]
 ghost use Rattle.codes.specs.Codes.{Leafless, Sorted};
 
 use book::codes::{
