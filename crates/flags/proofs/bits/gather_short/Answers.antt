@@ -1,5 +1,4 @@
 -- `gather_short` meets its contract: the members before q are listed.
-use mathlib.Core.Logic.{⊎_elim}
 use mathlib.Core.Path.{◌≡◌, refl, ap, ◌∙◌}
 use Prim.Native.Nat.{◌-◌, ◌≤◌}
 use native.Mathlib.Omega.{arith}
@@ -10,6 +9,7 @@ use Rattle.flags.specs.Members.{Lists}
 use Rattle.flags.proofs.FlagLaws.{flag_set, flag_clear}
 use Rattle.flags.proofs.MemberLaws.{lists_none, lists_out, lists_in}
 use Rattle.flags.proofs.bits.gather_short.Goals as goal
+use Rattle.flags.proofs.bits.gather_short.Goals.{then-from-q-ne0, else-from-q-ne0}
 
 pub loop-q-init : goal.loop-q-init
 loop-q-init c =
@@ -17,10 +17,10 @@ loop-q-init c =
 
 pub loop-q-preserved : goal.loop-q-preserved
 loop-q-preserved c =
-    ⊎_elim
-    (λ w. (omega arith, omega (arith, w.2), rw (w.1, w.2) (lists_in c.loop-q.invariant.2 (flag_set c.args.from.now c.loop-q.q w.0.taken) (omega (arith, c.requires.1))), ap length w.1 ∙ length-set c.loop-q.members c.loop-q.count c.loop-q.q ∙ c.loop-q.invariant.3))
-    (λ w. (omega arith, omega (arith, w.2), rw (w.1, w.2) (lists_out c.loop-q.invariant.2 (flag_clear c.args.from.now c.loop-q.q w.0.left)), ap length w.1 ∙ c.loop-q.invariant.3))
-    c.if-from-q-ne0.branch
+    elim c.if-from-q-ne0.branch [
+      | then-from-q-ne0 w ↦ (omega arith, omega (arith, w.count-is), rw (w.members-is, w.count-is) (lists_in c.loop-q.invariant.2 (flag_set c.args.from.now c.loop-q.q w.if-from-q-ne0.true) (omega (arith, c.requires.1))), ap length w.members-is ∙ length-set c.loop-q.members c.loop-q.count c.loop-q.q ∙ c.loop-q.invariant.3)
+      | else-from-q-ne0 w ↦ (omega arith, omega (arith, w.count-is), rw (w.members-is, w.count-is) (lists_out c.loop-q.invariant.2 (flag_clear c.args.from.now c.loop-q.q w.if-from-q-ne0.false)), ap length w.members-is ∙ c.loop-q.invariant.3)
+    ]
 
 pub returns : goal.returns
 returns c =

@@ -1,6 +1,5 @@
 -- `pour` meets its contract: the flags set so far are those that the members before i lead to.
 use mathlib.Core.Bool.{true}
-use mathlib.Core.Logic.{⊎_elim}
 use mathlib.Core.Path.{◌≡◌, refl, sym, ◌∙◌}
 use Prim.Native.Nat.{◌+◌, ◌-◌, ◌≤◌, ◌<◌}
 use native.Mathlib.Omega.{arith}
@@ -15,6 +14,7 @@ use Rattle.flags.proofs.FlagLaws.{Flags, flags_none, flags_row, lead_in}
 use Rattle.flags.proofs.MemberLaws.{some_none, some_yes, some_no}
 use Rattle.flags.proofs.TableLaws.{cell_in, flag_in}
 use Rattle.flags.proofs.bits.pour.Goals as goal
+use Rattle.flags.proofs.bits.pour.Goals.{then-accepting, else-accepting}
 
 pub loop-i-init : goal.loop-i-init
 loop-i-init c =
@@ -30,7 +30,7 @@ step-to-requires c =
 
 pub flag-sum-requires : goal.flag-sum-requires
 flag-sum-requires c =
-    record { summed = c.loop-i.invariant.2; i_in_bounds = rw c.step-to.ensures (omega (arith, c.requires.pours.table.inside _ c.args.c (c.requires.pours.counted.state c.loop-i.i c.loop-i-test.true) c.requires.pours.column, c.requires.pours.room, c.loop-i.invariant.1.long)); }
+    record { summed = c.loop-i.invariant.2; i_in_bounds = rw c.step-to.ensures (omega (arith, c.requires.pours.table.inside _ c.args.c (c.requires.pours.counted.state c.loop-i.i c.loop-i-test.true) c.requires.pours.column, c.requires.pours.room, c.loop-i.invariant.1.long)) }
 
 pub accepting-requires : goal.accepting-requires
 accepting-requires c =
@@ -43,11 +43,11 @@ loop-i-preserved c =
     let i = c.loop-i.i in
     let inside = c.requires.pours.table.inside _ a.c (c.requires.pours.counted.state i c.loop-i-test.true) c.requires.pours.column in
     let low : c.step-to.result < a.n = rw c.step-to.ensures inside in
-    let flags : Flags (length a.row.now) (led_by a.members.now (cell a.base a.k a.c a.t.now) (i + 1)) c.flag-sum.new.0 = rw (c.flag-sum.ensures.0, c.step-to.ensures) (lead_in (λ i. true) (λ i. cell a.base a.k a.c a.t.now (get_or a.members.now i 0)) (length a.row.now) i v.1 refl (omega (arith, inside, c.requires.pours.room))) in
-    ⊎_elim
-    (λ w. (omega arith, flags, c.flag-sum.ensures.1, w.1 ∙ rw c.flag-sum.ensures.0 (some_yes c.loop-i.row a.t.now a.n c.step-to.result low (omega (arith, low, c.requires.pours.room, v.1.long)) (sym c.accepting.ensures ∙ w.0.taken))))
-    (λ w. (omega arith, flags, c.flag-sum.ensures.1, w.1 ∙ v.3 ∙ rw c.flag-sum.ensures.0 (some_no c.loop-i.row a.t.now a.n c.step-to.result (sym c.accepting.ensures ∙ w.0.left))))
-    c.if-accepting.branch
+    let flags : Flags (length a.row.now) (led_by a.members.now (cell a.base a.k a.c a.t.now) (i + 1)) c.flag-sum.new.row = rw (c.flag-sum.ensures.0, c.step-to.ensures) (lead_in (λ i. true) (λ i. cell a.base a.k a.c a.t.now (get_or a.members.now i 0)) (length a.row.now) i v.1 refl (omega (arith, inside, c.requires.pours.room))) in
+    elim c.if-accepting.branch [
+      | then-accepting w ↦ (omega arith, flags, c.flag-sum.ensures.1, w.accepting-is ∙ rw c.flag-sum.ensures.0 (some_yes c.loop-i.row a.t.now a.n c.step-to.result low (omega (arith, low, c.requires.pours.room, v.1.long)) (sym c.accepting.ensures ∙ w.if-accepting.true)))
+      | else-accepting w ↦ (omega arith, flags, c.flag-sum.ensures.1, w.accepting-is ∙ v.3 ∙ rw c.flag-sum.ensures.0 (some_no c.loop-i.row a.t.now a.n c.step-to.result (sym c.accepting.ensures ∙ w.if-accepting.false)))
+    ]
 
 pub returns : goal.returns
 returns c =

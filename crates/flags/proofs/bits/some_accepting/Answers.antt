@@ -3,9 +3,9 @@ use Prim.Native.Nat.{◌-◌, ◌≤◌}
 use Rattle.flags.proofs.FlagLaws.{accepting_here, NoneYet, none_out, none_no, accepting_none}
 use borrow.Author.Count.{below_more, below_none}
 use borrow.Author.Rules.{rules}
-use mathlib.Core.Logic.{⊎_elim}
 use native.Mathlib.Omega.{arith}
 use Rattle.flags.proofs.bits.some_accepting.Goals as goal
+use Rattle.flags.proofs.bits.some_accepting.Goals.{then-t-q-ne0+else-row-q-ne0, else-t-q-ne0}
 
 pub loop-q-init : goal.loop-q-init
 loop-q-init c =
@@ -22,10 +22,10 @@ loop-q-preserved c =
     let a = c.args in
     let q = loop.q in
     let v = loop.invariant in
-    ⊎_elim
-    (λ w. (omega arith, below_more _ _ v.1 (none_out a.row.now a.t.now q w.2.left)))
-    (λ w. (omega arith, below_more _ _ v.1 (none_no a.row.now a.t.now q w.left)))
-    c.if-t-q-ne0.branch
+    elim c.if-t-q-ne0.branch [
+      | then-t-q-ne0+else-row-q-ne0 w ↦ (omega arith, below_more _ _ v.1 (none_out a.row.now a.t.now q w.if-row-q-ne0.false))
+      | else-t-q-ne0 w ↦ (omega arith, below_more _ _ v.1 (none_no a.row.now a.t.now q w.if-t-q-ne0.false))
+    ]
 
 pub returns : goal.returns
 returns c =

@@ -29,7 +29,7 @@ step-to-requires c =
 pub chase-sum-requires : goal.chase-sum-requires
 chase-sum-requires c =
     let inside = c.requires.closes.table.inside _ c.args.c (c.requires.counted.state c.loop-i.i c.loop-i-test.true) c.requires.c_lt_k.0 in
-    record { closes = record { table = c.requires.closes.table; columns = c.requires.closes.columns; long = c.loop-i.invariant.1.long }; p_lt_n = rw c.step-to.ensures inside; summed = c.loop-i.invariant.2; }
+    record { closes = record { table = c.requires.closes.table; columns = c.requires.closes.columns; long = c.loop-i.invariant.1.long }; p_lt_n = rw c.step-to.ensures inside; summed = c.loop-i.invariant.2 }
 
 pub loop-i-preserved : goal.loop-i-preserved
 loop-i-preserved c =
