@@ -33,7 +33,7 @@ pub widen-requires : goal.widen-requires
 widen-requires c =
     let a = c.args in
     let e : c.number-n.result ≡ number_at (drop a.at a.slots.now) 0 = c.number-n.ensures ∙ number_drop a.slots.now a.at in
-    record { len_in_bounds = slot_ends a.slots.now a.at c.requires.slot _ e; len_in_bounds_2 = rw (← e) at c.requires.k_in_bounds; }
+    record { len_in_bounds = slot_ends a.slots.now a.at c.requires.slot _ e; len_in_bounds_2 = rw (← e) at c.requires.k_in_bounds }
 
 pub returns : goal.returns
 returns c =
