@@ -1,6 +1,7 @@
 // The rows of a concatenation: A's one state by its number, then a flag for each state of B.
 // These are parts: callers give closed tables and rows of the operation's width.
 #![tactic(auto)]
+
 ghost use Rattle.std.specs.Prelude.{◌≡◌, ◌+◌, ◌<◌, length, replicate};
 ghost use Rattle.rows.specs.Rows.{flag_at};
 ghost use Rattle.rows.specs.Sums.{Summed, row_sum};

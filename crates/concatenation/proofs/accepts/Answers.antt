@@ -17,7 +17,7 @@ slice_bounds-some_accepting-start c =
 pub some_accepting-requires : goal.some_accepting-requires
 some_accepting-requires c =
     let args = c.args in
-    record { n_in_bounds = omega (arith, c.requires.fits.right.long, c.requires.fits.right.flags); n_in_bounds_2 = concat_flags args.s args.a.now args.b.now c.requires.fits c.requires.op_value args.from.now c.requires.source; }
+    record { n_in_bounds = omega (arith, c.requires.fits.right.long, c.requires.fits.right.flags); n_in_bounds_2 = concat_flags args.s args.a.now args.b.now c.requires.fits c.requires.op_value args.from.now c.requires.source }
 
 pub returns : goal.returns
 returns c =

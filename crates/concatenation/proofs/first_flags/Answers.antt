@@ -9,7 +9,7 @@ use Rattle.concatenation.proofs.first_flags.Goals as goal
 
 pub gain-requires : goal.gain-requires
 gain-requires c =
-    record { p_in_bounds = c.requires.a_nonzero; flags_nonzero = omega (arith, c.clear.auto.row, c.requires.flags_nonzero.0); summed = summed_none 2 (length c.args.flags.now) _ c.clear.ensures (omega (arith, c.requires.flags_nonzero.1)); }
+    record { p_in_bounds = c.requires.a_nonzero; flags_nonzero = omega (arith, c.clear.auto.row, c.requires.flags_nonzero.0); summed = summed_none 2 (length c.args.flags.now) _ c.clear.ensures (omega (arith, c.requires.flags_nonzero.1)) }
 
 pub returns : goal.returns
 returns c =

@@ -24,12 +24,12 @@ slice_bounds-next_flags-start c =
 pub next_flags-sum-requires : goal.next_flags-sum-requires
 next_flags-sum-requires c =
     let a = c.args in
-    let n = concat_tail a.s a.a.now a.b.now c.requires.step.fits c.requires.op_value a.row.now c.requires.step.long in record { x_in_bounds = (rw (c.step-x.ensures, c.read-p.ensures) (concat_flag a.s a.a.now a.b.now c.requires.step.fits c.requires.op_value a.from.now c.requires.step.source a.c c.requires.step.column), omega (arith, n, c.requires.step.fits.right.some)); pours = concat_asks a.s a.a.now a.b.now c.requires.step.fits c.requires.op_value a.from.now c.requires.step.source a.c c.requires.step.column a.members.now a.held c.requires.lists a.row.now c.requires.step.long; }
+    let n = concat_tail a.s a.a.now a.b.now c.requires.step.fits c.requires.op_value a.row.now c.requires.step.long in record { x_in_bounds = (rw (c.step-x.ensures, c.read-p.ensures) (concat_flag a.s a.a.now a.b.now c.requires.step.fits c.requires.op_value a.from.now c.requires.step.source a.c c.requires.step.column), omega (arith, n, c.requires.step.fits.right.some)); pours = concat_asks a.s a.a.now a.b.now c.requires.step.fits c.requires.op_value a.from.now c.requires.step.source a.c c.requires.step.column a.members.now a.held c.requires.lists a.row.now c.requires.step.long }
 
 pub write-requires : goal.write-requires
 write-requires c =
     let a = c.args in
-    let room = concat_room a.s a.a.now a.b.now c.requires.step.fits c.requires.op_value in record { i_in_bounds = omega (arith, tail_long a.row.now c.next_flags-sum.new.1.1.1.1.1.1.1.0 (omega (arith, c.requires.step.long, room)) c.next_flags-sum.auto.flags, c.requires.step.long, room); p_bound = rw (c.step-x.ensures, c.read-p.ensures) (concat_small a.s a.a.now a.b.now c.requires.step.fits c.requires.op_value a.from.now c.requires.step.source a.c c.requires.step.column); }
+    let room = concat_room a.s a.a.now a.b.now c.requires.step.fits c.requires.op_value in record { i_in_bounds = omega (arith, tail_long a.row.now c.next_flags-sum.new.flags (omega (arith, c.requires.step.long, room)) c.next_flags-sum.auto.flags, c.requires.step.long, room); p_bound = rw (c.step-x.ensures, c.read-p.ensures) (concat_small a.s a.a.now a.b.now c.requires.step.fits c.requires.op_value a.from.now c.requires.step.source a.c c.requires.step.column) }
 
 pub with_number-requires : goal.with_number-requires
 with_number-requires c =
@@ -41,5 +41,5 @@ returns c =
     let a = c.args in
     let n = concat_tail a.s a.a.now a.b.now c.requires.step.fits c.requires.op_value a.row.now c.requires.step.long in
     let to = rw c.read-p.ensures at c.step-x.ensures in
-    let (z, y) = concat_put a.s a.a.now a.b.now c.requires.step.fits c.requires.op_value a.row.now c.next_flags-sum.new.1.1.1.1.1.1.1.0 _ c.step-x.result _ _ c.requires.step.long c.next_flags-sum.ensures.1 c.write.ensures c.with_number.ensures in
-    (concat_next a.s a.a.now a.b.now c.requires.step.fits c.requires.op_value a.from.now c.requires.step.source a.c c.requires.step.column a.members.now a.held c.requires.lists _ c.next_flags-sum.new.1.1.1.1.1.1.1.0 _ c.step-x.result n to c.next_flags-sum.ensures.0 z, y)
+    let (z, y) = concat_put a.s a.a.now a.b.now c.requires.step.fits c.requires.op_value a.row.now c.next_flags-sum.new.flags _ c.step-x.result _ _ c.requires.step.long c.next_flags-sum.ensures.1 c.write.ensures c.with_number.ensures in
+    (concat_next a.s a.a.now a.b.now c.requires.step.fits c.requires.op_value a.from.now c.requires.step.source a.c c.requires.step.column a.members.now a.held c.requires.lists _ c.next_flags-sum.new.flags _ c.step-x.result n to c.next_flags-sum.ensures.0 z, y)

@@ -16,12 +16,12 @@ slice_bounds-first_flags-start c =
 pub first_flags-sum-requires : goal.first_flags-sum-requires
 first_flags-sum-requires c =
     let n = concat_tail c.args.s c.args.a.now c.args.b.now c.requires.fits c.requires.op_value c.args.row.now c.requires.row_len in
-    record { a_nonzero = omega (arith, c.requires.fits.left.some, c.requires.fits.left.long, c.requires.fits.left.flags, c.requires.fits.right.some, c.requires.fits.right.long, c.requires.fits.right.flags); flags_nonzero = (omega (arith, n, c.requires.fits.right.some), omega (arith, n, c.requires.fits.right_small)); }
+    record { a_nonzero = omega (arith, c.requires.fits.left.some, c.requires.fits.left.long, c.requires.fits.left.flags, c.requires.fits.right.some, c.requires.fits.right.long, c.requires.fits.right.flags); flags_nonzero = (omega (arith, n, c.requires.fits.right.some), omega (arith, n, c.requires.fits.right_small)) }
 
 pub write-requires : goal.write-requires
 write-requires c =
     let room = concat_room c.args.s c.args.a.now c.args.b.now c.requires.fits c.requires.op_value in
-    record { i_in_bounds = omega (arith, tail_long c.args.row.now c.first_flags-sum.new.1.0 (omega (arith, c.requires.row_len, room)) c.first_flags-sum.auto.flags, c.requires.row_len, room); p_bound = omega arith; }
+    record { i_in_bounds = omega (arith, tail_long c.args.row.now c.first_flags-sum.new.flags (omega (arith, c.requires.row_len, room)) c.first_flags-sum.auto.flags, c.requires.row_len, room); p_bound = omega arith }
 
 pub with_number-requires : goal.with_number-requires
 with_number-requires c =
@@ -31,5 +31,5 @@ pub returns : goal.returns
 returns c =
     let a = c.args in
     let n = concat_tail a.s a.a.now a.b.now c.requires.fits c.requires.op_value a.row.now c.requires.row_len in
-    let (z, y) = concat_put a.s a.a.now a.b.now c.requires.fits c.requires.op_value a.row.now c.first_flags-sum.new.1.0 _ 0 _ _ c.requires.row_len c.first_flags-sum.ensures.1 c.write.ensures c.with_number.ensures in
-    (concat_start a.s a.a.now a.b.now c.requires.fits c.requires.op_value _ c.first_flags-sum.new.1.0 _ n c.first_flags-sum.ensures.0 z, y)
+    let (z, y) = concat_put a.s a.a.now a.b.now c.requires.fits c.requires.op_value a.row.now c.first_flags-sum.new.flags _ 0 _ _ c.requires.row_len c.first_flags-sum.ensures.1 c.write.ensures c.with_number.ensures in
+    (concat_start a.s a.a.now a.b.now c.requires.fits c.requires.op_value _ c.first_flags-sum.new.flags _ n c.first_flags-sum.ensures.0 z, y)
