@@ -15,12 +15,12 @@ lead-poured-requires c =
 pub flag-one-requires : goal.flag-one-requires
 flag-one-requires c =
     let w = star_width c.args.s c.args.a.now c.args.b.now c.requires.step.fits c.requires.op_value in
-    record { summed = c.lead-poured.ensures.summed; i_in_bounds = omega (arith, w, c.requires.step.long, c.lead-poured.auto.row); }
+    record { summed = c.lead-poured.ensures.summed; i_in_bounds = omega (arith, w, c.requires.step.long, c.lead-poured.auto.row) }
 
 pub flag-requires : goal.flag-requires
 flag-requires c =
     let w = star_width c.args.s c.args.a.now c.args.b.now c.requires.step.fits c.requires.op_value in
-    record { summed = c.flag-one.ensures.1; i_in_bounds = omega (arith, w, c.requires.step.long, c.lead-poured.auto.row, c.flag-one.auto.row); }
+    record { summed = c.flag-one.ensures.1; i_in_bounds = omega (arith, w, c.requires.step.long, c.lead-poured.auto.row, c.flag-one.auto.row) }
 
 pub returns-then-poured : goal.returns-then-poured
 returns-then-poured c =

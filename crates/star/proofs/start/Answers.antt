@@ -12,12 +12,12 @@ use Rattle.star.proofs.start.Goals as goal
 pub flag-one-requires : goal.flag-one-requires
 flag-one-requires c =
     let w = star_width c.args.s c.args.a.now c.args.b.now c.requires.fits c.requires.op_value in
-    record { summed = summed_none 0 (length c.args.row.now) _ c.clear.ensures (omega (arith, w, c.requires.row_len, c.requires.fits.left_small)); i_in_bounds = omega (arith, w, c.requires.row_len, c.clear.auto.row); }
+    record { summed = summed_none 0 (length c.args.row.now) _ c.clear.ensures (omega (arith, w, c.requires.row_len, c.requires.fits.left_small)); i_in_bounds = omega (arith, w, c.requires.row_len, c.clear.auto.row) }
 
 pub flag-requires : goal.flag-requires
 flag-requires c =
     let w = star_width c.args.s c.args.a.now c.args.b.now c.requires.fits c.requires.op_value in
-    record { summed = c.flag-one.ensures.1; i_in_bounds = omega (arith, w, c.requires.row_len, c.clear.auto.row, c.flag-one.auto.row); }
+    record { summed = c.flag-one.ensures.1; i_in_bounds = omega (arith, w, c.requires.row_len, c.clear.auto.row, c.flag-one.auto.row) }
 
 pub returns : goal.returns
 returns c =
