@@ -1,6 +1,7 @@
 // The rows of an erase: a flag for each state of A, closed under the mark, which is the last column.
 // These are parts: callers give closed tables and rows of the operation's width.
 #![tactic(auto)]
+
 ghost use Rattle.std.specs.Prelude.{◌≡◌, length};
 ghost use Rattle.rows.specs.Rows.{flag_at};
 ghost use Rattle.rows.specs.Sums.{row_sum};

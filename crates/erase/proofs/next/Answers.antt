@@ -11,9 +11,9 @@ use Rattle.erase.proofs.next.Goals as goal
 pub lead-requires : goal.lead-requires
 lead-requires c =
     let a = c.args in
-    let closes = erase_closes a.s a.a.now a.b.now c.requires.step.fits c.requires.op_value c.clear.new.0 (c.clear.auto.row ∙ c.requires.step.long) in
+    let closes = erase_closes a.s a.a.now a.b.now c.requires.step.fits c.requires.op_value c.clear.new.row (c.clear.auto.row ∙ c.requires.step.long) in
     let blank = erase_clear a.s a.a.now a.b.now c.requires.step.fits c.requires.op_value (length a.row.now) _ c.requires.step.long c.clear.ensures in
-    record { closes = closes; c_lt_k = (c.requires.step.column, c.requires.step.fits.left_small); counted = c.requires.lists.counted; row_value = blank; }
+    record { closes = closes; c_lt_k = (c.requires.step.column, c.requires.step.fits.left_small); counted = c.requires.lists.counted; row_value = blank }
 
 pub returns-then-c-k : goal.returns-then-c-k
 returns-then-c-k c =

@@ -10,7 +10,7 @@ use Rattle.erase.proofs.start.Goals as goal
 pub chase-requires : goal.chase-requires
 chase-requires c =
     let a = c.args in
-    record { closes = erase_closes a.s a.a.now a.b.now c.requires.fits c.requires.op_value c.clear.new.0 (c.clear.auto.row ∙ c.requires.row_len); p_lt_n = c.requires.fits.left.some; summed = summed_none 0 (length a.row.now) _ c.clear.ensures (omega (arith, c.requires.row_len, erase_width a.s a.a.now a.b.now c.requires.fits c.requires.op_value, c.requires.fits.left_small)); }
+    record { closes = erase_closes a.s a.a.now a.b.now c.requires.fits c.requires.op_value c.clear.new.row (c.clear.auto.row ∙ c.requires.row_len); p_lt_n = c.requires.fits.left.some; summed = summed_none 0 (length a.row.now) _ c.clear.ensures (omega (arith, c.requires.row_len, erase_width a.s a.a.now a.b.now c.requires.fits c.requires.op_value, c.requires.fits.left_small)) }
 
 pub returns : goal.returns
 returns c =
