@@ -1,6 +1,7 @@
 // The rows of `|`, `&` and `-`: a state of each operand, by its number.
 // These are parts: callers give closed tables and rows of the operation's width.
 #![tactic(auto)]
+
 ghost use Rattle.std.specs.Prelude.{◌≡◌, ◌<◌, length};
 ghost use Rattle.rows.specs.Sums.{row_sum};
 ghost use Rattle.sets.specs.Fits.{pair_answer, rows_for, Fits, Source};
