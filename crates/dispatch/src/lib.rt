@@ -1,6 +1,7 @@
 // Rows by their operation's code: the first row, a row's states, the row that one leads to, and whether a row is accepting.
 // These are parts: callers give closed tables and rows of the operation's width.
 #![tactic(auto)]
+
 ghost use Rattle.std.specs.Prelude.{◌≡◌, ◌<◌, ◌≤◌, length};
 ghost use Rattle.rows.specs.Rows.{bit};
 ghost use Rattle.rows.specs.Sums.{row_sum};
