@@ -1,5 +1,7 @@
 // The walk over a card that was tested, whole or in pieces, and the answer at its end. These are parts: what they require, one load establishes. So a plan has no
 // longest length, while the letters so far fit in 64 bits.
+#![tactic(auto)]
+
 mod columns;
 pub mod owed;
 

@@ -10,7 +10,7 @@ returns-in-At c =
 
 pub past_dead-requires : goal.past_dead-requires
 past_dead-requires c =
-    record { ready = (c.requires.0, c.requires.1); from_in_bounds = (search rules, omega (arith, c.requires.3)); state_lt_n = (c.requires.2.inside, c.requires.2.dead _ c.in-At-dead.is); }
+    record { ready = (c.requires.0, c.requires.1); from_in_bounds = (search rules, omega (arith, c.requires.3)); state_lt_n = (c.requires.2.inside, c.requires.2.dead _ c.in-At-dead.is) }
 
 pub returns-in-At-dead : goal.returns-in-At-dead
 returns-in-At-dead c =
@@ -35,7 +35,7 @@ overflow_add-letters-in-Dead c =
 pub past_dead-requires-in-Dead : goal.past_dead-requires-in-Dead
 past_dead-requires-in-Dead c =
     let d = ends_dead c.args.card.now c.args.m c.args.n c.args.plan.now c.args.run _ c.in_default.is c.in_default-dead.is c.walk_on.ensures _ _ c.in-Dead.is in
-    record { ready = (c.requires.0, c.requires.1); from_in_bounds = (d.2, omega (arith, c.requires.3, d.2)); state_lt_n = (d.0, d.1); }
+    record { ready = (c.requires.0, c.requires.1); from_in_bounds = (d.2, omega (arith, c.requires.3, d.2)); state_lt_n = (d.0, d.1) }
 
 pub overflow_add-result-in-Unknown : goal.overflow_add-result-in-Unknown
 overflow_add-result-in-Unknown c =

@@ -47,8 +47,7 @@ returns-then-marks-s-eq2 c =
     turn_dead _ _ _ c.requires.0 _ c.requires.1 _ _ _ _ c.loop-k-test.true c.loop-k.invariant.1 c.loop-k.invariant.2 (c.type_inv.plan c.loop-k.k) c.if-m-i.false _ c.moves-moves.ensures _ c.marks-marks.ensures _ c.next-s.ensures.0 c.if-marks-s-eq2.true
 
 pub loop-k-preserved : goal.loop-k-preserved
-loop-k-preserved c =
-    (
+loop-k-preserved c = (
   turn_most _ _ c.loop-k-test.true,
   turn_inside _ _ _ c.requires.0 _
       c.requires.1 _ _ _ _ c.loop-k-test.true
