@@ -1,21 +1,23 @@
 # Building: the first run's words, the manual page, the completion, installing.
 
 # A copy in which the prover and cargo are played: the words are the same, and nothing is proved.
-mkdir -p copy/crates/capi copy/pier copy/samples play
-cp "$here/build" copy/pier && cp "$top/crates.txt" copy && cp "$top"/samples/* copy/samples
+mkdir -p copy/crates/capi copy/pier copy/samples copy/tools play
+cp "$here/build" copy/pier && cp "$top/crates.txt" copy && cp "$top"/samples/* copy/samples && cp "$top/tools/library" copy/tools
 touch -d '2 hours ago' copy/crates/capi
 cat >play/rt <<'PLAY'
 #!/bin/sh
 [ "$1" = version ] && { echo "a kit"; exit 0; }
-grep -q '^capi:' crates.txt || exit 2
-for crate in $(sed -n 's/^\([a-z_]*\):.*/\1/p' crates.txt | grep -v capi | head -n "${CRATES:-1}"); do
+[ "$1" = lib ] && [ "$(basename "$PWD")" = capi ] || exit 2
+for crate in $(sed -n 's/^\([a-z_]*\)[ a-z]*:.*/\1/p' ../../crates.txt | grep -v capi | head -n "${CRATES:-1}"); do
     echo "crates/$crate/x.antt:1:1: note: large solution"
     echo "fn $crate::f: proved"
-    echo "rt: $crate proved (3 s)"
+    echo "crate $crate: modules loaded=0 checked=2"
+    echo "logic=proved functions=1"
 done
 [ -n "${FAIL:-}" ] && { echo "fn capi::f: not proved"; exit 1; }
-mkdir -p target/staticlib && echo pier_compile >target/staticlib/libcapi.a
-echo 'rt: target/staticlib/libcapi.a has the functions of capi that are marked'
+mkdir -p out && echo pier_compile >out/libcapi.a
+echo "crate capi: modules loaded=0 checked=2"
+echo "logic=proved functions=1"
 PLAY
 printf '#!/bin/sh\nmkdir -p target/release && ln -sf "%s" target/release/pier\n' "$pier" >play/cargo
 chmod +x play/rt play/cargo
