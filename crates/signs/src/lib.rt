@@ -1,5 +1,8 @@
 // The signs before and behind an item, and the code behind the code so far: `!` before an item is counted, `*`, `+` and `?` behind it are written as they
 // come, and the codes of `!` behind them. These are parts: callers lend the table of kinds and room in the buffer for what is written.
+
+#![tactic(auto)]
+
 ghost use Rattle.std.specs.Prelude.{◌+◌, ◌<◌, ◌≤◌, length};
 ghost use Rattle.lexer.specs.Kinds.{Kinds};
 ghost use Rattle.signs.specs.Spots.{Room};

@@ -1,6 +1,6 @@
 -- `signs::negate` meets its contract: the complements that are due, of what is written, stay the same expression.
 use native.Mathlib.Omega.{arith}
-use Rattle.signs.proofs.StepLaws.{Negating, negating_start, negating_turn, negating_done}
+use Rattle.signs.proofs.StepLaws.{negating_start, negating_turn, negating_done}
 use Rattle.signs.proofs.negate.Goals as goal
 
 pub loop-due-init : goal.loop-due-init

@@ -1,6 +1,5 @@
 -- `signs::negate` meets its contract: the complements that are due, of what is written, stay the same expression.
-use native.Mathlib.Omega.{arith}
-use Rattle.signs.proofs.StepLaws.{Negating, negating_start, negating_turn, negating_done}
+use Rattle.signs.proofs.StepLaws.{Negating}
 use Rattle.signs.proofs.negate.Given as goal
 
 abbrev pub invariant-loop-due : goal.invariant-loop-due

@@ -2,7 +2,6 @@
 use mathlib.Core.Path.{refl}
 use native.Mathlib.Numerals.{add-one}
 use lib.Seq.{take-suc-set}
-use borrow.Author.Rules.{rules}
 use Rattle.signs.specs.BufferLaws.{grown_byte}
 use Rattle.signs.proofs.put.Goals as goal
 

@@ -1,7 +1,6 @@
 -- `signs::put_if` meets its contract.
 use mathlib.Core.Bool.{true≢false}
 use mathlib.Core.Path.{refl, sym, ◌∙◌}
-use borrow.Author.Rules.{rules}
 use Rattle.signs.proofs.put_if.Goals as goal
 
 pub returns-then-more : goal.returns-then-more

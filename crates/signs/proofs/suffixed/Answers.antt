@@ -1,12 +1,9 @@
 -- `signs::suffixed` meets its contract: each turn writes the code of one sign.
 use mathlib.Core.Path.{refl}
-use Prim.Native.Nat.{◌-◌}
 use native.Mathlib.Omega.{arith}
-use borrow.Author.Rules.{rules}
-use lib.ListN.{length}
 use Rattle.lexer.proofs.TokenLaws.{start_kind}
 use Rattle.signs.proofs.KindLaws.{repeats_stop}
-use Rattle.signs.proofs.StepLaws.{Suffixing, suffixing_start, suffixing_spaces, suffixing_turn, suffixing_done}
+use Rattle.signs.proofs.StepLaws.{suffixing_start, suffixing_spaces, suffixing_turn, suffixing_done}
 use Rattle.signs.proofs.suffixed.Goals as goal
 
 pub loop-t-init : goal.loop-t-init
