@@ -3,6 +3,9 @@
 // the five is called from one place alone, so that they become one function in the machine code, and only a bracket is a call.
 // `choice` is a part below the entries: its caller lends the table of kinds, has counted the brackets and lends two bytes of code for each byte that
 // is left of the line.
+
+#![tactic(auto)]
+
 ghost use Rattle.lexer.specs.Kinds.{Kinds};
 ghost use Rattle.signs.specs.Spots.{Room};
 ghost use Rattle.choice.specs.Reading.{Reads, a_choice, a_blend, a_chain, an_item, an_atom};
