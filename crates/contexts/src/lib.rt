@@ -1,5 +1,8 @@
 // The contexts of a rule, and choices with codes behind them, written as code behind the code so far. Parts below an entry: callers give room there, and a
 // line whose brackets and contexts are counted already.
+
+#![tactic(auto)]
+
 ghost use Rattle.std.specs.Prelude.{[], ◌∷◌, ◌++◌, ◌+◌, ◌*◌, ◌-◌, ◌≤◌, length};
 ghost use Rattle.book.specs.Program.{context_program};
 ghost use Rattle.lexer.specs.Kinds.{Kinds};

@@ -1,5 +1,8 @@
 // The form of a later line, a definition or a rule, written as its program into a lent buffer. Parts below an entry: callers give room there, and a line
 // whose brackets and contexts are counted already.
+
+#![tactic(auto)]
+
 ghost use Rattle.std.specs.Prelude.{◌≡◌, ◌≤◌, get_or};
 ghost use Rattle.book.specs.Kind.{kind_of, equals_kind, greater_kind, underscore_kind};
 ghost use Rattle.book.specs.Text.{count_of};

@@ -1,5 +1,8 @@
 // What stands before a book's lines and behind them: the lengths of the text and the lent buffers, line 1, and the card. Parts of the compiler's entry: callers
 // give the table of kinds, and a slot that holds the book's machine.
+
+#![tactic(auto)]
+
 ghost use Rattle.std.specs.Prelude.{◌≡◌, [], ◌∷◌, ◌≤◌, length};
 ghost use Rattle.compiler.specs.Lent.{documented};
 ghost use Rattle.compiler.specs.Outcome.{enough};

@@ -1,5 +1,8 @@
 // Machines kept for later lines: a definition's in its name's slot, a rule's in the register of the book so far. These are parts: callers give buffers
 // that are long enough.
+
+#![tactic(auto)]
+
 ghost use Rattle.std.specs.Prelude.{◌+◌, ◌≤◌, ◌≡◌, true, length, get_or};
 ghost use Rattle.book.specs.Kind.{is_name};
 ghost use Rattle.slots.specs.Slot.{Written};

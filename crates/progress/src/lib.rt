@@ -1,5 +1,8 @@
 // A book in the making, as far as it is no machine: where the next line starts and its number, the names defined so far, and the most sets that a
 // stage made; and what a line and the end of the text say of it. These are parts: callers give a line's number that fits.
+
+#![tactic(auto)]
+
 ghost use Rattle.std.specs.Prelude.{◌≡◌, true, false};
 ghost use Prim.Native.Nat.{◌<◌};
 ghost use Rattle.book.specs.Kind.{is_name};
