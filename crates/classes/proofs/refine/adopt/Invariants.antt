@@ -1,11 +1,7 @@
 -- `adopt` meets its contract. The loop: the entries below i are copied, those from n on are as they were.
-use borrow.Author.Rules.{rules}
-use mathlib.Core.Path.{◌≡◌, refl, ◌∙◌}
+use mathlib.Core.Path.{◌≡◌}
 use Prim.Native.Nat.{ℕ, ◌+◌, ◌-◌, ◌≤◌, ◌<◌}
-use native.Mathlib.Omega.{arith}
-use native.Mathlib.Nat.{not-suc-le-zero}
-use lib.ListN.{length, get_or, length-set}
-use Rattle.entries.proofs.EntryLaws.{filled_more, filled_past}
+use lib.ListN.{length, get_or}
 use Rattle.classes.proofs.refine.adopt.Given as goal
 
 abbrev pub invariant-loop-i : goal.invariant-loop-i

@@ -1,27 +1,8 @@
 -- `first_other` meets its contract: the states before i answer as state 0 does.
 use borrow.Author.Count.{below_more}
-use borrow.Author.Rules.{rules}
-use mathlib.Core.Path.{◌≡◌, sym, ◌∙◌}
-use Prim.Native.Nat.{ℕ, ◌-◌, ◌≤◌, ◌<◌}
+use mathlib.Core.Path.{sym, ◌∙◌}
 use native.Mathlib.Omega.{arith}
-use Rattle.entries.specs.Entries.{flag_bit}
 use Rattle.classes.proofs.refine.first_other.Goals as goal
-
--- src/refine.rt:113:5
-
--- src/refine.rt:114:12
-
--- src/refine.rt:114:30
-
--- src/refine.rt:115:13
-
--- src/refine.rt:117:9
-
--- src/refine.rt:113:5
-
--- src/refine.rt:113:5
-
--- src/refine.rt:108:1
 
 pub returns-then-flag : goal.returns-then-flag
 returns-then-flag c =

@@ -1,9 +1,6 @@
 -- `first_other` meets its contract: the states before i answer as state 0 does.
-use borrow.Author.Count.{below_more}
-use borrow.Author.Rules.{rules}
-use mathlib.Core.Path.{◌≡◌, sym, ◌∙◌}
+use mathlib.Core.Path.{◌≡◌}
 use Prim.Native.Nat.{ℕ, ◌-◌, ◌≤◌, ◌<◌}
-use native.Mathlib.Omega.{arith}
 use Rattle.entries.specs.Entries.{flag_bit}
 use Rattle.classes.proofs.refine.first_other.Given as goal
 

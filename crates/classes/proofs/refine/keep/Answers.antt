@@ -1,5 +1,4 @@
 -- `keep` meets its contract.
-use borrow.Author.Rules.{rules}
 use Rattle.classes.proofs.PlaceLaws.{keep_both}
 use Rattle.classes.proofs.refine.keep.Goals as goal
 

@@ -1,35 +1,14 @@
 -- `part` meets its contract: the states before i have their classes.
-use borrow.Author.Rules.{rules}
-use mathlib.Core.Path.{◌≡◌, ◌∙◌}
-use Prim.Native.Nat.{ℕ, ◌-◌, ◌≤◌, ◌<◌}
+use mathlib.Core.Path.{◌∙◌}
 use native.Mathlib.Omega.{arith}
-use lib.ListN.{length, get_or}
 use Rattle.classes.specs.Refine.{side_of}
 use Rattle.entries.proofs.EntryLaws.{filled_more}
 use Rattle.classes.proofs.RefineLaws.{side_low}
 use Rattle.classes.proofs.refine.part.Goals as goal
 
--- src/refine.rt:138:9
-
--- src/refine.rt:140:5
-
--- src/refine.rt:141:22
-
--- src/refine.rt:141:9
-
--- src/refine.rt:142:9
-
--- src/refine.rt:140:5
-
--- src/refine.rt:140:5
-
--- src/refine.rt:134:1
-
--- src/refine.rt:134:1
-
 pub put-requires : goal.put-requires
 put-requires c =
-    record { i_in_bounds = omega (arith, c.loop-i.invariant.1); x_bound = omega (arith, c.side.ensures, side_low c.args.n c.args.table.now _ c.first_other-other.ensures c.loop-i.i c.loop-i-test.true); }
+    record { i_in_bounds = omega (arith, c.loop-i.invariant.1); x_bound = omega (arith, c.side.ensures, side_low c.args.n c.args.table.now _ c.first_other-other.ensures c.loop-i.i c.loop-i-test.true) }
 
 pub loop-i-preserved : goal.loop-i-preserved
 loop-i-preserved c =

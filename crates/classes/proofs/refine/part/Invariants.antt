@@ -1,12 +1,8 @@
 -- `part` meets its contract: the states before i have their classes.
-use borrow.Author.Rules.{rules}
-use mathlib.Core.Path.{◌≡◌, ◌∙◌}
+use mathlib.Core.Path.{◌≡◌}
 use Prim.Native.Nat.{ℕ, ◌-◌, ◌≤◌, ◌<◌}
-use native.Mathlib.Omega.{arith}
 use lib.ListN.{length, get_or}
 use Rattle.classes.specs.Refine.{side_of}
-use Rattle.entries.proofs.EntryLaws.{filled_more}
-use Rattle.classes.proofs.RefineLaws.{side_low}
 use Rattle.classes.proofs.refine.part.Given as goal
 
 abbrev pub invariant-loop-i : goal.invariant-loop-i

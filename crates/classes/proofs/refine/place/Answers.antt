@@ -1,7 +1,6 @@
 -- `place` meets its contract: a state that leads its class, and one that is entered under a leader.
 use mathlib.Core.Path.{refl}
 use native.Mathlib.Omega.{arith}
-use borrow.Author.Rules.{rules}
 use Rattle.leaders.proofs.RoundLaws.{class_low}
 use Rattle.classes.proofs.PlaceLaws.{place_head, place_entered}
 use Rattle.classes.proofs.refine.place.Goals as goal

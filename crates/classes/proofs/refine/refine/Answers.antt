@@ -1,10 +1,6 @@
 -- `refine` meets its contract: as many rounds as there are states, and one more, are enough.
-use borrow.Author.Rules.{rules}
-use mathlib.Core.Path.{◌≡◌, refl, ◌∙◌}
-use Prim.Native.Nat.{suc, ◌-◌}
+use mathlib.Core.Path.{refl, ◌∙◌}
 use native.Mathlib.Omega.{arith}
-use lib.ListN.{length}
-use Rattle.entries.specs.Classes.{Refining}
 use Rattle.classes.proofs.RefineLaws.{refine_starts}
 use Rattle.spread.proofs.ChangeLaws.{sized_same}
 use Rattle.classes.proofs.refine.refine.Goals as goal
@@ -19,7 +15,7 @@ loop-base-init c =
 
 pub rounds-requires : goal.rounds-requires
 rounds-requires c =
-    record { sized = sized_same _ _ _ _ _ _ c.requires (c.loop-base.invariant.1 ∙ c.part.auto.work); refining = c.loop-base.invariant.0; }
+    record { sized = sized_same _ _ _ _ _ _ c.requires (c.loop-base.invariant.1 ∙ c.part.auto.work); refining = c.loop-base.invariant.0 }
 
 pub shape_of-work-then-rounds : goal.shape_of-work-then-rounds
 shape_of-work-then-rounds c =
@@ -31,7 +27,7 @@ returns-then-rounds c =
 
 pub spread-requires : goal.spread-requires
 spread-requires c =
-    record { sized = sized_same _ _ _ _ _ _ c.requires (c.rounds.auto.work ∙ c.loop-base.invariant.1 ∙ c.part.auto.work); refining = (c.rounds.ensures.way c.if-rounds.false).0; }
+    record { sized = sized_same _ _ _ _ _ _ c.requires (c.rounds.auto.work ∙ c.loop-base.invariant.1 ∙ c.part.auto.work); refining = (c.rounds.ensures.way c.if-rounds.false).0 }
 
 pub overflow_add-most : goal.overflow_add-most
 overflow_add-most c =

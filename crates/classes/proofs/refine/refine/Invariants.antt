@@ -1,12 +1,8 @@
 -- `refine` meets its contract: as many rounds as there are states, and one more, are enough.
-use borrow.Author.Rules.{rules}
-use mathlib.Core.Path.{◌≡◌, refl, ◌∙◌}
+use mathlib.Core.Path.{◌≡◌}
 use Prim.Native.Nat.{suc, ◌-◌}
-use native.Mathlib.Omega.{arith}
 use lib.ListN.{length}
 use Rattle.entries.specs.Classes.{Refining}
-use Rattle.classes.proofs.RefineLaws.{refine_starts}
-use Rattle.spread.proofs.ChangeLaws.{sized_same}
 use Rattle.classes.proofs.refine.refine.Given as goal
 
 abbrev pub invariant-loop-base : goal.invariant-loop-base

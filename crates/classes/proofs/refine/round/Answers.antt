@@ -1,12 +1,7 @@
 -- `round` meets its contract. The loop: the states below p are placed and their leaders counted.
-use borrow.Author.Rules.{rules}
-use mathlib.Core.Path.{◌≡◌, refl, ◌∙◌}
-use Prim.Native.Nat.{◌-◌, ◌≤◌}
+use mathlib.Core.Path.{refl, ◌∙◌}
 use native.Mathlib.Omega.{arith}
-use lib.ListN.{length, take}
-use Rattle.automata.specs.Table.{table_machine}
 use Rattle.entries.specs.Classes.{next, leaders}
-use Rattle.leaders.specs.Round.{Partial}
 use Rattle.classes.proofs.RefineLaws.{round_starts, round_under, round_turns, round_ends, count_turns, leaders_le}
 use Rattle.classes.proofs.refine.round.Goals as goal
 
@@ -24,8 +19,7 @@ overflow_add-count c =
     omega (arith, c.place-count.ensures.one, leaders_le (next c.args.n c.loop-p.work) c.loop-p.p)
 
 pub loop-p-preserved : goal.loop-p-preserved
-loop-p-preserved c =
-    (
+loop-p-preserved c = (
   omega arith,
   round_turns c.requires _ _ _ _ c.loop-p.invariant.1 c.place-count.ensures,
   count_turns _ _ _ _ _ _ _ _ _ _ c.place-count.ensures c.loop-p.invariant.2 refl,

@@ -1,13 +1,10 @@
 -- `round` meets its contract. The loop: the states below p are placed and their leaders counted.
-use borrow.Author.Rules.{rules}
-use mathlib.Core.Path.{◌≡◌, refl, ◌∙◌}
+use mathlib.Core.Path.{◌≡◌}
 use Prim.Native.Nat.{◌-◌, ◌≤◌}
-use native.Mathlib.Omega.{arith}
 use lib.ListN.{length, take}
 use Rattle.automata.specs.Table.{table_machine}
 use Rattle.entries.specs.Classes.{next, leaders}
 use Rattle.leaders.specs.Round.{Partial}
-use Rattle.classes.proofs.RefineLaws.{round_starts, round_under, round_turns, round_ends, count_turns, leaders_le}
 use Rattle.classes.proofs.refine.round.Given as goal
 
 abbrev pub invariant-loop-p : goal.invariant-loop-p

@@ -1,10 +1,7 @@
 -- `rounds` meets its contract. The loop: equivalent states are in one class; the number of classes grows with each turn.
-use borrow.Author.Rules.{rules}
-use mathlib.Core.Path.{◌≡◌, refl, ◌∙◌}
-use Prim.Native.Nat.{◌-◌, ◌≤◌, zero-le}
+use mathlib.Core.Path.{refl, ◌∙◌}
+use Prim.Native.Nat.{zero-le}
 use native.Mathlib.Omega.{arith}
-use lib.ListN.{length}
-use Rattle.entries.specs.Classes.{Refining}
 use Rattle.classes.proofs.RefineLaws.{refine_begun, refine_ends, refine_grows, refine_turns, turned_done, turned_way, refine_many}
 use Rattle.classes.proofs.refine.rounds.Goals as goal
 
@@ -29,8 +26,7 @@ adopt-requires c =
     omega (arith, c.requires.sized.room, c.round-parts.auto.work, c.loop-i.invariant.3)
 
 pub loop-i-preserved : goal.loop-i-preserved
-loop-i-preserved c =
-    (
+loop-i-preserved c = (
   omega arith,
   omega (arith, c.loop-i.invariant.1, refine_grows c.requires.sized _ _ _ _ c.loop-i.invariant.3 c.loop-i.invariant.2 c.round-parts.ensures c.if-parts-count.false),
   refine_turns c.requires.sized _ _ _ _ c.loop-i.invariant.3 c.loop-i.invariant.2 c.round-parts.ensures _ c.adopt.ensures,

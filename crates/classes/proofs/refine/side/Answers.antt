@@ -1,16 +1,7 @@
 -- `side` meets its contract.
 use mathlib.Core.Path.{sym, ◌∙◌}
 use Rattle.classes.proofs.RefineLaws.{side_same, side_other}
-use borrow.Author.Rules.{rules}
 use Rattle.classes.proofs.refine.side.Goals as goal
-
--- src/refine.rt:127:8
-
--- src/refine.rt:127:26
-
--- src/refine.rt:128:9
-
--- src/refine.rt:123:1
 
 pub returns-then-flag : goal.returns-then-flag
 returns-then-flag c =

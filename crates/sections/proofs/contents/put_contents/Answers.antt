@@ -1,5 +1,4 @@
 -- `put_contents` meets its contract: six numbers, one behind the other.
-use borrow.Author.Rules.{rules}
 use Rattle.sections.proofs.LaidLaws.{laid_contents}
 use Rattle.sections.proofs.contents.put_contents.Goals as goal
 

@@ -1,11 +1,7 @@
 -- `put_letters` meets its contract: the letters below i are laid down.
 use mathlib.Core.Path.{◌≡◌, refl}
-use Prim.Native.Nat.{◌+◌, ◌≤◌, ◌-◌}
 use native.Mathlib.Omega.{arith}
-use lib.ListN.{length, get_or}
-use borrow.Author.Rules.{rules}
-use Rattle.automata.specs.Basics.{tab}
-use Rattle.sections.specs.Laid.{Laid}
+use lib.ListN.{length}
 use Rattle.sections.proofs.LaidLaws.{laid_none, laid_next, tab_get_or}
 use Rattle.sections.proofs.contents.put_letters.Goals as goal
 

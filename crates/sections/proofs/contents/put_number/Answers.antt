@@ -1,7 +1,6 @@
 -- `put_number` meets its contract.
 use native.Mathlib.Omega.{arith}
 use lib.ListN.{length-set}
-use borrow.Author.Rules.{rules}
 use Rattle.sections.proofs.LaidLaws.{laid_two}
 use Rattle.sections.proofs.contents.put_number.Goals as goal
 

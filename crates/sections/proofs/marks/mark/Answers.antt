@@ -1,11 +1,9 @@
 -- `mark` meets its contract: the letters below c lead back to the state.
 use mathlib.Core.Path.{sym, ◌∙◌}
-use Prim.Native.Nat.{◌≤◌, ◌-◌}
 use native.Mathlib.Omega.{arith}
-use borrow.Author.Rules.{rules}
 use Rattle.sections.specs.StateMark.{accepts}
 use Rattle.numbering.proofs.NumberLaws.{row_of}
-use Rattle.sections.proofs.MarkLaws.{flag_set, StaysUpto, stays_start, stays_next, mark_stays, mark_leaves}
+use Rattle.sections.proofs.MarkLaws.{flag_set, stays_start, stays_next, mark_stays, mark_leaves}
 use Rattle.sections.proofs.marks.mark.Goals as goal
 
 pub bounds-slot-s : goal.bounds-slot-s

@@ -1,11 +1,8 @@
 -- `put_marks` meets its contract: the marks bytes of the states below i are laid down.
 use mathlib.Core.Path.{◌≡◌}
-use Prim.Native.Nat.{◌+◌, ◌≤◌, ◌-◌}
+use Prim.Native.Nat.{◌+◌}
 use native.Mathlib.Omega.{arith}
-use lib.ListN.{length, get_or}
-use borrow.Author.Rules.{rules}
-use Rattle.automata.specs.Basics.{tab}
-use Rattle.sections.specs.Laid.{Laid}
+use lib.ListN.{length}
 use Rattle.sections.specs.Parts.{mark_bytes}
 use Rattle.sections.proofs.LaidLaws.{laid_none, laid_next, tab_get_or}
 use Rattle.sections.proofs.RestrictLaws.{order_state, count_few}
@@ -22,7 +19,7 @@ bounds-order-i c =
 
 pub mark-requires : goal.mark-requires
 mark-requires c =
-    record { closed_table = c.requires.kept.closed; s_lt_n = order_state _ _ _ c.requires.kept.closed _ _ c.requires.ordered _ _ c.loop-i-test.true c.wide-s.ensures; }
+    record { closed_table = c.requires.kept.closed; s_lt_n = order_state _ _ _ c.requires.kept.closed _ _ c.requires.ordered _ _ c.loop-i-test.true c.wide-s.ensures }
 
 pub overflow_add-card : goal.overflow_add-card
 overflow_add-card c =
@@ -33,8 +30,7 @@ bounds-card-at c =
     omega (arith, c.requires.count_in_bounds, c.loop-i.invariant.1.long)
 
 pub loop-i-preserved : goal.loop-i-preserved
-loop-i-preserved c =
-    (
+loop-i-preserved c = (
   omega arith,
   laid_next _ _ _ _ _ _ c.loop-i.invariant.1 (omega (arith, c.requires.count_in_bounds, c.loop-i.invariant.1.long)) (mark_right _ _ _ c.requires.kept _ _ c.requires.ordered _ _ c.loop-i-test.true c.wide-s.ensures _ c.mark.ensures),
 )

@@ -1,13 +1,11 @@
 -- `put_moves` meets its contract: the rows of the states below i are laid down.
 use mathlib.Core.Path.{◌≡◌}
-use Prim.Native.Nat.{◌+◌, ◌*◌, ◌≤◌, ◌-◌}
+use Prim.Native.Nat.{◌+◌, ◌*◌}
 use native.Mathlib.Nat.{zero-mul}
 use native.Mathlib.Omega.{arith}
-use borrow.Author.Rules.{rules}
-use Rattle.sections.specs.Laid.{Laid}
 use Rattle.numbering.proofs.NumberLaws.{row_of}
 use Rattle.sections.proofs.RestrictLaws.{order_state}
-use Rattle.sections.proofs.MoveLaws.{rows_upto, rows_start, rows_next, rows_end, rows_place, rows_room}
+use Rattle.sections.proofs.MoveLaws.{rows_start, rows_next, rows_end, rows_place, rows_room}
 use Rattle.sections.proofs.moves.put_moves.Goals as goal
 
 pub loop-i-init : goal.loop-i-init
@@ -32,15 +30,14 @@ overflow_add-s c =
 
 pub put_row-requires : goal.put_row-requires
 put_row-requires c =
-    record { row = row_of _ _ _ c.requires.arranged.closed _ (order_state _ _ _ c.requires.arranged.closed _ _ c.requires.arranged.ordered _ _ c.loop-i-test.true c.wide-s.ensures); m_in_bounds = omega (arith, c.requires.m_in_bounds, c.loop-i.invariant.1, c.loop-i.invariant.2.long, rows_room c.args.m c.loop-i.i c.args.count c.loop-i-test.true); }
+    record { row = row_of _ _ _ c.requires.arranged.closed _ (order_state _ _ _ c.requires.arranged.closed _ _ c.requires.arranged.ordered _ _ c.loop-i-test.true c.wide-s.ensures); m_in_bounds = omega (arith, c.requires.m_in_bounds, c.loop-i.invariant.1, c.loop-i.invariant.2.long, rows_room c.args.m c.loop-i.i c.args.count c.loop-i-test.true) }
 
 pub overflow_add-to-in-loop-i : goal.overflow_add-to-in-loop-i
 overflow_add-to-in-loop-i c =
     omega (arith, c.requires.m_in_bounds, c.loop-i.invariant.1, rows_room c.args.m c.loop-i.i c.args.count c.loop-i-test.true)
 
 pub loop-i-preserved : goal.loop-i-preserved
-loop-i-preserved c =
-    (
+loop-i-preserved c = (
   omega arith,
   omega (arith, c.loop-i.invariant.1, rows_place c.args.m c.loop-i.i),
   rows_next _ _ _ _ _ _ _ _ _ _ _ c.wide-s.ensures c.loop-i.invariant.2 c.put_row.ensures,

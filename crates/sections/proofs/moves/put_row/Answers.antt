@@ -1,11 +1,8 @@
 -- `put_row` meets its contract: the moves of the letters below c are laid down.
 use mathlib.Core.Path.{◌≡◌, ap}
-use Prim.Native.Nat.{◌+◌, ◌≤◌, ◌-◌}
+use Prim.Native.Nat.{◌+◌}
 use native.Mathlib.Omega.{arith}
 use lib.ListN.{get_or}
-use borrow.Author.Rules.{rules}
-use Rattle.sections.specs.Laid.{Laid}
-use Rattle.sections.specs.Parts.{row_bytes}
 use Rattle.sections.proofs.LaidLaws.{laid_none, laid_next}
 use Rattle.sections.proofs.moves.put_row.Goals as goal
 
@@ -30,8 +27,7 @@ bounds-card-to c =
     omega (arith, c.loop-c.invariant.1.long)
 
 pub loop-c-preserved : goal.loop-c-preserved
-loop-c-preserved c =
-    (
+loop-c-preserved c = (
   omega arith,
   laid_next _ _ _ _ _ _ c.loop-c.invariant.1 (omega (arith, c.loop-c.invariant.1.long)) (ap (λ x. get_or c.args.number.now x 0) c.wide-s.ensures),
 )

@@ -1,12 +1,7 @@
 -- `put_row` meets its contract: the moves of the letters below c are laid down.
-use mathlib.Core.Path.{◌≡◌, ap}
 use Prim.Native.Nat.{◌+◌, ◌≤◌, ◌-◌}
-use native.Mathlib.Omega.{arith}
-use lib.ListN.{get_or}
-use borrow.Author.Rules.{rules}
 use Rattle.sections.specs.Laid.{Laid}
 use Rattle.sections.specs.Parts.{row_bytes}
-use Rattle.sections.proofs.LaidLaws.{laid_none, laid_next}
 use Rattle.sections.proofs.moves.put_row.Given as goal
 
 abbrev pub invariant-loop-c : goal.invariant-loop-c
