@@ -1,4 +1,6 @@
 // Tests 22 to 26 of a card whose contents are right, in their order. Parts for the board: they have requires, and are no entries.
+#![tactic(auto)]
+
 mod numbering;
 
 ghost use Rattle.std.specs.Prelude.{◌≡◌, length};

@@ -28,8 +28,7 @@ overflow_add-at c =
     omega (arith, rows_room _ c.args.marks.now _ _ _ _ c.loop-p.invariant.4 (omega arith) c.requires.long)
 
 pub loop-p-preserved : goal.loop-p-preserved
-loop-p-preserved c =
-    (
+loop-p-preserved c = (
   omega arith,
   omega arith,
   omega arith,

@@ -1,10 +1,10 @@
 -- `row` meets its contract: the invariant says how many states are seen after the first i moves.
-use mathlib.Core.Logic.{⊎_elim}
 use Prim.Native.Nat.{◌+◌, ◌≤◌, ◌-◌}
 use native.Mathlib.Omega.{arith}
 use borrow.Author.Rules.{rules}
 use Rattle.loading.proofs.RowLaws.{RowUpto, row_start, row_next, row_skips, row_done}
 use Rattle.loading.proofs.numbering.row.Goals as goal
+use Rattle.loading.proofs.numbering.row.Goals.{then-t-s, else-t-s}
 
 pub loop-i-init : goal.loop-i-init
 loop-i-init c =
@@ -21,10 +21,10 @@ returns-then-s-t c =
 pub loop-i-preserved : goal.loop-i-preserved
 loop-i-preserved c =
     let v = c.loop-i.invariant.3 in
-    ⊎_elim
-    (λ w. (omega arith, omega (arith, w.1), omega (arith, w.1, c.type_inv.moves (c.args.at + c.loop-i.i)), row_next _ _ _ _ _ v _ c.if-s-t.false (omega (arith, w.1, w.0.taken))))
-    (λ w. (omega arith, omega (arith, w.1), omega (arith, w.1), row_next _ _ _ _ _ v _ c.if-s-t.false (omega (arith, w.1, w.0.left, c.if-s-t.false))))
-    c.if-t-s.branch
+    elim c.if-t-s.branch [
+      | then-t-s w ↦ (omega arith, omega (arith, w.s-is), omega (arith, w.s-is, c.type_inv.moves (c.args.at + c.loop-i.i)), row_next _ _ _ _ _ v _ c.if-s-t.false (omega (arith, w.s-is, w.if-t-s.true)))
+      | else-t-s w ↦ (omega arith, omega (arith, w.s-is), omega (arith, w.s-is), row_next _ _ _ _ _ v _ c.if-s-t.false (omega (arith, w.s-is, w.if-t-s.false, c.if-s-t.false)))
+    ]
 
 pub returns : goal.returns
 returns c =
