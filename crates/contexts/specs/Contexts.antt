@@ -1,5 +1,5 @@
 -- What the functions that read a rule's contexts promise: the contexts of the definitions, and their code in the lent buffer, past which nothing changed.
-use Rattle.std.specs.Prelude.{◌≡◌, List, [], ◌∷◌, ◌++◌, ℕ, suc, ◌+◌, ◌*◌, ◌-◌, ◌≤◌, length, take}
+use Rattle.std.specs.Prelude.{◌≡◌, List, [], ◌++◌, ℕ, suc, ◌+◌, ◌*◌, ◌-◌, ◌≤◌, length, take}
 use Rattle.automata.specs.Stages.{Pairing}
 use Rattle.language.specs.Restriction.{RuleKind, Enough}
 use Rattle.language.specs.Expression.{Expr}

@@ -9,14 +9,6 @@ pub choice-requires : goal.choice-requires
 choice-requires c =
     (c.requires.kinds, omega (arith, c.requires.row_in_bounds))
 
-pub enum_known-n : goal.enum_known-n
-enum_known-n c =
-    c.in-Done.keys1
-
-pub enum_told-1 : goal.enum_told-1
-enum_told-1 c =
-    c.in_default.keys2
-
 pub shape_of-out-in_default : goal.shape_of-out-in_default
 shape_of-out-in_default c =
     c.choice.auto.out

@@ -1,12 +1,8 @@
 -- `contexts::contexts` meets its contract: as the loop passes a context, what is left of the rule's form stays the same.
-use mathlib.Core.Path.{◌≡◌, refl, ◌∙◌}
-use Prim.Native.Nat.{◌-◌}
+use mathlib.Core.Path.{refl, ◌∙◌}
 use native.Mathlib.Omega.{arith}
-use lib.ListN.{length}
 use Rattle.lexer.proofs.TokenLaws.{past_token, past_end}
-use Rattle.signs.specs.Buffer.{Grown}
 use Rattle.signs.specs.BufferLaws.{grown_none, grown_more}
-use Rattle.contexts.specs.Contexts.{MayEnd}
 use Rattle.contexts.proofs.ContextLaws.{may_end, further_other, further_half, further_next, context_to, context_not, slash_token}
 use Rattle.contexts.proofs.contexts.Goals as goal
 
@@ -38,15 +34,7 @@ pub further-requires : goal.further-requires
 further-requires c =
     let d = c.loop-t.invariant.0.ruled in
     let x = c.token-t.ensures.token (slash_token _ c.if-k-ne-SLASH_KIND.false) in
-    record { kinds = c.requires.kinds; context_program_in_bounds = omega (arith, d.room, d.few, x.falls); }
-
-pub enum_known-n : goal.enum_known-n
-enum_known-n c =
-    c.in-Done.keys1
-
-pub enum_told-1 : goal.enum_told-1
-enum_told-1 c =
-    c.in_default.keys2
+    record { kinds = c.requires.kinds; context_program_in_bounds = omega (arith, d.room, d.few, x.falls) }
 
 pub shape_of-out-in_default : goal.shape_of-out-in_default
 shape_of-out-in_default c =

@@ -1,13 +1,9 @@
 -- `contexts::contexts` meets its contract: as the loop passes a context, what is left of the rule's form stays the same.
-use mathlib.Core.Path.{◌≡◌, refl, ◌∙◌}
+use mathlib.Core.Path.{◌≡◌}
 use Prim.Native.Nat.{◌-◌}
-use native.Mathlib.Omega.{arith}
 use lib.ListN.{length}
-use Rattle.lexer.proofs.TokenLaws.{past_token, past_end}
 use Rattle.signs.specs.Buffer.{Grown}
-use Rattle.signs.specs.BufferLaws.{grown_none, grown_more}
 use Rattle.contexts.specs.Contexts.{MayEnd}
-use Rattle.contexts.proofs.ContextLaws.{may_end, further_other, further_half, further_next, context_to, context_not, slash_token}
 use Rattle.contexts.proofs.contexts.Given as goal
 
 abbrev pub invariant-loop-t : goal.invariant-loop-t

@@ -6,15 +6,7 @@ use Rattle.contexts.proofs.further.Goals as goal
 
 pub context-requires : goal.context-requires
 context-requires c =
-    record { kinds = c.requires.kinds; context_program_in_bounds = omega (arith, c.requires.context_program_in_bounds); }
-
-pub enum_known-n : goal.enum_known-n
-enum_known-n c =
-    c.in-Done.keys1
-
-pub enum_told-1 : goal.enum_told-1
-enum_told-1 c =
-    c.in_default.keys2
+    record { kinds = c.requires.kinds; context_program_in_bounds = omega (arith, c.requires.context_program_in_bounds) }
 
 pub shape_of-out-in_default : goal.shape_of-out-in_default
 shape_of-out-in_default c =

@@ -1,8 +1,7 @@
 -- `contexts::put_row` meets its contract: the codes passed stand behind the code so far.
 use Prim.Native.Nat.{◌-◌}
-use borrow.Author.Rules.{rules}
 use lib.ListN.{length}
-use Rattle.contexts.proofs.ContextLaws.{Filled, row_start, row_next, row_end}
+use Rattle.contexts.proofs.ContextLaws.{Filled}
 use Rattle.contexts.proofs.put_row.Given as goal
 
 abbrev pub invariant-loop-i : goal.invariant-loop-i

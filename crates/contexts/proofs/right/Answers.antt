@@ -19,7 +19,7 @@ slice_bounds-choice_then-end c =
 pub choice_then-requires : goal.choice_then-requires
 choice_then-requires c =
     let x = c.token-t.ensures.token (λ e. omega arith) in
-    record { kinds = c.requires.kinds; row_in_bounds = omega (arith, x.falls, c.requires.context_program_in_bounds); }
+    record { kinds = c.requires.kinds; row_in_bounds = omega (arith, x.falls, c.requires.context_program_in_bounds) }
 
 pub shape_of-out : goal.shape_of-out
 shape_of-out c =
