@@ -1,5 +1,6 @@
 // Transitions that repeat an earlier one, so that nothing is made or looked up for them. These are parts: callers give closed tables.
 #![tactic(auto)]
+
 mod before;
 pub mod columns;
 

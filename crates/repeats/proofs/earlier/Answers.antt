@@ -18,7 +18,7 @@ returns-then-column-eq0 c =
 
 pub same-requires : goal.same-requires
 same-requires c =
-    let a = c.args in record { looks = earlier_looks a.s a.a.now a.b.now a.rows.now a.held a.members.now a.state a.column a.q c.requires.asking (omega (arith, c.if-column-eq0.false)); listed = earlier_listed a.s a.a.now a.b.now a.rows.now a.held a.members.now a.state a.column a.q c.requires.asking; }
+    let a = c.args in record { looks = earlier_looks a.s a.a.now a.b.now a.rows.now a.held a.members.now a.state a.column a.q c.requires.asking (omega (arith, c.if-column-eq0.false)); listed = earlier_listed a.s a.a.now a.b.now a.rows.now a.held a.members.now a.state a.column a.q c.requires.asking }
 
 pub returns-then-same : goal.returns-then-same
 returns-then-same c =

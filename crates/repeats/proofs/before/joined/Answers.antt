@@ -15,7 +15,7 @@ state-requires c =
 
 pub listed-requires : goal.listed-requires
 listed-requires c =
-    record { closed_table = c.requires.looks.fits.right; c_nonzero = (c.requires.looks.some, c.requires.looks.column); counted = (rw c.requires.op_value at c.requires.listed).counted; }
+    record { closed_table = c.requires.looks.fits.right; c_nonzero = (c.requires.looks.some, c.requires.looks.column); counted = (rw c.requires.op_value at c.requires.listed).counted }
 
 pub returns-then-state : goal.returns-then-state
 returns-then-state c =

@@ -11,7 +11,7 @@ returns-then-held-gt-FEW c =
 
 pub joined-requires : goal.joined-requires
 joined-requires c =
-    record { looks = c.requires.looks; op_value = is_concatenation c.args.s.op c.if-op-eq3.true; listed = c.requires.listed; }
+    record { looks = c.requires.looks; op_value = is_concatenation c.args.s.op c.if-op-eq3.true; listed = c.requires.listed }
 
 pub returns-then-c-k : goal.returns-then-c-k
 returns-then-c-k c =
@@ -19,7 +19,7 @@ returns-then-c-k c =
 
 pub listed-requires : goal.listed-requires
 listed-requires c =
-    let a = c.args in record { closed_table = c.requires.looks.fits.left; c_nonzero = (c.requires.looks.some, c.requires.looks.column); counted = (flags_listed a.s.op a.s.na a.s.nb a.held a.from.now a.members.now c.if-op-lt3.false c.if-op-eq3.false c.requires.listed).counted; }
+    let a = c.args in record { closed_table = c.requires.looks.fits.left; c_nonzero = (c.requires.looks.some, c.requires.looks.column); counted = (flags_listed a.s.op a.s.na a.s.nb a.held a.from.now a.members.now c.if-op-lt3.false c.if-op-eq3.false c.requires.listed).counted }
 
 pub returns : goal.returns
 returns c =
