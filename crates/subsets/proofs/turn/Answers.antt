@@ -21,20 +21,20 @@ slice_bounds-next_row-end c =
 
 pub next_row-sum-requires : goal.next_row-sum-requires
 next_row-sum-requires c =
-    let a = c.args in record { step = turn_step a.s a.a.now a.b.now a.rows.now a.row.now a.table.now a.heads.now a.count a.state a.column a.q c.requires.turning; le_op = c.requires.le_op; listed = rw (row_part a.s.w a.state a.rows.now) c.requires.listed; }
+    let a = c.args in record { step = turn_step a.s a.a.now a.b.now a.rows.now a.row.now a.table.now a.heads.now a.count a.state a.column a.q c.requires.turning; le_op = c.requires.le_op; listed = rw (row_part a.s.w a.state a.rows.now) c.requires.listed }
 
 pub find-requires : goal.find-requires
 find-requires c =
     let a = c.args in
-    record { w_in_bounds = turn_rows a.s a.a.now a.b.now a.rows.now a.row.now a.table.now a.heads.now a.count a.state a.column a.q c.requires.turning; count_in_bounds = (turn_links a.s a.a.now a.b.now a.rows.now a.row.now a.table.now a.heads.now a.count a.state a.column a.q c.requires.turning, c.next_row-sum.auto.row ∙ c.requires.turning.room.row_long); chained = c.requires.turning.partial.chained; h_value = (hash_is _ c.next_row-sum.result _ c.next_row-sum.ensures.1 c.hash-h.ensures.0, c.hash-h.ensures.1); }
+    record { w_in_bounds = turn_rows a.s a.a.now a.b.now a.rows.now a.row.now a.table.now a.heads.now a.count a.state a.column a.q c.requires.turning; count_in_bounds = (turn_links a.s a.a.now a.b.now a.rows.now a.row.now a.table.now a.heads.now a.count a.state a.column a.q c.requires.turning, c.next_row-sum.auto.row ∙ c.requires.turning.room.row_long); chained = c.requires.turning.partial.chained; h_value = (hash_is _ c.next_row-sum.result _ c.next_row-sum.ensures.1 c.hash-h.ensures.0, c.hash-h.ensures.1) }
 
 pub append-requires : goal.append-requires
 append-requires c =
-    let a = c.args in record { row_len = c.next_row-sum.auto.row ∙ c.requires.turning.room.row_long; w_in_bounds = turn_append a.s a.a.now a.b.now a.rows.now a.row.now a.table.now a.heads.now a.count a.state a.column a.q c.requires.turning c.if-count-limit.true; }
+    let a = c.args in record { row_len = c.next_row-sum.auto.row ∙ c.requires.turning.room.row_long; w_in_bounds = turn_append a.s a.a.now a.b.now a.rows.now a.row.now a.table.now a.heads.now a.count a.state a.column a.q c.requires.turning c.if-count-limit.true }
 
 pub chain-requires : goal.chain-requires
 chain-requires c =
-    let a = c.args in record { count_in_bounds = (omega (arith, turn_cell a.s a.a.now a.b.now a.rows.now a.row.now a.table.now a.heads.now a.count a.state a.column a.q c.requires.turning, c.if-count-limit.true), omega (arith, c.if-count-limit.true, c.requires.turning.room.small)); h_bound = (c.hash-h.ensures.1, c.requires.turning.partial.heads_long); }
+    let a = c.args in record { count_in_bounds = (omega (arith, turn_cell a.s a.a.now a.b.now a.rows.now a.row.now a.table.now a.heads.now a.count a.state a.column a.q c.requires.turning, c.if-count-limit.true), omega (arith, c.if-count-limit.true, c.requires.turning.room.small)); h_bound = (c.hash-h.ensures.1, c.requires.turning.partial.heads_long) }
 
 pub bounds-table-limit-then-count-limit : goal.bounds-table-limit-then-count-limit
 bounds-table-limit-then-count-limit c =
