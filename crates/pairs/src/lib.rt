@@ -1,6 +1,7 @@
 // One transition of a stage whose sets are pairs: the pair that it leads to is made, looked up, and put behind the others where it is new.
 // These are parts: callers give closed tables and buffers that are long enough.
 #![tactic(auto)]
+
 ghost use Rattle.std.specs.Prelude.{◌≡◌, ◌<◌};
 ghost use Rattle.rows.specs.Rows.{row_at};
 ghost use Rattle.sets.specs.Fits.{rows_for};
