@@ -1,6 +1,7 @@
 // What is read off the rows of a stage: a row's states, listed, and the rows' flags, laid out. These are parts: callers give closed tables and buffers
 // that are long enough.
 #![tactic(auto)]
+
 ghost use Rattle.std.specs.Prelude.{◌≡◌, ◌+◌, ◌*◌, ◌<◌, ◌≤◌, length};
 ghost use Rattle.rows.specs.Rows.{row_at};
 ghost use Rattle.sets.specs.Fits.{Listed, Listing, rows_for, RowFits};

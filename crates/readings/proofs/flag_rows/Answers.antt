@@ -35,7 +35,7 @@ flag-requires c =
     let args = c.args in
     let pre = c.requires in
     let loop = c.loop-p in
-    record { fits = pre.fits; source = row_source args.s args.rows.now loop.p (flagging_row args.s args.a.now args.b.now args.count args.rows.now args.table.now pre loop.p c.loop-p-test.true) (pre.sources loop.p c.loop-p-test.true); }
+    record { fits = pre.fits; source = row_source args.s args.rows.now loop.p (flagging_row args.s args.a.now args.b.now args.count args.rows.now args.table.now pre loop.p c.loop-p-test.true) (pre.sources loop.p c.loop-p-test.true) }
 
 pub bounds-table-p : goal.bounds-table-p
 bounds-table-p c =

@@ -10,7 +10,7 @@ returns-then-column-gt0 c =
 
 pub gather-requires : goal.gather-requires
 gather-requires c =
-    record { w_value = c.requires.w_value; source = row_source c.args.s c.args.rows.now c.args.state c.requires.w_in_bounds.0 c.requires.w_in_bounds.1; listing = c.requires.listing; }
+    record { w_value = c.requires.w_value; source = row_source c.args.s c.args.rows.now c.args.state c.requires.w_in_bounds.0 c.requires.w_in_bounds.1; listing = c.requires.listing }
 
 pub returns : goal.returns
 returns c =
