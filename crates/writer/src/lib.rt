@@ -1,4 +1,6 @@
 // The card writer: from the kept machine over letters and mark to the card's bytes. Parts for the compiler: they have requires, and are no entries.
+#![tactic(auto)]
+
 ghost use Rattle.std.specs.Prelude.{length};
 ghost use Rattle.writer.specs.Written.{Kept, Written, kept_card};
 

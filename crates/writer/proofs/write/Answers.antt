@@ -1,6 +1,5 @@
 -- `write` meets its contract: the length is the card's, and the parts, one behind the other, are the card.
 use native.Mathlib.Omega.{arith}
-use borrow.Author.Rules.{rules}
 use Rattle.writer.proofs.WriteLaws.{count_small, write_short, write_full}
 use Rattle.writer.proofs.write.Goals as goal
 
@@ -18,7 +17,7 @@ returns-then-card-length c =
 
 pub put_marks-requires : goal.put_marks-requires
 put_marks-requires c =
-    record { kept = c.requires; ordered = c.number-count.ensures.ordered; count_in_bounds = omega (arith, c.if-card-length.false, c.put_contents.ensures.long, c.put_letters.ensures.long); }
+    record { kept = c.requires; ordered = c.number-count.ensures.ordered; count_in_bounds = omega (arith, c.if-card-length.false, c.put_contents.ensures.long, c.put_letters.ensures.long) }
 
 pub returns : goal.returns
 returns c =
