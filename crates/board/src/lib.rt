@@ -1,5 +1,7 @@
 // The board: it knows a card's layout and nothing else, and is lent no work buffer. Its entries ask nothing of the caller: they answer every row of
 // bytes, state, letter and plan.
+#![tactic(auto)]
+
 ghost use Rattle.std.specs.Prelude.{◌≡◌, ◌<◌};
 ghost use Rattle.automata.specs.Format.{narrow};
 ghost use Rattle.card.specs.Answer.{load as load_of};

@@ -26,12 +26,11 @@ next-next-requires c =
     move_room _ _ _ c.requires _ _ c.if-n-state.false c.if-m-i.false _ c.moves.ensures
 
 pub landing-requires : goal.landing-requires
-landing-requires c =
-    (
-      c.requires,
-      step_inside _ _ _ c.requires c.args.state c.args.letter _ _ c.letters.ensures c.column-i.ensures c.if-m-i.false c.if-n-state.false
-          _ c.moves.ensures _ c.next-next.ensures.0,
-    )
+landing-requires c = (
+  c.requires,
+  step_inside _ _ _ c.requires c.args.state c.args.letter _ _ c.letters.ensures c.column-i.ensures c.if-m-i.false c.if-n-state.false
+      _ c.moves.ensures _ c.next-next.ensures.0,
+)
 
 pub returns : goal.returns
 returns c =
