@@ -1,5 +1,7 @@
 // Many plans on one card: the lines of lent bytes, judged one after the other. The card is tested once, and its tables of columns and of letters owed are made
 // once.
+#![tactic(auto)]
+
 ghost use Rattle.std.specs.Prelude.{◌≡◌, ◌∷◌, [], ◌+◌, ◌≤◌, length};
 ghost use Rattle.std.proofs.lemmas.List.Edits.{sets};
 ghost use Rattle.automata.specs.Format.{narrow};

@@ -36,7 +36,8 @@ put_answer-requires c =
 
 pub overflow_add-count : goal.overflow_add-count
 overflow_add-count c =
-    upto_count _ _ _ _ _ _ _ c.loop-from.invariant (add_at c)
+    upto_count _ _ _ _ _ _ _ c.loop-from.invariant
+    (omega (arith, c.if-room-lt3.false, c.loop-from.invariant.room, upto_length _ _ _ _ _ _ _ c.loop-from.invariant))
 
 pub overflow_add-at : goal.overflow_add-at
 overflow_add-at c =
