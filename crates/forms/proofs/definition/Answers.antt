@@ -18,14 +18,6 @@ choice-requires c =
     let x = c.token-t.ensures.token (λ e. omega arith) in
     (c.requires.kinds, omega (arith, x.falls, c.requires.room))
 
-pub enum_known-n : goal.enum_known-n
-enum_known-n c =
-    c.in-Done.keys1
-
-pub enum_told-1 : goal.enum_told-1
-enum_told-1 c =
-    c.in_default.keys2
-
 pub shape_of-out-in_default : goal.shape_of-out-in_default
 shape_of-out-in_default c =
     c.choice.auto.out

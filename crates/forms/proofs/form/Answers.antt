@@ -1,6 +1,5 @@
 -- `forms::form` meets its contract, by the kind of the line's first byte.
 use mathlib.Core.Path.{refl, sym, ◌∙◌}
-use borrow.Author.Rules.{rules}
 use Rattle.language.specs.Restriction.{forbids, obliges}
 use Rattle.forms.proofs.FormLaws.{form_empty, form_neither}
 use Rattle.forms.proofs.form.Goals as goal
@@ -15,7 +14,7 @@ kind-k-requires c =
 
 pub definition-requires : goal.definition-requires
 definition-requires c =
-    record { kinds = c.requires.kinds; room = c.requires.room; line_value = sym c.kind-k.ensures ∙ c.if-k-eq-EQUALS_KIND.true; }
+    record { kinds = c.requires.kinds; room = c.requires.room; line_value = sym c.kind-k.ensures ∙ c.if-k-eq-EQUALS_KIND.true }
 
 pub shape_of-out-then-k-eq-EQUALS_KIND : goal.shape_of-out-then-k-eq-EQUALS_KIND
 shape_of-out-then-k-eq-EQUALS_KIND c =
@@ -27,7 +26,7 @@ returns-then-k-eq-EQUALS_KIND c =
 
 pub rule-requires : goal.rule-requires
 rule-requires c =
-    record { kinds = c.requires.kinds; room = c.requires.room; line_value = sym c.kind-k.ensures ∙ c.if-k-eq-GREATER_KIND.true; line_bound = c.requires.line_bound; }
+    record { kinds = c.requires.kinds; room = c.requires.room; line_value = sym c.kind-k.ensures ∙ c.if-k-eq-GREATER_KIND.true; line_bound = c.requires.line_bound }
 
 pub shape_of-out-then-k-eq-GREATER_KIND : goal.shape_of-out-then-k-eq-GREATER_KIND
 shape_of-out-then-k-eq-GREATER_KIND c =
@@ -43,7 +42,7 @@ slice_bounds-sister-end c =
 
 pub sister-requires : goal.sister-requires
 sister-requires c =
-    record { kinds = c.requires.kinds; room = c.requires.room; sister = record { kind = forbids; needs = refl; sign = sym c.kind-k.ensures ∙ c.if-k-eq-LESS_KIND.true; row_is = refl }; line_bound = c.requires.line_bound; }
+    record { kinds = c.requires.kinds; room = c.requires.room; sister = record { kind = forbids; needs = refl; sign = sym c.kind-k.ensures ∙ c.if-k-eq-LESS_KIND.true; row_is = refl }; line_bound = c.requires.line_bound }
 
 pub shape_of-out-then-k-eq-LESS_KIND : goal.shape_of-out-then-k-eq-LESS_KIND
 shape_of-out-then-k-eq-LESS_KIND c =
@@ -59,7 +58,7 @@ slice_bounds-sister-end-then-k-eq-CARET_KIND c =
 
 pub sister-requires-then-k-eq-CARET_KIND : goal.sister-requires-then-k-eq-CARET_KIND
 sister-requires-then-k-eq-CARET_KIND c =
-    record { kinds = c.requires.kinds; room = c.requires.room; sister = record { kind = obliges; needs = refl; sign = sym c.kind-k.ensures ∙ c.if-k-eq-CARET_KIND.true; row_is = refl }; line_bound = c.requires.line_bound; }
+    record { kinds = c.requires.kinds; room = c.requires.room; sister = record { kind = obliges; needs = refl; sign = sym c.kind-k.ensures ∙ c.if-k-eq-CARET_KIND.true; row_is = refl }; line_bound = c.requires.line_bound }
 
 pub shape_of-out-then-k-eq-CARET_KIND : goal.shape_of-out-then-k-eq-CARET_KIND
 shape_of-out-then-k-eq-CARET_KIND c =

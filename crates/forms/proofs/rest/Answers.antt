@@ -8,14 +8,6 @@ pub contexts-requires : goal.contexts-requires
 contexts-requires c =
     c.requires
 
-pub enum_known-n : goal.enum_known-n
-enum_known-n c =
-    c.in-Done.keys1
-
-pub enum_told-1 : goal.enum_told-1
-enum_told-1 c =
-    c.in_default.keys2
-
 pub shape_of-out-in_default : goal.shape_of-out-in_default
 shape_of-out-in_default c =
     c.contexts.auto.out

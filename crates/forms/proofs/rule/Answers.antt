@@ -11,15 +11,7 @@ slice_bounds-choice_then-end c =
 
 pub choice_then-requires : goal.choice_then-requires
 choice_then-requires c =
-    record { kinds = c.requires.kinds; row_in_bounds = omega (arith, c.requires.room); }
-
-pub enum_known-p : goal.enum_known-p
-enum_known-p c =
-    c.in-Done.keys1
-
-pub enum_told-1 : goal.enum_told-1
-enum_told-1 c =
-    c.in_default.keys2
+    record { kinds = c.requires.kinds; row_in_bounds = omega (arith, c.requires.room) }
 
 pub shape_of-out-in_default : goal.shape_of-out-in_default
 shape_of-out-in_default c =
@@ -32,7 +24,7 @@ returns-in_default c =
 pub rest-requires : goal.rest-requires
 rest-requires c =
     let t = then_to c.choice_then.ensures c.in-Done.is in
-    record { kinds = c.requires.kinds; may_end = none_needed (rule_start restricts _ _ _ _ _ _ c.requires.line_value c.requires.line_bound c.requires.room c.choice_then.auto.out (omega arith) restricting t); }
+    record { kinds = c.requires.kinds; may_end = none_needed (rule_start restricts _ _ _ _ _ _ c.requires.line_value c.requires.line_bound c.requires.room c.choice_then.auto.out (omega arith) restricting t) }
 
 pub shape_of-out : goal.shape_of-out
 shape_of-out c =

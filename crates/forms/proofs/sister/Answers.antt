@@ -8,15 +8,7 @@ use Rattle.forms.proofs.sister.Goals as goal
 
 pub choice_then-requires : goal.choice_then-requires
 choice_then-requires c =
-    record { kinds = c.requires.kinds; row_in_bounds = omega (arith, c.requires.room, sister_short c.requires.sister); }
-
-pub enum_known-p : goal.enum_known-p
-enum_known-p c =
-    c.in-Done.keys1
-
-pub enum_told-1 : goal.enum_told-1
-enum_told-1 c =
-    c.in_default.keys2
+    record { kinds = c.requires.kinds; row_in_bounds = omega (arith, c.requires.room, sister_short c.requires.sister) }
 
 pub shape_of-out-in_default : goal.shape_of-out-in_default
 shape_of-out-in_default c =
@@ -46,15 +38,7 @@ context-requires c =
     let i = c.requires.sister in
     let d = sister_start _ _ _ i c.requires.line_bound c.requires.room c.choice_then.auto.out (then_to c.choice_then.ensures c.in-Done.is) in
     let x = c.token-t.ensures.token (slash_token _ c.if-k-ne-SLASH_KIND.false) in
-    record { kinds = c.requires.kinds; context_program_in_bounds = omega (arith, d.room, x.falls); }
-
-pub enum_known-n : goal.enum_known-n
-enum_known-n c =
-    c.in-Done-context.keys1
-
-pub enum_told-in_default-context : goal.enum_told-in_default-context
-enum_told-in_default-context c =
-    c.in_default-context.keys2
+    record { kinds = c.requires.kinds; context_program_in_bounds = omega (arith, d.room, x.falls) }
 
 pub shape_of-out-in_default-context : goal.shape_of-out-in_default-context
 shape_of-out-in_default-context c =
@@ -72,7 +56,7 @@ rest-requires c =
     let i = c.requires.sister in
     let d = sister_start _ _ _ i c.requires.line_bound c.requires.room c.choice_then.auto.out (then_to c.choice_then.ensures c.in-Done.is) in
     let x = c.token-t.ensures.token (slash_token _ c.if-k-ne-SLASH_KIND.false) in
-    record { kinds = c.requires.kinds; may_end = first_next i d x c.if-k-ne-SLASH_KIND.false _ _ (context_to c.context.ensures c.in-Done-context.is) c.context.auto.out; }
+    record { kinds = c.requires.kinds; may_end = first_next i d x c.if-k-ne-SLASH_KIND.false _ _ (context_to c.context.ensures c.in-Done-context.is) c.context.auto.out }
 
 pub shape_of-out : goal.shape_of-out
 shape_of-out c =
