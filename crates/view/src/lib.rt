@@ -1,5 +1,7 @@
 // A loaded card as a view of the caller's bytes: the slice, and beside it what loading answers. An enum can hold no reference, so the number of a
 // refusal stands in the struct, and is 0 for a card that holds. Every function asks nothing of the caller.
+#![tactic(auto)]
+
 ghost use Rattle.std.specs.Prelude.{◌≡◌};
 ghost use Rattle.automata.specs.Format.{narrow};
 ghost use Rattle.card.specs.Answer.{load as load_of, load_numbers};
