@@ -1,4 +1,6 @@
 // The smallest machine of a table, numbered by first arrival. Parts for the compiler's stages: they have requires, and are no entries.
+#![tactic(auto)]
+
 mod number;
 
 ghost use Rattle.automata.specs.Table.{table_machine};

@@ -1,6 +1,5 @@
 -- `smallest` meets its contract: the classes, then the numbering.
 use Rattle.minimise.proofs.NumberLaws.{classified}
-use borrow.Author.Rules.{rules}
 use Rattle.minimise.proofs.smallest.Goals as goal
 
 pub number-requires : goal.number-requires

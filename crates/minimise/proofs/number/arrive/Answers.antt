@@ -1,6 +1,5 @@
 -- `arrive` meets its contract: a class that has a number, a new one, one too many.
 use Rattle.minimise.proofs.ArriveLaws.{arrive_old, arrive_new, arrive_full}
-use borrow.Author.Rules.{rules}
 use Rattle.minimise.proofs.number.arrive.Goals as goal
 
 pub returns-then-x-m : goal.returns-then-x-m

@@ -1,10 +1,9 @@
 -- `mark` meets its contract. The loop: the flags below i are written.
-use borrow.Author.Rules.{rules}
-use mathlib.Core.Path.{◌≡◌, refl, ap, ◌∙◌}
-use Prim.Native.Nat.{ℕ, ◌+◌, ◌-◌, ◌≤◌, ◌<◌}
+use mathlib.Core.Path.{refl, ap, ◌∙◌}
+use Prim.Native.Nat.{◌+◌}
 use native.Mathlib.Omega.{arith}
 use native.Mathlib.Nat.{not-suc-le-zero}
-use lib.ListN.{length, get_or, length-set}
+use lib.ListN.{get_or, length-set}
 use Rattle.automata.specs.Partition.{bit}
 use Rattle.automata.specs.Table.{flag_of}
 use Rattle.entries.proofs.EntryLaws.{filled_more, filled_past}
@@ -31,8 +30,7 @@ bounds-slot-i c =
     omega (arith, c.requires.flags)
 
 pub loop-i-preserved : goal.loop-i-preserved
-loop-i-preserved c =
-    (
+loop-i-preserved c = (
   omega arith,
   length-set c.loop-i.slot _ _ ∙ c.loop-i.invariant.1,
   filled_more c.loop-i.slot _ _ _ (λ q. bit (flag_of (get_or c.args.table.now (get_or c.args.work.now (c.args.n + c.args.n + q) 0) 0))) refl (omega (arith, c.requires.flags)) c.loop-i.invariant.2

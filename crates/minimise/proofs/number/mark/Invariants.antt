@@ -1,13 +1,9 @@
 -- `mark` meets its contract. The loop: the flags below i are written.
-use borrow.Author.Rules.{rules}
-use mathlib.Core.Path.{◌≡◌, refl, ap, ◌∙◌}
+use mathlib.Core.Path.{◌≡◌}
 use Prim.Native.Nat.{ℕ, ◌+◌, ◌-◌, ◌≤◌, ◌<◌}
-use native.Mathlib.Omega.{arith}
-use native.Mathlib.Nat.{not-suc-le-zero}
-use lib.ListN.{length, get_or, length-set}
+use lib.ListN.{length, get_or}
 use Rattle.automata.specs.Partition.{bit}
 use Rattle.automata.specs.Table.{flag_of}
-use Rattle.entries.proofs.EntryLaws.{filled_more, filled_past}
 use Rattle.minimise.proofs.number.mark.Given as goal
 
 abbrev pub invariant-loop-i : goal.invariant-loop-i

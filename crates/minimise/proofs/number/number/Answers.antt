@@ -1,9 +1,7 @@
 -- `number` meets its contract. The loop: i rows are written, and the order is the listing after i turns.
-use mathlib.Core.Path.{◌≡◌, refl, ◌∙◌}
-use Prim.Native.Nat.{◌-◌}
+use mathlib.Core.Path.{refl, ◌∙◌}
 use native.Mathlib.Omega.{arith}
-use lib.ListN.{length}
-use Rattle.minimise.proofs.NumberLaws.{zero_small, Arranged, order_double, order_first, order_own, order_next, order_less, order_starts, order_rolling, order_full, order_turns, order_markable, order_ends, too_many}
+use Rattle.minimise.proofs.NumberLaws.{zero_small, order_double, order_first, order_own, order_next, order_less, order_starts, order_rolling, order_full, order_turns, order_markable, order_ends, too_many}
 use Rattle.minimise.proofs.number.number.Goals as goal
 
 pub overflow_add-n : goal.overflow_add-n
@@ -12,11 +10,11 @@ overflow_add-n c =
 
 pub put-requires : goal.put-requires
 put-requires c =
-    record { i_in_bounds = order_first c.requires; x_bound = zero_small; }
+    record { i_in_bounds = order_first c.requires; x_bound = zero_small }
 
 pub put-requires-2 : goal.put-requires-2
 put-requires-2 c =
-    record { i_in_bounds = order_own c.requires _ c.put.auto.list; x_bound = zero_small; }
+    record { i_in_bounds = order_own c.requires _ c.put.auto.list; x_bound = zero_small }
 
 pub loop-i-init : goal.loop-i-init
 loop-i-init c =
@@ -25,14 +23,6 @@ loop-i-init c =
 pub row-requires : goal.row-requires
 row-requires c =
     order_rolling c.requires _ _ _ _ c.loop-i.invariant.0 c.loop-i.invariant.2 c.loop-i-test.true
-
-pub enum_known-x : goal.enum_known-x
-enum_known-x c =
-    c.in-States.keys1
-
-pub enum_told-1 : goal.enum_told-1
-enum_told-1 c =
-    c.in_default.keys2
 
 pub shape_of-work-in_default : goal.shape_of-work-in_default
 shape_of-work-in_default c =
@@ -57,8 +47,7 @@ loop-i-smaller c =
     order_less c.requires c.loop-i.invariant.0 c.loop-i-test.true
 
 pub loop-i-preserved : goal.loop-i-preserved
-loop-i-preserved c =
-    (
+loop-i-preserved c = (
   order_turns c.requires _ _ _ _ c.loop-i.invariant.0 c.loop-i.invariant.2 _ _ _ _ c.loop-i-test.true c.row.ensures c.in-States.is,
   c.row.auto.work ∙ c.loop-i.invariant.1,
   c.row.auto.slot ∙ c.loop-i.invariant.2,

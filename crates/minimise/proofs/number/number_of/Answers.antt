@@ -2,7 +2,6 @@
 use mathlib.Core.Path.{◌∙◌}
 use native.Mathlib.Omega.{arith}
 use Rattle.minimise.proofs.ArriveLaws.{number_none}
-use borrow.Author.Rules.{rules}
 use Rattle.minimise.proofs.number.number_of.Goals as goal
 
 pub returns-else-at-d : goal.returns-else-at-d

@@ -1,13 +1,11 @@
 -- `row` meets its contract. The loop: the columns below c are written, all that they lead to is in the order, and x is the number of the last one's.
 use mathlib.Core.Path.{◌≡◌, refl, sym, ◌∙◌}
-use mathlib.Core.Logic.{⊎_elim}
-use Prim.Native.Nat.{◌-◌, ◌≤◌}
 use native.Mathlib.Omega.{arith}
-use lib.ListN.{length, take, length-set}
-use Rattle.minimise.specs.Number.{classes_of, Upto}
-use Rattle.minimise.proofs.RowLaws.{Last, numbered_new, numbered_again, last_none, left_wide, right_wide, none_yet, turn_most, turn_wide, turn_less, all_columns, grown_new, grown_old}
+use lib.ListN.{length-set}
+use Rattle.minimise.proofs.RowLaws.{Numbered, numbered_new, numbered_again, last_none, left_wide, right_wide, none_yet, turn_most, turn_wide, turn_less, all_columns, grown_new, grown_old}
 use Rattle.minimise.proofs.RowLaws.{row_starts, row_state, row_double, row_wide, row_place, row_target, row_cell, row_cell_now, row_next, row_below, row_full, column_byte, column_turns, column_last}
 use Rattle.minimise.proofs.number.row.Goals as goal
+use Rattle.minimise.proofs.number.row.Goals.{then-t-last+else-x-most+then-x-m, then-t-last+else-x-most+else-x-m, else-t-last}
 
 pub overflow_add-n : goal.overflow_add-n
 overflow_add-n c =
@@ -27,7 +25,7 @@ loop-c-init c =
 
 pub target-t-requires : goal.target-t-requires
 target-t-requires c =
-    record { closed_table = c.requires.closed; p_lt_n = row_state c.requires _ c.at-p.ensures; c_lt_k = c.loop-c-test.true; }
+    record { closed_table = c.requires.closed; p_lt_n = row_state c.requires _ c.at-p.ensures; c_lt_k = c.loop-c-test.true }
 
 pub at-d-requires : goal.at-d-requires
 at-d-requires c =
@@ -35,7 +33,7 @@ at-d-requires c =
 
 pub arrive-x-requires : goal.arrive-x-requires
 arrive-x-requires c =
-    record { roll = c.loop-c.invariant.1.roll; d_lt_n = row_below c.requires _ _ _ _ _ _ _ c.loop-c.invariant.1 c.loop-c-test.true c.at-p.ensures c.target-t.ensures c.at-d.ensures; }
+    record { roll = c.loop-c.invariant.1.roll; d_lt_n = row_below c.requires _ _ _ _ _ _ _ c.loop-c.invariant.1 c.loop-c-test.true c.at-p.ensures c.target-t.ensures c.at-d.ensures }
 
 pub shape_of-work-then-x-most : goal.shape_of-work-then-x-most
 shape_of-work-then-x-most c =
@@ -56,24 +54,23 @@ overflow_add-m c =
 pub overflow_cast-slot : goal.overflow_cast-slot
 overflow_cast-slot c =
     column_byte c.requires _ _ _ _ _ _ c.loop-c.invariant.1
-    c.loop-c-test.true c.at-p.ensures c.target-t.ensures _ _ _ _ (⊎_elim
-    (λ v. numbered_new v.2.ensures v.4.ensures v.7.left v.4.kept.1.1.1.1.0 (grown_new _ _ _ v.8.taken v.10) v.9 v.11 v.12)
-    (⊎_elim
-    (λ v. numbered_new v.2.ensures v.4.ensures v.7.left v.4.kept.1.1.1.1.0 (grown_old _ _ _ v.8.left v.10 v.4.ensures.low) v.9 v.11 v.12)
-    (λ v. numbered_again c.loop-c.invariant.1.roll c.target-t.ensures.inside (rw v.0.left c.loop-c.invariant.4) v.2 v.1 (v.3 ∙ sym v.0.left) v.4))
-    c.if-t-last.branch)
-
-pub overflow_mul-slot : goal.overflow_mul-slot
-overflow_mul-slot c =
-    left_wide _ _ (right_wide _ _ (add-slot-2 c))
-
-pub overflow_add-slot : goal.overflow_add-slot
-overflow_add-slot c =
-    right_wide _ _ (add-slot-2 c)
+    c.loop-c-test.true c.at-p.ensures c.target-t.ensures _ _ _ _ (elim c.if-t-last.branch [
+      | then-t-last+else-x-most+then-x-m w ↦ numbered_new w.at-d.ensures w.arrive-x.ensures w.if-x-most.false w.arrive-x.auto.work (grown_new _ _ _ w.if-x-m.true w.m-is) w.work-is w.last-is w.x-is
+      | then-t-last+else-x-most+else-x-m w ↦ numbered_new w.at-d.ensures w.arrive-x.ensures w.if-x-most.false w.arrive-x.auto.work (grown_old _ _ _ w.if-x-m.false w.m-is w.arrive-x.ensures.low) w.work-is w.last-is w.x-is
+      | else-t-last w ↦ numbered_again c.loop-c.invariant.1.roll c.target-t.ensures.inside (rw w.if-t-last.false c.loop-c.invariant.4) w.m-is w.work-is (w.last-is ∙ sym w.if-t-last.false) w.x-is
+    ])
 
 pub overflow_add-slot-in-loop-c : goal.overflow_add-slot-in-loop-c
 overflow_add-slot-in-loop-c c =
     omega (arith, row_cell c.requires _ c.loop-c-test.true)
+
+pub overflow_mul-slot : goal.overflow_mul-slot
+overflow_mul-slot c =
+    left_wide _ _ (right_wide _ _ (overflow_add-slot-in-loop-c c))
+
+pub overflow_add-slot : goal.overflow_add-slot
+overflow_add-slot c =
+    right_wide _ _ (overflow_add-slot-in-loop-c c)
 
 pub bounds-slot-most : goal.bounds-slot-most
 bounds-slot-most c =
@@ -89,12 +86,11 @@ loop-c-smaller c =
 
 pub loop-c-preserved : goal.loop-c-preserved
 loop-c-preserved c =
-    let N = ⊎_elim
-    (λ v. numbered_new v.2.ensures v.4.ensures v.7.left v.4.kept.1.1.1.1.0 (grown_new _ _ _ v.8.taken v.10) v.9 v.11 v.12)
-    (⊎_elim
-    (λ v. numbered_new v.2.ensures v.4.ensures v.7.left v.4.kept.1.1.1.1.0 (grown_old _ _ _ v.8.left v.10 v.4.ensures.low) v.9 v.11 v.12)
-    (λ v. numbered_again c.loop-c.invariant.1.roll c.target-t.ensures.inside (rw v.0.left c.loop-c.invariant.4) v.2 v.1 (v.3 ∙ sym v.0.left) v.4))
-    c.if-t-last.branch in (
+    let N : Numbered c.args.n c.args.most c.loop-c.m c.target-t.result c.loop-c.work c.if-t-last.m c.if-t-last.last c.if-t-last.x c.if-t-last.work = (elim c.if-t-last.branch [
+      | then-t-last+else-x-most+then-x-m w ↦ numbered_new w.at-d.ensures w.arrive-x.ensures w.if-x-most.false w.arrive-x.auto.work (grown_new _ _ _ w.if-x-m.true w.m-is) w.work-is w.last-is w.x-is
+      | then-t-last+else-x-most+else-x-m w ↦ numbered_new w.at-d.ensures w.arrive-x.ensures w.if-x-most.false w.arrive-x.auto.work (grown_old _ _ _ w.if-x-m.false w.m-is w.arrive-x.ensures.low) w.work-is w.last-is w.x-is
+      | else-t-last w ↦ numbered_again c.loop-c.invariant.1.roll c.target-t.ensures.inside (rw w.if-t-last.false c.loop-c.invariant.4) w.m-is w.work-is (w.last-is ∙ sym w.if-t-last.false) w.x-is
+    ]) in (
       turn_most _ _ c.loop-c-test.true,
       column_turns c.requires _ _ _ _ _ _
           c.loop-c.invariant.1 c.loop-c-test.true c.at-p.ensures
