@@ -5,7 +5,7 @@ use mathlib.Core.Logic.{inl, inr, ◌≢◌}
 use mathlib.Core.List.{List, [], ◌∷◌}
 use Prim.Native.Nat.{ℕ, suc, ◌+◌, ◌-◌, ◌<◌, ◌≤◌}
 use native.Mathlib.Omega.{arith}
-use borrow.Author.Tests.{eq-eqb, ne_eqb}
+use borrow.Author.Tests.{eq-eqb, ne_eqb, leb-true}
 use lib.Dec.{eqb, ltb, leb}
 use lib.ListN.{length, drop, drop_of_length-le, get_or, set, replicate, get_or-replicate}
 use lib.Seq.{get_or-set_same, get_or-set_other}
@@ -55,7 +55,7 @@ name_byte b e = go (leb 97 b && leb b 122) (leb 65 b && leb b 90) refl (nat_test
   where
     go : (s t : Bool) → leb 65 b && leb b 90 ≡ t → ◌≡◌ {A = ℕ} (choose s (λ _. letter_kind) (λ _. choose t (λ _. name_kind) (λ _. sign_kind b signs dot_kind))) name_kind → (65 ≤ b) × (b ≤ 90)
     go true t q e = absurd (omega arith)
-    go false true q e = (borrow.Author.Tests.leb_true 65 b (and_left (leb 65 b) (leb b 90) q), borrow.Author.Tests.leb_true b 90 (and_right (leb 65 b) (leb b 90) q))
+    go false true q e = (leb-true 65 b (and_left (leb 65 b) (leb b 90) q), leb-true b 90 (and_right (leb 65 b) (leb b 90) q))
     go false false q e = absurd (sign_above b signs dot_kind (omega arith) e)
 
 name_range : (b : ℕ) → is_name b ≡ true → b - 65 < 26

@@ -1,6 +1,5 @@
 -- `reader::line::read_line` meets its contract: the line's own answer, with the place behind its end.
 use Rattle.reader.proofs.CheckLaws.{next_name, next_rule, next_not, in_text, line_room}
-use borrow.Author.Rules.{rules}
 use Rattle.reader.proofs.line.read_line.Goals as goal
 
 pub line_end-end-requires : goal.line_end-end-requires
@@ -21,19 +20,7 @@ slice_bounds-check-end c =
 
 pub check-requires : goal.check-requires
 check-requires c =
-    record { kinds = c.requires.kinds; room = line_room _ _ _ _ c.line_end-end.ensures c.requires.text_in_bounds; }
-
-pub enum_known-name : goal.enum_known-name
-enum_known-name c =
-    c.in-Define.keys1
-
-pub enum_known-len : goal.enum_known-len
-enum_known-len c =
-    c.in-Rule.keys2
-
-pub enum_known-n : goal.enum_known-n
-enum_known-n c =
-    c.in-Refused.keys3
+    record { kinds = c.requires.kinds; room = line_room _ _ _ _ c.line_end-end.ensures c.requires.text_in_bounds }
 
 pub shape_of-out-in-Define : goal.shape_of-out-in-Define
 shape_of-out-in-Define c =

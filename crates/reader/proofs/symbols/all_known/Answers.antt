@@ -1,9 +1,5 @@
 -- `reader::symbols::all_known` meets its contract: the codes passed are known.
-use Prim.Native.Nat.{◌-◌}
-use lib.ListN.{length}
-use borrow.Author.Tests.{not-true, not-false}
-use borrow.Author.Rules.{rules}
-use Rattle.reader.proofs.SymbolLaws.{KnownFrom, known_start, known_not, known_next, known_end}
+use Rattle.reader.proofs.SymbolLaws.{known_start, known_not, known_next, known_end}
 use Rattle.reader.proofs.symbols.all_known.Goals as goal
 
 pub loop-i-init : goal.loop-i-init
@@ -12,11 +8,11 @@ loop-i-init c =
 
 pub returns-then-not-symbol_known : goal.returns-then-not-symbol_known
 returns-then-not-symbol_known c =
-    known_not _ _ _ _ _ c.loop-i-test.true c.symbol_known.ensures c.loop-i.invariant (not-true _ c.if-not-symbol_known.true)
+    known_not _ _ _ _ _ c.loop-i-test.true c.symbol_known.ensures c.loop-i.invariant c.if-not-symbol_known.true
 
 pub loop-i-preserved : goal.loop-i-preserved
 loop-i-preserved c =
-    known_next _ _ _ _ _ c.loop-i-test.true c.symbol_known.ensures c.loop-i.invariant (not-false _ c.if-not-symbol_known.false)
+    known_next _ _ _ _ _ c.loop-i-test.true c.symbol_known.ensures c.loop-i.invariant c.if-not-symbol_known.false
 
 pub returns : goal.returns
 returns c =

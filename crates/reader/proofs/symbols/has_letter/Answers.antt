@@ -1,9 +1,5 @@
 -- `reader::symbols::has_letter` meets its contract: the letters passed are others.
-use mathlib.Core.Path.{◌≡◌, sym, ◌∙◌}
-use Prim.Native.Nat.{◌-◌}
-use borrow.Author.Rules.{rules}
-use lib.ListN.{length, drop}
-use Rattle.language.specs.Expression.{member}
+use mathlib.Core.Path.{sym, ◌∙◌}
 use Rattle.reader.proofs.SymbolLaws.{member_at, member_past, member_end}
 use Rattle.reader.proofs.symbols.has_letter.Goals as goal
 

@@ -1,10 +1,8 @@
 -- `reader::symbols::has_letter` meets its contract: the letters passed are others.
-use mathlib.Core.Path.{◌≡◌, sym, ◌∙◌}
+use mathlib.Core.Path.{◌≡◌}
 use Prim.Native.Nat.{◌-◌}
-use borrow.Author.Rules.{rules}
 use lib.ListN.{length, drop}
 use Rattle.language.specs.Expression.{member}
-use Rattle.reader.proofs.SymbolLaws.{member_at, member_past, member_end}
 use Rattle.reader.proofs.symbols.has_letter.Given as goal
 
 abbrev pub invariant-loop-i : goal.invariant-loop-i

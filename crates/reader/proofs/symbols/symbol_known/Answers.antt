@@ -1,5 +1,4 @@
 -- `reader::symbols::symbol_known` meets its contract, by the kind of the code.
-use borrow.Author.Rules.{rules}
 use Rattle.reader.proofs.SymbolLaws.{is_name_lem, symbol_letter, symbol_name, symbol_other}
 use Rattle.reader.proofs.symbols.symbol_known.Goals as goal
 

@@ -1,7 +1,6 @@
 -- `reader::names::Names::has` meets its contract: a name is a byte A to Z.
 use native.Mathlib.Omega.{arith}
 use Rattle.reader.proofs.SymbolLaws.{name_byte}
-use borrow.Author.Rules.{rules}
 use Rattle.reader.proofs.names.Names.has.Goals as goal
 
 pub overflow_sub-i : goal.overflow_sub-i
