@@ -1,6 +1,7 @@
 // One transition of a stage laid out: it repeats an earlier one, or its row is made, as a pair or as a row of flags.
 // These are parts: callers give closed tables and buffers that are long enough.
 #![tactic(auto)]
+
 ghost use Rattle.std.specs.Prelude.{◌≡◌, ◌<◌};
 ghost use Rattle.rows.specs.Rows.{row_at};
 ghost use Rattle.sets.specs.Fits.{Listed, rows_for};

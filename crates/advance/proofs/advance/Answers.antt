@@ -7,7 +7,7 @@ use Rattle.advance.proofs.advance.Goals as goal
 
 pub earlier-place-requires : goal.earlier-place-requires
 earlier-place-requires c =
-    let a = c.args in record { asking = turn_asking a.s a.a.now a.b.now a.rows.now a.row.now a.table.now a.heads.now a.count a.state a.column a.q c.requires.turning a.held a.members.now c.requires.listed; twins = c.requires.twins; }
+    let a = c.args in record { asking = turn_asking a.s a.a.now a.b.now a.rows.now a.row.now a.table.now a.heads.now a.count a.state a.column a.q c.requires.turning a.held a.members.now c.requires.listed; twins = c.requires.twins }
 
 pub returns-then-place-q : goal.returns-then-place-q
 returns-then-place-q c =
@@ -15,4 +15,4 @@ returns-then-place-q c =
 
 pub turn-requires : goal.turn-requires
 turn-requires c =
-    record { turning = c.requires.turning; le_op = c.if-s-lt3.false; listed = c.requires.listed; }
+    record { turning = c.requires.turning; le_op = c.if-s-lt3.false; listed = c.requires.listed }
