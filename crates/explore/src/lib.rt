@@ -1,6 +1,7 @@
 // The stage loop: the sets that an operation on two machines reaches, as rows of bytes in a lent buffer, counted, with their transitions laid out as
 // a table. These are parts: callers give closed tables and buffers that are long enough.
 #![tactic(auto)]
+
 ghost use Rattle.sets.specs.Fits.{Listing, rows_for};
 ghost use Rattle.turns.specs.Exploring.{Explores, Answers};
 

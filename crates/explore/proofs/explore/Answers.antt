@@ -13,19 +13,19 @@ use Rattle.explore.proofs.explore.Goals as goal
 
 pub twins-requires : goal.twins-requires
 twins-requires c =
-    record { fits = c.requires.explores.fits; table_value = refl; }
+    record { fits = c.requires.explores.fits; table_value = refl }
 
 pub start_row-sum-requires : goal.start_row-sum-requires
 start_row-sum-requires c =
-    record { fits = c.requires.explores.fits; row_len = c.requires.explores.room.row_long; }
+    record { fits = c.requires.explores.fits; row_len = c.requires.explores.room.row_long }
 
 pub append-requires : goal.append-requires
 append-requires c =
-    record { row_len = c.start_row-sum.auto.row ∙ c.requires.explores.room.row_long; w_in_bounds = first_room c.requires.explores.room; }
+    record { row_len = c.start_row-sum.auto.row ∙ c.requires.explores.room.row_long; w_in_bounds = first_room c.requires.explores.room }
 
 pub chain-requires : goal.chain-requires
 chain-requires c =
-    record { count_in_bounds = (omega (arith, c.requires.explores.room.some, c.requires.explores.room.table_long), omega arith); h_bound = (c.hash-h.ensures.1, refl); }
+    record { count_in_bounds = (omega (arith, c.requires.explores.room.some, c.requires.explores.room.table_long), omega arith); h_bound = (c.hash-h.ensures.1, refl) }
 
 pub loop-state-init : goal.loop-state-init
 loop-state-init c =
@@ -43,7 +43,7 @@ pub list-held-requires : goal.list-held-requires
 list-held-requires c =
     let a = c.args in
     let l = c.loop-state in
-    record { w_value = c.requires.explores.fits.width; w_in_bounds = run_source a.s a.a.now a.b.now l.rows l.row l.table l.heads l.count l.state l.column l.q l.invariant.0 c.loop-state-test.true; listing = listing_kept c.requires.listing l.members l.invariant.4; listed = l.invariant.5; }
+    record { w_value = c.requires.explores.fits.width; w_in_bounds = run_source a.s a.a.now a.b.now l.rows l.row l.table l.heads l.count l.state l.column l.q l.invariant.0 c.loop-state-test.true; listing = listing_kept c.requires.listing l.members l.invariant.4; listed = l.invariant.5 }
 
 pub twin-twin-requires : goal.twin-twin-requires
 twin-twin-requires c =
@@ -53,7 +53,7 @@ pub advance-requires : goal.advance-requires
 advance-requires c =
     let a = c.args in
     let l = c.loop-state in
-    record { turning = run_turning a.s a.a.now a.b.now l.rows l.row l.table l.heads l.count l.state l.column l.q l.invariant.0 c.loop-state-test.true; listed = c.list-held.ensures; twins = λ h. let t = c.twin-twin.ensures h in rw (sym t.1) at (c.twins.ensures.twin l.column t.0 (rw t.1 at h)); }
+    record { turning = run_turning a.s a.a.now a.b.now l.rows l.row l.table l.heads l.count l.state l.column l.q l.invariant.0 c.loop-state-test.true; listed = c.list-held.ensures; twins = λ h. let t = c.twin-twin.ensures h in rw (sym t.1) at (c.twins.ensures.twin l.column t.0 (rw t.1 at h)) }
 
 pub shape_of-rows-in_default : goal.shape_of-rows-in_default
 shape_of-rows-in_default c =
@@ -73,7 +73,7 @@ shape_of-table-in_default c =
 
 pub returns-in_default : goal.returns-in_default
 returns-in_default c =
-    let a = c.args in let l = c.loop-state in run_many a.s a.a.now a.b.now l.rows l.row l.table l.heads l.count l.state l.column l.q l.invariant.0 c.loop-state-test.true c.advance.new.1.1.1.0 c.advance.new.1.1.1.1.0 c.advance.new.1.1.1.1.1.0 c.advance.new.1.1.1.1.1.1.0 c.advance.auto.rows c.advance.auto.row c.advance.auto.table c.advance.result c.advance.ensures.0 c.in_default.is
+    let a = c.args in let l = c.loop-state in run_many a.s a.a.now a.b.now l.rows l.row l.table l.heads l.count l.state l.column l.q l.invariant.0 c.loop-state-test.true c.advance.new.rows c.advance.new.row c.advance.new.table c.advance.new.heads c.advance.auto.rows c.advance.auto.row c.advance.auto.table c.advance.result c.advance.ensures.0 c.in_default.is
 
 pub overflow_add-state : goal.overflow_add-state
 overflow_add-state c =
@@ -87,7 +87,7 @@ pub loop-state-preserved-then-column-k : goal.loop-state-preserved-then-column-k
 loop-state-preserved-then-column-k c =
     let a = c.args in
     let l = c.loop-state in (
-      run_wrap a.s a.a.now a.b.now l.rows l.row l.table l.heads l.count l.state l.column l.q l.invariant.0 c.loop-state-test.true c.advance.new.1.1.1.0 c.advance.new.1.1.1.1.0 c.advance.new.1.1.1.1.1.0 c.advance.new.1.1.1.1.1.1.0 c.advance.auto.rows c.advance.auto.row c.advance.auto.table c.advance.result c.advance.ensures.0 _ c.in-Sets.is c.if-column-k.true,
+      run_wrap a.s a.a.now a.b.now l.rows l.row l.table l.heads l.count l.state l.column l.q l.invariant.0 c.loop-state-test.true c.advance.new.rows c.advance.new.row c.advance.new.table c.advance.new.heads c.advance.auto.rows c.advance.auto.row c.advance.auto.table c.advance.result c.advance.ensures.0 _ c.in-Sets.is c.if-column-k.true,
       ◌∙◌ {b = length l.rows} c.advance.auto.rows l.invariant.1,
       ◌∙◌ {b = length l.row} c.advance.auto.row l.invariant.2,
       ◌∙◌ {b = length l.table} c.advance.auto.table l.invariant.3,
@@ -103,7 +103,7 @@ pub loop-state-preserved : goal.loop-state-preserved
 loop-state-preserved c =
     let a = c.args in
     let l = c.loop-state in (
-      run_on_lem a.s a.a.now a.b.now l.rows l.row l.table l.heads l.count l.state l.column l.q l.invariant.0 c.loop-state-test.true c.advance.new.1.1.1.0 c.advance.new.1.1.1.1.0 c.advance.new.1.1.1.1.1.0 c.advance.new.1.1.1.1.1.1.0 c.advance.auto.rows c.advance.auto.row c.advance.auto.table c.advance.result c.advance.ensures.0 _ c.in-Sets.is c.if-column-k.false,
+      run_on_lem a.s a.a.now a.b.now l.rows l.row l.table l.heads l.count l.state l.column l.q l.invariant.0 c.loop-state-test.true c.advance.new.rows c.advance.new.row c.advance.new.table c.advance.new.heads c.advance.auto.rows c.advance.auto.row c.advance.auto.table c.advance.result c.advance.ensures.0 _ c.in-Sets.is c.if-column-k.false,
       ◌∙◌ {b = length l.rows} c.advance.auto.rows l.invariant.1,
       ◌∙◌ {b = length l.row} c.advance.auto.row l.invariant.2,
       ◌∙◌ {b = length l.table} c.advance.auto.table l.invariant.3,
