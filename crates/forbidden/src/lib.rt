@@ -1,4 +1,6 @@
 // The shortest factor of a plan that lies inside no allowed plan, in one pass from the plan's end: letters times states, and no lent buffer.
+#![tactic(auto)]
+
 ghost use Rattle.std.specs.Prelude.{◌≡◌, ◌+◌, ◌≤◌, length};
 ghost use Rattle.automata.specs.Format.{narrow};
 ghost use Rattle.factor.specs.Shortest.{shortest as shortestOf};

@@ -1,5 +1,7 @@
 // The second half of the whole way: just the card's bytes are handed to the board, which loads them and judges a plan, each by the real entry. A part: the
 // caller's answer has a card that is within its buffer.
+#![tactic(auto)]
+
 ghost use Rattle.std.specs.Prelude.{◌≡◌};
 ghost use Rattle.automata.specs.Format.{narrow};
 ghost use Rattle.card.specs.Answer.{load};
