@@ -1,6 +1,5 @@
 -- `kept::begin` meets its contract: `.*` is copied into each register.
 use Rattle.kept.proofs.SlotLaws.{registers_begin}
-use borrow.Author.Rules.{rules}
 use Rattle.kept.proofs.begin.Goals as goal
 
 pub returns : goal.returns

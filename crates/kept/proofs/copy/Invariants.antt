@@ -1,10 +1,7 @@
 -- `kept::copy` meets its contract. The loop's invariant: the bytes before i are copied.
-use Rattle.slots.specs.Slot.{Written, written_none, written_more}
+use Rattle.slots.specs.Slot.{Written}
 use lib.ListN.{get_or}
-use borrow.Author.Rules.{rules}
-use native.Mathlib.Omega.{arith}
 use Prim.Native.Nat.{◌-◌, ◌≤◌}
-use mathlib.Core.Path.{◌≡◌, refl}
 use Rattle.kept.proofs.copy.Given as goal
 
 abbrev pub invariant-loop-i : goal.invariant-loop-i

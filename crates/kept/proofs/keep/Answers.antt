@@ -1,11 +1,10 @@
 -- `kept::keep` meets its contract: a name's machine is stored, the book so far replaced.
 use Rattle.kept.proofs.SlotLaws.{keeps_name, keeps_book, right_name}
-use borrow.Author.Rules.{rules}
 use Rattle.kept.proofs.keep.Goals as goal
 
 pub store-requires : goal.store-requires
 store-requires c =
-    record { name_value = right_name _ _ c.in-Name.is c.requires.right; in_bounds = c.requires.in_bounds; in_bounds_2 = (c.requires.shelves.low, c.requires.shelves.high); }
+    record { name_value = right_name _ _ c.in-Name.is c.requires.right; in_bounds = c.requires.in_bounds; in_bounds_2 = (c.requires.shelves.low, c.requires.shelves.high) }
 
 pub returns-in-Name : goal.returns-in-Name
 returns-in-Name c =

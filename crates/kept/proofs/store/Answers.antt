@@ -2,7 +2,6 @@
 use Rattle.kept.proofs.SlotLaws.{store_low, store_high}
 use Rattle.reader.proofs.SymbolLaws.{name_byte}
 use native.Mathlib.Omega.{arith}
-use borrow.Author.Rules.{rules}
 use Rattle.kept.proofs.store.Goals as goal
 
 pub overflow_sub-x : goal.overflow_sub-x
@@ -11,7 +10,7 @@ overflow_sub-x c =
 
 pub copy-requires-else-x-le77 : goal.copy-requires-else-x-le77
 copy-requires-else-x-le77 c =
-    record { in_bounds = c.requires.in_bounds; at_in_bounds = omega (arith, (name_byte c.args.name c.requires.name_value).1); }
+    record { in_bounds = c.requires.in_bounds; at_in_bounds = omega (arith, (name_byte c.args.name c.requires.name_value).1) }
 
 pub returns-then-x-le77 : goal.returns-then-x-le77
 returns-then-x-le77 c =
