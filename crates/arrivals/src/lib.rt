@@ -1,5 +1,7 @@
 // How many words of k letters lead from state 0 of a table of moves to each state: forward, letter after letter, over two rows of numbers with one a state. A
 // round looks at each state, and at the moves of those that some word leads to. Parts for the board: they have requires, and are no entries.
+#![tactic(auto)]
+
 pub mod power;
 
 ghost use Rattle.std.specs.Prelude.{◌≡◌, ◌<◌, length, get_or};

@@ -1,5 +1,7 @@
 // The smallest machine of a table, kept in a slot: its number of states, then its table of bytes. A part: callers give a closed table and a slot that is long
 // enough.
+#![tactic(auto)]
+
 ghost use Rattle.std.specs.Prelude.{◌≡◌, ◌+◌, ◌/◌, ◌%◌, ◌<◌, ◌≤◌, length, set};
 ghost use Rattle.automata.specs.Table.{table_machine};
 ghost use Rattle.packing.specs.Keep.{Keepable, KeptAt};

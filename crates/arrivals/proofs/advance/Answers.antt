@@ -1,35 +1,11 @@
 -- `advance` meets its contract: the words of the first p states are passed on.
 use mathlib.Core.Path.{◌≡◌}
-use mathlib.Core.Logic.{⊎_elim}
-use borrow.Author.Rules.{rules}
-use Prim.Native.Nat.{◌≤◌, ◌-◌}
 use native.Mathlib.Numerals.{add-one}
 use native.Mathlib.Omega.{arith}
 use lib.ListN.{length}
-use Rattle.arrivals.proofs.RoundLaws.{AdvancedTo, advanced_none, row_place, row_passable, advanced_more, advanced_idle, advanced_done}
+use Rattle.arrivals.proofs.RoundLaws.{advanced_none, row_place, row_passable, advanced_more, advanced_idle, advanced_done}
 use Rattle.arrivals.proofs.advance.Goals as goal
-
--- src/lib.rt:48:5
-
--- src/lib.rt:50:5
-
--- src/lib.rt:51:21
-
--- src/lib.rt:51:21
-
--- src/lib.rt:53:28
-
--- src/lib.rt:53:13
-
--- src/lib.rt:55:9
-
--- src/lib.rt:50:5
-
--- src/lib.rt:50:5
-
--- src/lib.rt:44:1
-
--- src/lib.rt:44:1
+use Rattle.arrivals.proofs.advance.Goals.{then-words-ne0, else-words-ne0}
 
 pub loop-p-init : goal.loop-p-init
 loop-p-init c =
@@ -48,10 +24,10 @@ loop-p-preserved c =
     let R = c.requires in
     let h = c.loop-p-test.true in (
       omega arith,
-      rw add-one (⊎_elim
-          (λ w. rw w.5 (advanced_more _ _ _ _ R _ _ c.loop-p.invariant.1 h _ w.2.ensures))
-          (λ w. rw w.1 (advanced_idle _ _ _ _ R _ _ c.loop-p.invariant.1 h w.0.left))
-          c.if-words-ne0.branch),
+      rw add-one (elim c.if-words-ne0.branch [
+        | then-words-ne0 w ↦ rw w.next-is (advanced_more _ _ _ _ R _ _ c.loop-p.invariant.1 h _ w.pass_on.ensures)
+        | else-words-ne0 w ↦ rw w.next-is (advanced_idle _ _ _ _ R _ _ c.loop-p.invariant.1 h w.if-words-ne0.false)
+      ]),
     )
 
 pub returns : goal.returns

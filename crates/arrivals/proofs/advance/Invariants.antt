@@ -1,12 +1,7 @@
 -- `advance` meets its contract: the words of the first p states are passed on.
-use mathlib.Core.Path.{◌≡◌}
-use mathlib.Core.Logic.{⊎_elim}
-use borrow.Author.Rules.{rules}
 use Prim.Native.Nat.{◌≤◌, ◌-◌}
-use native.Mathlib.Numerals.{add-one}
-use native.Mathlib.Omega.{arith}
 use lib.ListN.{length}
-use Rattle.arrivals.proofs.RoundLaws.{AdvancedTo, advanced_none, row_place, row_passable, advanced_more, advanced_idle, advanced_done}
+use Rattle.arrivals.proofs.RoundLaws.{AdvancedTo}
 use Rattle.arrivals.proofs.advance.Given as goal
 
 abbrev pub invariant-loop-p : goal.invariant-loop-p

@@ -1,30 +1,8 @@
 -- `arrive` meets its contract: two letters a turn.
 use mathlib.Core.Path.{◌≡◌}
-use borrow.Author.Rules.{rules}
 use native.Mathlib.Omega.{arith}
-use lib.ListN.{length}
-use Rattle.arrivals.proofs.RoundLaws.{Going, going_first, going_done, going_roomy, going_roomy_again, going_more}
+use Rattle.arrivals.proofs.RoundLaws.{going_first, going_done, going_roomy, going_roomy_again, going_more}
 use Rattle.arrivals.proofs.arrive.Goals as goal
-
--- src/lib.rt:86:5
-
--- src/lib.rt:88:5
-
--- src/lib.rt:89:9
-
--- src/lib.rt:90:9
-
--- src/lib.rt:91:9
-
--- src/lib.rt:88:5
-
--- src/lib.rt:88:5
-
--- src/lib.rt:82:1
-
--- src/lib.rt:82:1
-
--- src/lib.rt:82:1
 
 pub begin-requires : goal.begin-requires
 begin-requires c =

@@ -1,9 +1,6 @@
 -- `arrive` meets its contract: two letters a turn.
-use mathlib.Core.Path.{◌≡◌}
-use borrow.Author.Rules.{rules}
-use native.Mathlib.Omega.{arith}
 use lib.ListN.{length}
-use Rattle.arrivals.proofs.RoundLaws.{Going, going_first, going_done, going_roomy, going_roomy_again, going_more}
+use Rattle.arrivals.proofs.RoundLaws.{Going}
 use Rattle.arrivals.proofs.arrive.Given as goal
 
 abbrev pub invariant-loop-turns : goal.invariant-loop-turns

@@ -1,5 +1,4 @@
 -- `begin` meets its contract.
-use borrow.Author.Rules.{rules}
 use Rattle.arrivals.proofs.RoundLaws.{begun_none, begun_roomy, begun_one}
 use Rattle.arrivals.proofs.begin.Goals as goal
 

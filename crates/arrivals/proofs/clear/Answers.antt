@@ -1,9 +1,6 @@
 -- `clear` meets its contract: the entries passed are 0.
-use borrow.Author.Rules.{rules}
-use Prim.Native.Nat.{◌-◌}
 use native.Mathlib.Numerals.{add-one}
-use lib.ListN.{length}
-use Rattle.arrivals.proofs.RoundLaws.{ClearedTo, cleared_none, cleared_more, cleared_done}
+use Rattle.arrivals.proofs.RoundLaws.{cleared_none, cleared_more, cleared_done}
 use Rattle.arrivals.proofs.clear.Goals as goal
 
 pub loop-p-init : goal.loop-p-init

@@ -1,9 +1,7 @@
 -- `clear` meets its contract: the entries passed are 0.
-use borrow.Author.Rules.{rules}
 use Prim.Native.Nat.{◌-◌}
-use native.Mathlib.Numerals.{add-one}
 use lib.ListN.{length}
-use Rattle.arrivals.proofs.RoundLaws.{ClearedTo, cleared_none, cleared_more, cleared_done}
+use Rattle.arrivals.proofs.RoundLaws.{ClearedTo}
 use Rattle.arrivals.proofs.clear.Given as goal
 
 abbrev pub invariant-loop-p : goal.invariant-loop-p

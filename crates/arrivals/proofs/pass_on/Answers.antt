@@ -1,10 +1,7 @@
 -- `pass_on` meets its contract: the words are passed by the first i moves.
 use mathlib.Core.Path.{◌≡◌}
-use borrow.Author.Rules.{rules}
-use Prim.Native.Nat.{◌≤◌, ◌-◌}
 use native.Mathlib.Numerals.{add-one}
 use native.Mathlib.Omega.{arith}
-use Rattle.arrivals.specs.Rounds.{Passed}
 use Rattle.arrivals.proofs.RoundLaws.{passed_none, place, state, words_fit, passed_more}
 use Rattle.arrivals.proofs.pass_on.Goals as goal
 

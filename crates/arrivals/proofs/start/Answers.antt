@@ -1,5 +1,4 @@
 -- `start` meets its contract.
-use borrow.Author.Rules.{rules}
 use Rattle.arrivals.proofs.RoundLaws.{started}
 use Rattle.arrivals.proofs.start.Goals as goal
 

@@ -1,14 +1,13 @@
 -- `total` meets its contract: the entries passed are summed.
 use mathlib.Core.Path.{◌≡◌, refl, sym, ap, ◌∙◌}
-use mathlib.Core.Logic.{⊎_elim}
-use borrow.Author.Rules.{rules}
-use Prim.Native.Nat.{◌+◌, ◌≤◌, ◌-◌}
+use Prim.Native.Nat.{◌+◌}
 use native.Mathlib.Numerals.{add-one}
 use native.Mathlib.Omega.{arith}
 use lib.ListN.{length, get_or}
 use Rattle.arrivals.specs.Weights.{weighed}
-use Rattle.arrivals.proofs.RoundLaws.{total_to, total_fits, total_more, total_other}
+use Rattle.arrivals.proofs.RoundLaws.{total_fits, total_more, total_other}
 use Rattle.arrivals.proofs.total.Goals as goal
+use Rattle.arrivals.proofs.total.Goals.{then-marks-p, else-marks-p}
 
 pub loop-p-init : goal.loop-p-init
 loop-p-init c =
@@ -23,14 +22,13 @@ overflow_add-sum c =
     omega (arith, c.loop-p.invariant.1, total_fits _ _ c.args.mark c.requires _ c.loop-p-test.true)
 
 pub loop-p-preserved : goal.loop-p-preserved
-loop-p-preserved c =
-    (
-      omega arith,
-      rw add-one (⊎_elim
-          (λ w. w.2 ∙ ap (λ s. s + get_or c.args.words.now c.loop-p.p 0) c.loop-p.invariant.1 ∙ sym (total_more _ _ _ c.requires _ w.0.taken))
-          (λ w. w.1 ∙ c.loop-p.invariant.1 ∙ sym (total_other _ _ _ c.requires _ w.0.left))
-          c.if-marks-p.branch),
-    )
+loop-p-preserved c = (
+  omega arith,
+  rw add-one (elim c.if-marks-p.branch [
+    | then-marks-p w ↦ w.sum-is ∙ ap (λ s. s + get_or c.args.words.now c.loop-p.p 0) c.loop-p.invariant.1 ∙ sym (total_more _ _ _ c.requires _ w.if-marks-p.true)
+    | else-marks-p w ↦ w.sum-is ∙ c.loop-p.invariant.1 ∙ sym (total_other _ _ _ c.requires _ w.if-marks-p.false)
+  ]),
+)
 
 pub returns : goal.returns
 unfolding weighed

@@ -1,13 +1,8 @@
 -- `total` meets its contract: the entries passed are summed.
-use mathlib.Core.Path.{◌≡◌, refl, sym, ap, ◌∙◌}
-use mathlib.Core.Logic.{⊎_elim}
-use borrow.Author.Rules.{rules}
-use Prim.Native.Nat.{◌+◌, ◌≤◌, ◌-◌}
-use native.Mathlib.Numerals.{add-one}
-use native.Mathlib.Omega.{arith}
-use lib.ListN.{length, get_or}
-use Rattle.arrivals.specs.Weights.{weighed}
-use Rattle.arrivals.proofs.RoundLaws.{total_to, total_fits, total_more, total_other}
+use mathlib.Core.Path.{◌≡◌}
+use Prim.Native.Nat.{◌≤◌, ◌-◌}
+use lib.ListN.{length}
+use Rattle.arrivals.proofs.RoundLaws.{total_to}
 use Rattle.arrivals.proofs.total.Given as goal
 
 abbrev pub invariant-loop-p : goal.invariant-loop-p

@@ -1,7 +1,6 @@
 -- `packing::put_number` meets its contract.
 use native.Mathlib.Omega.{arith}
 use lib.ListN.{length-set}
-use borrow.Author.Rules.{rules}
 use Rattle.packing.proofs.put_number.Goals as goal
 
 pub bounds-s-at-2 : goal.bounds-s-at-2

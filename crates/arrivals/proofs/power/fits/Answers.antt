@@ -1,11 +1,9 @@
 -- `fits` meets its contract: the power so far fits, and one factor more is tested before it is made.
 use mathlib.Core.Path.{◌≡◌, sym, ap, ◌∙◌}
-use borrow.Author.Rules.{rules}
-use Prim.Native.Nat.{◌*◌, ◌≤◌, ◌-◌, ◌^◌}
+use Prim.Native.Nat.{◌*◌}
 use native.Mathlib.Nat.{pow-zero, pow-suc}
 use native.Mathlib.Numerals.{add-one}
 use native.Mathlib.Omega.{arith}
-use Rattle.arrivals.specs.Weights.{most_words}
 use Rattle.arrivals.proofs.PowerLaws.{fits_most, fits_not, power_none, power_more, power_past}
 use Rattle.arrivals.proofs.power.fits.Goals as goal
 
@@ -34,12 +32,11 @@ loop-i-smaller c =
     omega arith
 
 pub loop-i-preserved : goal.loop-i-preserved
-loop-i-preserved c =
-    (
-      omega arith,
-      rw add-one (ap (λ x. x * c.args.m) c.loop-i.invariant.1 ∙ sym (pow-suc _ _)),
-      power_more _ _ _ (omega (arith, c.if-m-eq0.false)) c.loop-i.invariant.1 c.if-most-power.false,
-    )
+loop-i-preserved c = (
+  omega arith,
+  rw add-one (ap (λ x. x * c.args.m) c.loop-i.invariant.1 ∙ sym (pow-suc _ _)),
+  power_more _ _ _ (omega (arith, c.if-m-eq0.false)) c.loop-i.invariant.1 c.if-most-power.false,
+)
 
 pub returns : goal.returns
 returns c =

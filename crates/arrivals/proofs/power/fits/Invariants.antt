@@ -1,12 +1,7 @@
 -- `fits` meets its contract: the power so far fits, and one factor more is tested before it is made.
-use mathlib.Core.Path.{◌≡◌, sym, ap, ◌∙◌}
-use borrow.Author.Rules.{rules}
-use Prim.Native.Nat.{◌*◌, ◌≤◌, ◌-◌, ◌^◌}
-use native.Mathlib.Nat.{pow-zero, pow-suc}
-use native.Mathlib.Numerals.{add-one}
-use native.Mathlib.Omega.{arith}
+use mathlib.Core.Path.{◌≡◌}
+use Prim.Native.Nat.{◌≤◌, ◌-◌, ◌^◌}
 use Rattle.arrivals.specs.Weights.{most_words}
-use Rattle.arrivals.proofs.PowerLaws.{fits_most, fits_not, power_none, power_more, power_past}
 use Rattle.arrivals.proofs.power.fits.Given as goal
 
 abbrev pub invariant-loop-i : goal.invariant-loop-i
