@@ -1,7 +1,6 @@
 -- `progress::tell` meets its contract: an equation for each answer of the reader.
 use Rattle.progress.specs.Progress.{tell_of}
 use mathlib.Core.Path.{sym, ap}
-use borrow.Author.Rules.{rules}
 use Rattle.progress.proofs.tell.Goals as goal
 
 pub returns-in-Define : goal.returns-in-Define

@@ -1,12 +1,11 @@
 -- `progress::Book::behind` meets its contract: a definition or a rule, by the place.
 use Rattle.kept.proofs.SlotLaws.{right_name}
 use Rattle.progress.specs.Progress.{behind_at}
-use borrow.Author.Rules.{rules}
 use Rattle.progress.proofs.Book.behind.Goals as goal
 
 pub with_name-requires : goal.with_name-requires
 with_name-requires c =
-    record { name_value = right_name _ _ c.in-Name.is c.requires.0; line_bound = c.requires.1; }
+    record { name_value = right_name _ _ c.in-Name.is c.requires.0; line_bound = c.requires.1 }
 
 pub returns-in-Name : goal.returns-in-Name
 returns-in-Name c =
