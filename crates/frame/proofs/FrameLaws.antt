@@ -3,7 +3,7 @@ use mathlib.Core.Path.{◌≡◌, refl, sym, ap, ◌∙◌, subst}
 use mathlib.Core.Bool.{Bool, true, false, ◌&&◌}
 use mathlib.Core.Logic.{inl, inr}
 use mathlib.Core.List.{List, [], ◌∷◌, ◌++◌}
-use Prim.Native.Nat.{ℕ, zero, suc, ◌+◌, ◌-◌, ◌≤◌, ◌<◌}
+use Prim.Native.Nat.{ℕ, zero, suc, ◌-◌, ◌≤◌, ◌<◌}
 use native.Mathlib.Nat.{not-suc-le-zero}
 use native.Mathlib.Omega.{arith}
 use lib.Dec.{ltb, leb}
@@ -22,7 +22,7 @@ use Rattle.book.specs.Line as L
 use Rattle.book.specs.Line.{HeadRead, letters, read_head}
 use Rattle.book.specs.HeadLaws.{Letters, head_elim, head_letters}
 use Rattle.compiler.specs.Book.{stopped, compile_lines, start_draft, after_head, compile_head, compile_text, compile_book}
-use Rattle.compiler.specs.Outcome.{card, stop, answer, most, outcome, enough}
+use Rattle.compiler.specs.Outcome.{card, stop, outcome, enough}
 use Rattle.slots.specs.Slot.{slot_machine}
 use Rattle.writer.specs.Written.{Kept, kept_card}
 use Rattle.writer.specs.Written as W

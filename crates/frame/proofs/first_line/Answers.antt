@@ -1,7 +1,6 @@
 -- `frame::first_line` meets its contract: line 1 is read, or refused.
 use Rattle.frame.proofs.FrameLaws.{no_bytes, headed, head_stops}
 use native.Mathlib.Omega.{arith}
-use borrow.Author.Rules.{rules}
 use Rattle.frame.proofs.first_line.Goals as goal
 
 pub returns-then-text-eq0 : goal.returns-then-text-eq0

@@ -1,7 +1,6 @@
 -- `frame::put_card` meets its contract: the writer's answer as the entry's.
 use Rattle.frame.proofs.FrameLaws.{slot_long, kept, puts_card, puts_none}
 use native.Mathlib.Omega.{arith}
-use borrow.Author.Rules.{rules}
 use Rattle.frame.proofs.put_card.Goals as goal
 
 pub number-n-requires : goal.number-n-requires
