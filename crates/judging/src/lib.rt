@@ -1,5 +1,7 @@
 // Plans judged as their bytes come, in pieces of any length: a plan ends with a line end, and bytes after the last one are one more plan. The text of
 // their answers is left in a lent buffer. These are parts: callers give the state that the last piece left, and room for a line.
+#![tactic(auto)]
+
 pub mod plan;
 
 ghost use Rattle.std.specs.Prelude.{[], ◌≤◌, length};

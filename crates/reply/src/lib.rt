@@ -1,4 +1,6 @@
 // An answer as a line of text. This is a part: its caller gives a place with room for the longest line.
+#![tactic(auto)]
+
 ghost use Rattle.std.specs.Prelude.{◌+◌, ◌≤◌, length};
 ghost use Rattle.reply.specs.Text.{PutNumbered, PutLine, longest};
 

@@ -1,4 +1,6 @@
 // What the compiling program writes for an answer: the card, or the line `refused N line L`. A part: the caller gives a buffer that the longest line fits.
+#![tactic(auto)]
+
 ghost use Rattle.std.specs.Prelude.{◌≤◌, length};
 ghost use Rattle.report.specs.Shown.{longest, Shows};
 

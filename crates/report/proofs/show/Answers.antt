@@ -14,4 +14,4 @@ returns-else-card-length c =
 
 pub returns-in-Refused : goal.returns-in-Refused
 returns-in-Refused c =
-    shows_refused c.args.answer _ _ _ c.in-Refused.is _ _ c.put-a.ensures _ _ c.put_number-b.ensures _ _ c.put-c.ensures _ _ c.put_number-d.ensures _ _ c.put.ensures (omega (arith, c.requires, same_length c))
+    shows_refused c.args.answer _ _ _ c.in-Refused.is _ _ c.put-a.ensures _ _ c.put_number-b.ensures _ _ c.put-c.ensures _ _ c.put_number-d.ensures _ _ c.put.ensures (search rules)
