@@ -40,7 +40,7 @@ slice_bounds-explore-end-2 c =
 pub explore-requires : goal.explore-requires
 explore-requires c =
     let h : c.width-w.result ≤ 258 = omega (arith, reach_width c.requires c.args.op _ c.width-w.ensures, c.requires.states.1) in
-    record { explores = reach_asks c.requires c.args.op c.width-w.result _ c.width-w.ensures (length-take-le _ _ h); listing = reach_lists c.requires c.args.op c.width-w.result _ (length-replicate {A = ℕ} 256 0); }
+    record { explores = reach_asks c.requires c.args.op c.width-w.result _ c.width-w.ensures (length-take-le _ _ h); listing = reach_lists c.requires c.args.op c.width-w.result _ (length-replicate {A = ℕ} 256 0) }
 
 pub shape_of-rows : goal.shape_of-rows
 shape_of-rows c =

@@ -10,19 +10,11 @@ overflow_add-k c =
 
 pub load-sizes-requires : goal.load-sizes-requires
 load-sizes-requires c =
-    ready_load c.requires
+    let r = ready_load c.requires in record { slot = r.0; slot_2 = r.1.0; k_in_bounds = r.1.1 }
 
 pub reach-requires : goal.reach-requires
 reach-requires c =
     ready_reach c.requires c.load-sizes.ensures
-
-pub enum_known-n : goal.enum_known-n
-enum_known-n c =
-    c.in-Sets.keys1
-
-pub enum_told-1 : goal.enum_told-1
-enum_told-1 c =
-    c.in_default.keys2
 
 pub shape_of-slots-in_default : goal.shape_of-slots-in_default
 shape_of-slots-in_default c =
@@ -47,14 +39,6 @@ returns-in_default c =
 pub keep-requires : goal.keep-requires
 keep-requires c =
     ready_keep c.requires c.load-sizes.ensures _ _ _ _ _ c.reach.ensures c.in-Sets.is _ c.load-sizes.auto.out
-
-pub enum_known-q : goal.enum_known-q
-enum_known-q c =
-    c.in-States.keys1
-
-pub enum_told-in_default-keep : goal.enum_told-in_default-keep
-enum_told-in_default-keep c =
-    c.in_default-keep.keys2
 
 pub shape_of-slots-in_default-keep : goal.shape_of-slots-in_default-keep
 shape_of-slots-in_default-keep c =
