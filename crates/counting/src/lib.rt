@@ -1,4 +1,6 @@
 // How many plans of a length a card allows, leaves unfinished and finds hopeless: states times letters times the length, and no lent buffer.
+#![tactic(auto)]
+
 ghost use Rattle.std.specs.Prelude.{◌≡◌};
 ghost use Rattle.automata.specs.Format.{narrow};
 ghost use Rattle.census.specs.Census.{census};

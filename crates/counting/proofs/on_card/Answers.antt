@@ -30,8 +30,8 @@ pub count-requires : goal.count-requires
 count-requires c =
     let R = c.requires in
     let few = states_few _ _ _ R in
-    countable _ _ _ R _ _ _ c.if-k-gt-LONGEST.false (sym c.if-fits.true ∙ c.fits2.ensures) (length-take-le _ _ few) (length-take-le _ _ few)
+    countable _ _ _ R _ _ _ c.if-k-gt-LONGEST.false (sym c.if-fits.true ∙ c.fits.ensures) (length-take-le _ _ few) (length-take-le _ _ few)
 
 pub returns : goal.returns
 returns c =
-    refused_many _ _ _ c.requires _ (sym c.if-fits.false ∙ c.fits2.ensures)
+    refused_many _ _ _ c.requires _ (sym c.if-fits.false ∙ c.fits.ensures)
