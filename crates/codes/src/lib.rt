@@ -1,5 +1,6 @@
 // What each code of a line's program asks for.
 #![tactic(auto)]
+
 ghost use Rattle.codes.specs.Codes.{Leafless, Sorted};
 
 use book::codes::{

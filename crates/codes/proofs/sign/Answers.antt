@@ -1,4 +1,5 @@
 use Rattle.codes.specs.Codes.{sorted_at, unknown_sorted, sorted_46, sorted_64, sorted_1, sorted_2, sorted_3, sorted_4, sorted_124, sorted_38, sorted_45, sorted_59, sorted_42, sorted_7, sorted_63, sorted_33, sorted_8, sorted_43, sorted_5, sorted_6}
+use native.Mathlib.Omega.{arith}
 use Rattle.codes.proofs.sign.Goals as goal
 
 pub returns-in-46 : goal.returns-in-46
@@ -75,4 +76,4 @@ returns-in-6 c =
 
 pub returns-in_default : goal.returns-in_default
 returns-in_default c =
-    unknown_sorted _ c.requires c.in_default.rest.0.0.0.0.0.0.0.0.0.0.0.0.0.0.0.0.0.1 c.in_default.rest.0.0.0.0.0.0.0.0.0.0.0.0.0.0.0.0.1 c.in_default.rest.0.0.0.0.0.0.0.0.0.0.0.1 c.in_default.rest.0.0.0.0.0.0.0.0.0.0.1 c.in_default.rest.0.0.0.0.0.0.0.0.0.1 c.in_default.rest.0.0.0.0.0.0.0.0.1 c.in_default.rest.0.0.0.0.0.0.0.1 c.in_default.rest.0.0.1 c.in_default.rest.0.0.0.0.0.1 c.in_default.rest.0.0.0.0.1 c.in_default.rest.0.0.0.0.0.0.0.0.0.0.0.0.0.0.0.1 c.in_default.rest.0.0.0.0.0.0.0.0.0.0.0.0.0.0.1 c.in_default.rest.0.0.0.0.0.0.0.0.0.0.0.0.0.1 c.in_default.rest.0.0.0.0.0.0.0.0.0.0.0.0.1 c.in_default.rest.0.1 c.in_default.rest.1 c.in_default.rest.0.0.0.0.0.0.1 c.in_default.rest.0.0.0.1
+    unknown_sorted c.args.c c.requires (omega arith) (omega arith) (omega arith) (omega arith) (omega arith) (omega arith) (omega arith) (omega arith) (omega arith) (omega arith) (omega arith) (omega arith) (omega arith) (omega arith) (omega arith) (omega arith) (omega arith) (omega arith)

@@ -1,7 +1,8 @@
-use mathlib.Core.Logic.{inl, inr, ⊎_elim}
+use mathlib.Core.Logic.{inl, inr}
 use Rattle.codes.specs.Codes.{letter_sorted, name_sorted, leafless}
 use borrow.Author.Rules.{rules}
 use Rattle.codes.proofs.sort_of.Goals as goal
+use Rattle.codes.proofs.sort_of.Goals.{then-c-ge97+else-c-le122, else-c-ge97, then-c-ge65+else-c-le90, else-c-ge65}
 
 pub returns-then-c-le122 : goal.returns-then-c-le122
 returns-then-c-le122 c =
@@ -13,4 +14,6 @@ returns-then-c-le90 c =
 
 pub sign-requires : goal.sign-requires
 sign-requires c =
-    leafless _ (⊎_elim (λ w. inr w.1.left) (λ w. inl w.left) c.if-c-ge97.branch) (⊎_elim (λ w. inr w.1.left) (λ w. inl w.left) c.if-c-ge65.branch)
+    leafless _
+    (elim c.if-c-ge97.branch [ then-c-ge97+else-c-le122 w ↦ inr w.if-c-le122.false | else-c-ge97 w ↦ inl w.if-c-ge97.false ])
+    (elim c.if-c-ge65.branch [ then-c-ge65+else-c-le90 w ↦ inr w.if-c-le90.false | else-c-ge65 w ↦ inl w.if-c-ge65.false ])
