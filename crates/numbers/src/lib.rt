@@ -1,4 +1,6 @@
 // Each entry's answer handed over as numbers: the paper's number of it, 0 where nothing is refused, is handed back, and the rest of it is put into `out`.
+#![tactic(auto)]
+
 ghost use Rattle.std.specs.Prelude.{◌≡◌, ◌∷◌, []};
 ghost use Rattle.card.specs.Answer.{load_numbers, step_numbers, reply_numbers};
 ghost use Rattle.run.specs.Reading.{reply_of};
