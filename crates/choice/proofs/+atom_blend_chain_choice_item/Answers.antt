@@ -3,7 +3,7 @@ use Rattle.std.proofs.Common.{refl, le_refl}
 use Rattle.automata.specs.Stages.{either}
 use Rattle.language.specs.Expression.{pair, join}
 use Rattle.choice.specs.ReadingLaws.{read_to}
-use Rattle.choice.proofs.ReadLaws.{choice_row, blend_row, chain_row, ahead_more, row_done}
+use Rattle.choice.proofs.ReadLaws.{choice_row, blend_row, chain_row, ahead_start, ahead_more, row_done}
 use Rattle.choice.proofs.KindLaws.{choices_stop, blends_stop, chains_stop, below_items, above_items, choices_turn, blends_turn, chains_turn}
 use Rattle.choice.proofs.ItemLaws.{item_refused, item_done, atom_put, atom_refused, bracket_refused, bracket_open, bracket_done}
 use Rattle.choice.proofs.TurnLaws.{leaf_kind, open_kind_lem, close_kind_lem, item_kind_lem, blend_kind, bar_kind_lem, below_not, above_not, below_minus, above_ampersand, below_atoms, above_atoms}
@@ -28,6 +28,9 @@ atom-returns-then-ek-ne-CLOSE_KIND t c = bracket_open (c.token-t.ensures.token (
 pub atom-returns : goal.atom-returns
 atom-returns t c = bracket_done (c.token-t.ensures.token (open_kind_lem _ c.if-k-ne-OPEN_KIND.false)) c.if-k-ne-OPEN_KIND.false c.in-Done.ensures refl (c.token-e.ensures.token (close_kind_lem _ c.if-ek-ne-CLOSE_KIND.false)) c.if-ek-ne-CLOSE_KIND.false
 
+pub blend-loop-n-init : goal.blend-loop-n-init
+blend-loop-n-init t c = ahead_start blend_row
+
 pub blend-returns-then-k-lt-AMPERSAND_KIND : goal.blend-returns-then-k-lt-AMPERSAND_KIND
 blend-returns-then-k-lt-AMPERSAND_KIND t c =
     row_done blend_row (c.loop-n.invariant.reads _ _ _ _ (read_to c.in-Done.ensures refl) c.put_if-end.ensures c.chain.auto.out c.put_if-end.auto.out)
@@ -45,6 +48,9 @@ blend-loop-n-preserved t c =
     ahead_more blend_row y.op (c.loop-n.invariant.reads _ _ _ _ (read_to c.in-Done.ensures refl) c.put_if-end.ensures c.chain.auto.out c.put_if-end.auto.out)
     y.turn refl (turn_less x _ _ blend_row.part_less) (turn_fewer x) (turn_falls x) y.code
 
+pub chain-loop-n-init : goal.chain-loop-n-init
+chain-loop-n-init t c = ahead_start chain_row
+
 pub chain-returns-then-k-lt-LETTER_KIND : goal.chain-returns-then-k-lt-LETTER_KIND
 chain-returns-then-k-lt-LETTER_KIND t c =
     row_done chain_row (c.loop-n.invariant.reads _ _ _ _ (read_to c.in-Done.ensures refl) c.put_if-end.ensures c.item.auto.out c.put_if-end.auto.out)
@@ -60,6 +66,9 @@ chain-loop-n-preserved t c =
     let x = c.token-t.ensures.token (item_kind_lem _ c.if-k-gt-BANG_KIND.false) in
     ahead_more chain_row join (c.loop-n.invariant.reads _ _ _ _ (read_to c.in-Done.ensures refl) c.put_if-end.ensures c.item.auto.out c.put_if-end.auto.out)
     (chains_turn x c.if-k-lt-LETTER_KIND.false c.if-k-gt-BANG_KIND.false) refl (same_less _ _ _ chain_row.part_less) (le_refl _) (le_refl _) (λ e g. refl)
+
+pub choice-loop-n-init : goal.choice-loop-n-init
+choice-loop-n-init t c = ahead_start choice_row
 
 pub choice-returns-then-k-ne-BAR_KIND : goal.choice-returns-then-k-ne-BAR_KIND
 choice-returns-then-k-ne-BAR_KIND t c =
