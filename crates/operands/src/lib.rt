@@ -1,6 +1,7 @@
 // Operands brought into slots of a stack of machines: a letter, a given machine, a copy of a name's or a register's. These are parts: callers give slots
 // that hold machines and buffers that are long enough.
 #![tactic(auto)]
+
 pub mod copies;
 pub mod operand;
 

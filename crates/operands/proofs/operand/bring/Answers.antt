@@ -15,14 +15,6 @@ pub overflow_add-k : goal.overflow_add-k
 overflow_add-k c =
     omega (arith, columns_fit c.requires)
 
-pub enum_known-source : goal.enum_known-source
-enum_known-source c =
-    c.in-Letter.keys1
-
-pub column_of-c-requires : goal.column_of-c-requires
-column_of-c-requires c =
-    tt
-
 pub slice_bounds-letter-count : goal.slice_bounds-letter-count
 slice_bounds-letter-count c =
     omega arith
@@ -37,11 +29,7 @@ slice_bounds-letter-end c =
 
 pub letter-requires : goal.letter-requires
 letter-requires c =
-    record { le_most = (c.requires.shelves.states, part_long c.requires); c_le_m = column_most c.args.letters.now c.in-Letter.b _ c.column_of-c.ensures; }
-
-pub enum_known-source-in-Name-1 : goal.enum_known-source-in-Name-1
-enum_known-source-in-Name-1 c =
-    c.in-Name.keys2
+    record { le_most = (c.requires.shelves.states, part_long c.requires); c_le_m = column_most c.args.letters.now c.in-Letter.b _ c.column_of-c.ensures }
 
 pub overflow_sub-b : goal.overflow_sub-b
 overflow_sub-b c =
@@ -53,7 +41,7 @@ overflow_mul-b c =
 
 pub copy-requires : goal.copy-requires
 copy-requires c =
-    low_asks c.requires _ c.in-Name.is c.if-b-le77.true
+    let r = low_asks c.requires _ c.in-Name.is c.if-b-le77.true in record { slot = r.0; k_in_bounds = r.1 }
 
 pub overflow_mul-b-else-b-le77 : goal.overflow_mul-b-else-b-le77
 overflow_mul-b-else-b-le77 c =
@@ -61,11 +49,7 @@ overflow_mul-b-else-b-le77 c =
 
 pub copy-requires-else-b-le77 : goal.copy-requires-else-b-le77
 copy-requires-else-b-le77 c =
-    high_asks c.requires _ c.in-Name.is c.if-b-le77.false
-
-pub enum_known-source-in-Given-1 : goal.enum_known-source-in-Given-1
-enum_known-source-in-Given-1 c =
-    c.in-Given.keys3
+    let r = high_asks c.requires _ c.in-Name.is c.if-b-le77.false in record { slot = r.0; k_in_bounds = r.1 }
 
 pub slice_bounds-given-count : goal.slice_bounds-given-count
 slice_bounds-given-count c =
@@ -83,17 +67,13 @@ pub given-requires : goal.given-requires
 given-requires c =
     part_writable c.requires
 
-pub enum_known-source-in-Register-1 : goal.enum_known-source-in-Register-1
-enum_known-source-in-Register-1 c =
-    c.in-Register.keys4
-
 pub overflow_mul-j : goal.overflow_mul-j
 overflow_mul-j c =
     omega (arith, register_room c.requires _ c.in-Register.is)
 
 pub copy-requires-in-Register : goal.copy-requires-in-Register
 copy-requires-in-Register c =
-    register_asks c.requires _ c.in-Register.is
+    let r = register_asks c.requires _ c.in-Register.is in record { slot = r.0; k_in_bounds = r.1 }
 
 pub returns-in-Letter : goal.returns-in-Letter
 returns-in-Letter c =
