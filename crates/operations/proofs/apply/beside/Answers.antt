@@ -13,7 +13,7 @@ overflow_add-letters c =
 
 pub raise-requires : goal.raise-requires
 raise-requires c =
-    raise_asks c.requires.doubling
+    let r = raise_asks c.requires.doubling in record { slot = r.0; k_bound = r.1 }
 
 pub bring-requires : goal.bring-requires
 bring-requires c =

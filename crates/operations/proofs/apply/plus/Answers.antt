@@ -8,10 +8,6 @@ pub star_above-requires : goal.star_above-requires
 star_above-requires c =
     c.requires
 
-pub enum_known-_h : goal.enum_known-_h
-enum_known-_h c =
-    c.in-Next.keys1
-
 pub overflow_add-top : goal.overflow_add-top
 overflow_add-top c =
     omega (arith, c.requires.low)
@@ -19,18 +15,6 @@ overflow_add-top c =
 pub apply-joined-requires : goal.apply-joined-requires
 apply-joined-requires c =
     plus_second c.requires c.star_above.ensures _ _ c.in-Next.is c.star_above.auto.rows c.star_above.auto.table c.star_above.auto.work
-
-pub behind-requires : goal.behind-requires
-behind-requires c =
-    tt
-
-pub enum_known-r : goal.enum_known-r
-enum_known-r c =
-    c.in-Refused.keys2
-
-pub enum_told-1 : goal.enum_told-1
-enum_told-1 c =
-    c.in-Stuck.keys3
 
 pub shape_of-stack-in-Next : goal.shape_of-stack-in-Next
 shape_of-stack-in-Next c =

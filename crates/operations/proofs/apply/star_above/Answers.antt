@@ -14,7 +14,7 @@ overflow_add-m c =
 
 pub raise-requires : goal.raise-requires
 raise-requires c =
-    raise_asks c.requires
+    let r = raise_asks c.requires in record { slot = r.0; k_bound = r.1 }
 
 pub overflow_add-top : goal.overflow_add-top
 overflow_add-top c =
