@@ -22,14 +22,6 @@ pub step-requires : goal.step-requires
 step-requires c =
     going_step _ _ _ _ _ _ _ _ _ _ _ c.requires.running c.loop-i.invariant c.loop-i-test.true
 
-pub enum_known-h : goal.enum_known-h
-enum_known-h c =
-    c.in-Next.keys1
-
-pub greater-peak-requires : goal.greater-peak-requires
-greater-peak-requires c =
-    tt
-
 pub loop-i-smaller : goal.loop-i-smaller
 loop-i-smaller c =
     omega (arith, c.loop-i-test.true)
@@ -37,10 +29,6 @@ loop-i-smaller c =
 pub loop-i-preserved : goal.loop-i-preserved
 loop-i-preserved c =
     going_next _ _ _ _ _ _ _ _ _ _ _ c.requires.running c.loop-i.invariant c.loop-i-test.true c.step.ensures _ _ _ c.in-Next.is c.greater-peak.ensures c.step.auto.rows c.step.auto.table c.step.auto.work
-
-pub enum_known-n : goal.enum_known-n
-enum_known-n c =
-    c.in-Refused.keys2
 
 pub shape_of-registers-in-Refused : goal.shape_of-registers-in-Refused
 shape_of-registers-in-Refused c =
@@ -65,10 +53,6 @@ shape_of-work-in-Refused c =
 pub returns-in-Refused : goal.returns-in-Refused
 returns-in-Refused c =
     run_refused (going_refused _ _ _ _ _ _ _ _ _ _ _ c.requires.running c.loop-i.invariant c.loop-i-test.true c.step.ensures _ c.in-Refused.is) _ refl
-
-pub enum_told-1 : goal.enum_told-1
-enum_told-1 c =
-    c.in-Stuck.keys3
 
 pub shape_of-registers-in-Stuck : goal.shape_of-registers-in-Stuck
 shape_of-registers-in-Stuck c =

@@ -4,14 +4,6 @@ use Rattle.operations.specs.Apply.{lent_columns}
 use Rattle.evaluate.specs.Steps.{tall, push_bring, push_steps, top_low, top_stuck, top_apply, top_steps, beside_stuck, beside_ready, beside_steps, plus_stuck, plus_ready, plus_steps, unknown_steps, store_stuck, store_from, store_to, store_asks, store_steps}
 use Rattle.evaluate.proofs.run.step.Goals as goal
 
-pub sort_of-requires : goal.sort_of-requires
-sort_of-requires c =
-    tt
-
-pub enum_known-source : goal.enum_known-source
-enum_known-source c =
-    c.in-Push.keys1
-
 pub bring-requires : goal.bring-requires
 bring-requires c =
     push_bring c.requires c.sort_of.ensures _ c.in-Push.is
@@ -19,10 +11,6 @@ bring-requires c =
 pub overflow_add-result : goal.overflow_add-result
 overflow_add-result c =
     omega (arith, tall c.requires)
-
-pub enum_known-op : goal.enum_known-op
-enum_known-op c =
-    c.in-Top.keys2
 
 pub returns-then-sp-n : goal.returns-then-sp-n
 returns-then-sp-n c =
@@ -36,10 +24,6 @@ pub apply-requires : goal.apply-requires
 apply-requires c =
     top_apply c.requires c.sort_of.ensures _ _ c.in-Top.is c.if-sp-n.false
 
-pub enum_known-op-in-Beside-1 : goal.enum_known-op-in-Beside-1
-enum_known-op-in-Beside-1 c =
-    c.in-Beside.keys3
-
 pub returns-then-sp-lt1 : goal.returns-then-sp-lt1
 returns-then-sp-lt1 c =
     beside_stuck c.requires c.sort_of.ensures _ _ c.in-Beside.is c.if-sp-lt1.true
@@ -48,10 +32,6 @@ pub beside-requires : goal.beside-requires
 beside-requires c =
     beside_ready c.requires c.sort_of.ensures _ _ c.in-Beside.is c.if-sp-lt1.false
 
-pub enum_told-1 : goal.enum_told-1
-enum_told-1 c =
-    c.in-Plus.keys4
-
 pub returns-then-sp-lt1-2 : goal.returns-then-sp-lt1-2
 returns-then-sp-lt1-2 c =
     plus_stuck c.requires c.sort_of.ensures c.in-Plus.is c.if-sp-lt1-2.true
@@ -59,10 +39,6 @@ returns-then-sp-lt1-2 c =
 pub plus-requires : goal.plus-requires
 plus-requires c =
     plus_ready c.requires c.sort_of.ensures c.in-Plus.is c.if-sp-lt1-2.false
-
-pub enum_known-i : goal.enum_known-i
-enum_known-i c =
-    c.in-Store.keys5
 
 pub returns-then-sp-lt1-3 : goal.returns-then-sp-lt1-3
 returns-then-sp-lt1-3 c =
@@ -82,11 +58,7 @@ overflow_add-letters c =
 
 pub copy-requires : goal.copy-requires
 copy-requires c =
-    store_asks c.requires c.sort_of.ensures _ c.in-Store.is c.if-sp-lt1-3.false
-
-pub enum_told-in-Unknown : goal.enum_told-in-Unknown
-enum_told-in-Unknown c =
-    c.in-Unknown.keys6
+    let r = store_asks c.requires c.sort_of.ensures _ c.in-Store.is c.if-sp-lt1-3.false in record { slot = r.0; k_in_bounds = r.1 }
 
 pub shape_of-registers-in-Push : goal.shape_of-registers-in-Push
 shape_of-registers-in-Push c =
