@@ -1,5 +1,6 @@
 -- What the compiling program writes for a text.
-use Rattle.std.specs.Prelude.{ℕ, List, length}
+use Rattle.std.specs.Prelude.{◌≡◌, ℕ, List, Option, length, take}
+use Rattle.std.specs.Io.KnownBytes.{Appends}
 use Rattle.automata.specs.Format.{narrow}
 use Rattle.compiler.specs.Outcome.{outcome}
 use Rattle.compiler.specs.declared.Compiled.{Compiled}
@@ -12,3 +13,12 @@ pub record Prints (text old out : List ℕ) (r : ℕ) : Type 0 where
   pub card : List ℕ
   pub answers : Answers (outcome narrow documented text documented (length old)) old card answer
   pub shows : Shows answer card out r
+
+-- That was written, with a card buffer of 3,278 bytes, and nothing else.
+pub record Printed (text : List ℕ) (output output' : Option (List ℕ)) : Type 0 where
+  pub old : List ℕ
+  pub out : List ℕ
+  pub size : ℕ
+  pub long : length old ≡ 3278
+  pub prints : Prints text old out size
+  pub written : Appends output output' (take size out)
