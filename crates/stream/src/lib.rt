@@ -1,10 +1,10 @@
 // What the programs share: a whole input in a lent buffer, and text in one.
 #![tactic(auto)]
 
-ghost use Rattle.std.specs.Prelude.{◌+◌, ◌≤◌, ◌<◌, length};
+ghost use Rattle.std.specs.Prelude.{◌+◌, ◌≤◌, ◌<◌, length, IfOk};
 ghost use Rattle.std.specs.Io.{ReadsAtMost};
 ghost use Rattle.stream.specs.Text.{Put, PutNumber, decimal};
-ghost use Rattle.stream.specs.Input.{Within};
+ghost use Rattle.stream.specs.Input.{Within, ReadsFirst, ReadsInput};
 
 use std::io;
 use std::io::Read;
@@ -21,7 +21,8 @@ pub enum Input {
 
 // Reads until the input ends or the buffer is full, and gives the number of bytes; or the error of the read that failed.
 pub fn read_full<R: Read>(input: &mut R, buf: &mut [u8]) -> io::Result<usize>
-    ensures { ReadsAtMost result buf.new }
+    ensures within { ReadsAtMost result buf.new }
+    ensures bytes { IfOk result (λ n. ReadsFirst (R.remaining input.old) (R.remaining input.new) n buf.new) }
 {
     let mut done = 0;
     while done < buf.len() {
@@ -36,7 +37,8 @@ pub fn read_full<R: Read>(input: &mut R, buf: &mut [u8]) -> io::Result<usize>
 
 // Reads until the input ends or the buffer is full.
 pub fn read_all<R: Read>(input: &mut R, buf: &mut [u8]) -> Input
-    ensures { Within result buf.new }
+    ensures within { Within result buf.new }
+    ensures bytes { ReadsInput (R.remaining input.old) (R.remaining input.new) result buf.new }
 {
     match read_full(input, buf) {
         Ok(size) => Input::Whole(size),
