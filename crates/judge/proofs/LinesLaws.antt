@@ -1,6 +1,7 @@
 -- Bytes as they are read: those of one read, and read after read; and what is written for them.
 use Rattle.std.specs.Prelude.{Option, None, Some, Result, Ok, Err, OnOk, Bool, false}
 use Rattle.std.specs.Result.{is_err}
+use Rattle.std.proofs.KnownBytes.{Appends-nil, Appends-trans, Consumes-nil, Consumes-trans}
 use Rattle.std.specs.Io.KnownBytes.{Consumes, Appends, IsAtEnd}
 use Rattle.std.proofs.Common.{◌≡◌, refl, sym, ap, subst, ◌∙◌, true≢false, List, [], ◌∷◌, ◌++◌, ℕ, ◌+◌, ◌-◌, ◌*◌, ◌^◌, ◌≤◌, ◌<◌, arith, append_assoc, append-nil, length, take, drop, length-take, length-drop, take-add}
 use Rattle.std.proofs.lemmas.List.{take_all}
@@ -18,28 +19,6 @@ use Rattle.judge.specs.Lines.{AllReplies}
 pub on_ok : {A E : Type 0} (r : Result A E) (P : Type 0) {b : Bool} → b ≡ is_err r → b ≡ false → OnOk r P → P
 on_ok (Ok x) P d e p = p
 on_ok (Err y) P d e p = absurd (true≢false (sym d ∙ e))
-
--- ---- known bytes
-
-appends_none : (o : Option (List ℕ)) → Appends o o []
-appends_none None = tt
-appends_none (Some xs) = sym (append-nil xs)
-
-appends_more : (a b d : Option (List ℕ)) (x y : List ℕ) → Appends a b x → Appends b d y → Appends a d (x ++ y)
-appends_more None b d x y p q = tt
-appends_more (Some xs) None d x y p q = absurd p
-appends_more (Some xs) (Some ys) None x y p q = absurd q
-appends_more (Some xs) (Some ys) (Some zs) x y p q = q ∙ ap (λ l. l ++ y) p ∙ append_assoc xs x y
-
-consumes_none : (i : Option (List ℕ)) → Consumes i i []
-consumes_none None = tt
-consumes_none (Some xs) = refl
-
-consumes_more : (a b d : Option (List ℕ)) (x y : List ℕ) → Consumes a b x → Consumes b d y → Consumes a d (x ++ y)
-consumes_more None b d x y p q = tt
-consumes_more (Some xs) None d x y p q = absurd p
-consumes_more (Some xs) (Some ys) None x y p q = absurd q
-consumes_more (Some xs) (Some ys) (Some zs) x y p q = p ∙ ap (λ l. x ++ l) q ∙ sym (append_assoc x y zs)
 
 -- the lines of plans behind plans
 lines_append : (c : List ℕ) (ps qs : List (List ℕ)) → reply_lines c (ps ++ qs) ≡ reply_lines c ps ++ reply_lines c qs
@@ -64,7 +43,7 @@ pub record Taken (c s : List ℕ) (st₀ : State) (o₀ : Option (List ℕ)) (fr
 
 module _ (c s : List ℕ) (st₀ : State) (o₀ : Option (List ℕ)) where
   pub taken_none : Taken c s st₀ o₀ 0 st₀ o₀
-  taken_none = record { inside = omega arith; since = λ u w. w; text = λ u w. appends_none o₀ }
+  taken_none = record { inside = omega arith; since = λ u w. w; text = λ u w. Appends-nil o₀ }
 
   module _ (from : ℕ) (st : State) (o : Option (List ℕ)) (t : Taken c s st₀ o₀ from st o) where
     pub taken_counted : Counted c st₀ (length s) → Counted c st (length (tail s from))
@@ -88,7 +67,7 @@ module _ (c s : List ℕ) (st₀ : State) (o₀ : Option (List ℕ)) where
           subst (λ x. Appends o₀ o' x)
           (sym (ap (λ x. reply_lines c (ended u x)) split ∙ ap (reply_lines c) (ended_append u (take from s) (take r.used (tail s from)))
           ∙ lines_append c (ended u (take from s)) (ended (begun u (take from s)) (take r.used (tail s from)))))
-          (appends_more o₀ o o' _ _ (t.text u w) (subst (λ x. Appends o o' x) (f.text (begun u (take from s)) (t.since u w)) a));
+          (Appends-trans o₀ o o' _ _ (t.text u w) (subst (λ x. Appends o o' x) (f.text (begun u (take from s)) (t.since u w)) a));
     }
       where
         split : take (from + r.used) s ≡ take from s ++ take r.used (tail s from)
@@ -112,7 +91,7 @@ pub record Reading (c : List ℕ) (i₀ o₀ : Option (List ℕ)) (reads : ℕ) 
 
 module _ (c : List ℕ) (i₀ o₀ : Option (List ℕ)) where
   pub reading_start : (st : State) → Since c [] st → Reading c i₀ o₀ 0 st i₀ o₀
-  reading_start st w = record { bytes = []; since = w; few = omega arith; read = consumes_none i₀; written = appends_none o₀ }
+  reading_start st w = record { bytes = []; since = w; few = omega arith; read = Consumes-nil i₀; written = Appends-nil o₀ }
 
   module _ (reads : ℕ) (st : State) (i o : Option (List ℕ)) (r : Reading c i₀ o₀ reads st i o) where
     pub reading_counted : (n : ℕ) → reads < 2 ^ 47 → n ≤ 65536 → Counted c st n
@@ -125,10 +104,10 @@ module _ (c : List ℕ) (i₀ o₀ : Option (List ℕ)) where
       bytes = r.bytes ++ s;
       since = subst (λ x. Since c x st') (sym (begun_append [] r.bytes s)) (f (begun [] r.bytes) r.since);
       few = omega (arith, r.few, begun_few (begun [] r.bytes) s, ap length (begun_append [] r.bytes s));
-      read = consumes_more i₀ i i' _ _ r.read q;
+      read = Consumes-trans i₀ i i' _ _ r.read q;
       written =
           subst (λ x. Appends o₀ o' x) (sym (ap (reply_lines c) (ended_append [] r.bytes s) ∙ lines_append c (ended [] r.bytes) (ended (begun [] r.bytes) s)))
-          (appends_more o₀ o o' _ _ r.written (g (begun [] r.bytes) r.since));
+          (Appends-trans o₀ o o' _ _ r.written (g (begun [] r.bytes) r.since));
     }
 
     -- the input's end
@@ -136,9 +115,9 @@ module _ (c : List ℕ) (i₀ o₀ : Option (List ℕ)) where
         → Finishes c st out last → Appends o o' (take last out) → AllReplies c i₀ i' o₀ o'
     reading_all n buf out last i' o' q z h f a = record {
       bytes = r.bytes;
-      read = subst (λ x. Consumes i₀ i' x) (append-nil r.bytes) (consumes_more i₀ i i' _ _ r.read (subst (λ k. Consumes i i' (take k buf)) z q.0));
+      read = subst (λ x. Consumes i₀ i' x) (append-nil r.bytes) (Consumes-trans i₀ i i' _ _ r.read (subst (λ k. Consumes i i' (take k buf)) z q.0));
       all = q.1 z h;
       written =
           subst (λ x. Appends o₀ o' x) (sym (ap (reply_lines c) (plans_pieces r.bytes) ∙ lines_append c (ended [] r.bytes) (last_plan (begun [] r.bytes))))
-          (appends_more o₀ o o' _ _ r.written (subst (λ x. Appends o o' x) (f.text (begun [] r.bytes) r.since) a));
+          (Appends-trans o₀ o o' _ _ r.written (subst (λ x. Appends o o' x) (f.text (begun [] r.bytes) r.since) a));
     }
