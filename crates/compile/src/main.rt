@@ -2,10 +2,18 @@
 #![tactic(auto)]
 
 ghost use Rattle.std.specs.Prelude.{OnOk};
-ghost use Rattle.compile.specs.Prints.{Prints, Printed};
+ghost use Rattle.compile.specs.Prints.{Prints, Printed, Compiles};
 
 use std::io;
-use std::io::Write;
+use std::io::{Read, Write};
+
+// How compiling ended: with what is to be written; or before it, since a read or a write failed.
+#[derive(Drop)]
+pub enum Ending {
+    Whole,
+    NotRead,
+    NotWritten,
+}
 
 // Compiles a text with buffers of its own.
 fn compile(text: &[u8], card: &mut [u8; 3278]) -> usize
@@ -44,15 +52,25 @@ fn print<W: Write>(output: &mut W, text: &[u8]) -> io::Result<()>
 }
 
 // A text is read one byte past the longest one, so that a longer one is refused. A read that fails is not the end of the text.
-fn main(rt: HostRuntime) -> io::Result<()> {
+fn compile_all<R: Read, W: Write>(input: &mut R, output: &mut W) -> Ending
+    ensures { Compiles (R.remaining input.old) (R.remaining input.new) (W.contents output.old) (W.contents output.new) result }
+{
     let mut text = [0u8; 16385];
-    let mut input = rt.stdin();
-    let stream::Input::Whole(size) = stream::read_all(&mut input, &mut text) else {
-        return eprintln!(rt; "compile: standard input cannot be read");
+    let stream::Input::Whole(size) = stream::read_all(input, &mut text) else {
+        return Ending::NotRead;
     };
-    let mut output = rt.stdout();
-    if print(&mut output, &text[..size]).is_err() {
-        return eprintln!(rt; "compile: standard output cannot be written");
+    if print(output, &text[..size]).is_err() {
+        return Ending::NotWritten;
     }
-    Ok(())
+    Ending::Whole
+}
+
+fn main(rt: HostRuntime) -> io::Result<()> {
+    let mut input = rt.stdin();
+    let mut output = rt.stdout();
+    match compile_all(&mut input, &mut output) {
+        Ending::NotRead => eprintln!(rt; "compile: standard input cannot be read"),
+        Ending::NotWritten => eprintln!(rt; "compile: standard output cannot be written"),
+        Ending::Whole => Ok(()),
+    }
 }
