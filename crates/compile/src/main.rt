@@ -8,7 +8,7 @@ use std::io;
 use std::io::{Read, Write};
 
 // How compiling ended: with what is to be written; or before it, since a read or a write failed.
-#[derive(Drop)]
+#[derive(Clone, Copy)]
 pub enum Ending {
     Whole,
     NotRead,

@@ -22,7 +22,7 @@ pub struct Answered {
 }
 
 // How judging ended: at the input's end; before it, since a read or a write failed; or after the most reads.
-#[derive(Drop)]
+#[derive(Clone, Copy)]
 pub enum Ending {
     Whole,
     NotRead,
