@@ -1,10 +1,13 @@
 -- What the compiling program writes for a text.
-use Rattle.std.specs.Prelude.{ℕ, List, length}
+use Rattle.std.specs.Prelude.{◌≡◌, ◌<◌, ℕ, List, Option, length, take}
+use Rattle.std.specs.Io.KnownBytes.{Consumes, Appends, IsAtEnd}
 use Rattle.automata.specs.Format.{narrow}
 use Rattle.compiler.specs.Outcome.{outcome}
 use Rattle.compiler.specs.declared.Compiled.{Compiled}
 use Rattle.driver.specs.Entry.{documented, Answers}
 use Rattle.report.specs.Shown.{Shows}
+use Rattle.compile.specs.declared.Ending.{Ending}
+use Rattle.compile.specs.declared.Ending.TheVariants.{Whole, NotRead, NotWritten}
 
 -- What is written for a text is what is shown for the compiler's answer, with buffers of the documented lengths, and the card buffer behind it.
 pub record Prints (text old out : List ℕ) (r : ℕ) : Type 0 where
@@ -12,3 +15,24 @@ pub record Prints (text old out : List ℕ) (r : ℕ) : Type 0 where
   pub card : List ℕ
   pub answers : Answers (outcome narrow documented text documented (length old)) old card answer
   pub shows : Shows answer card out r
+
+-- That was written, with a card buffer of 3,278 bytes, and nothing else.
+pub record Printed (text : List ℕ) (output output' : Option (List ℕ)) : Type 0 where
+  pub old : List ℕ
+  pub out : List ℕ
+  pub size : ℕ
+  pub long : length old ≡ 3278
+  pub prints : Prints text old out size
+  pub written : Appends output output' (take size out)
+
+-- The text is what the input has, or its first 16,385 bytes, one more than the longest text has; and what is written is what is written for it.
+pub record CompilesInput (input input' output output' : Option (List ℕ)) : Type 0 where
+  pub text : List ℕ
+  pub read : Consumes input input' text
+  pub whole : length text < 16385 → IsAtEnd input'
+  pub printed : Printed text output output'
+
+abbrev pub Compiles : Option (List ℕ) → Option (List ℕ) → Option (List ℕ) → Option (List ℕ) → Ending → Type 0
+Compiles input input' output output' Whole = CompilesInput input input' output output'
+Compiles input input' output output' NotRead = Unit {0}
+Compiles input input' output output' NotWritten = Unit {0}

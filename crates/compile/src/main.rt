@@ -1,7 +1,19 @@
 // The compiling program: the book from standard input; its card, or the line `refused N line L`, to standard output.
-ghost use Rattle.compile.specs.Prints.{Prints};
+#![tactic(auto)]
 
-use libc::{STDERR_FILENO, STDIN_FILENO, STDOUT_FILENO};
+ghost use Rattle.std.specs.Prelude.{OnOk};
+ghost use Rattle.compile.specs.Prints.{Prints, Printed, Compiles};
+
+use std::io;
+use std::io::{Read, Write};
+
+// How compiling ended: with what is to be written; or before it, since a read or a write failed.
+#[derive(Clone, Copy)]
+pub enum Ending {
+    Whole,
+    NotRead,
+    NotWritten,
+}
 
 // Compiles a text with buffers of its own.
 fn compile(text: &[u8], card: &mut [u8; 3278]) -> usize
@@ -31,24 +43,34 @@ fn compile(text: &[u8], card: &mut [u8; 3278]) -> usize
 }
 
 // The longest card has 3,278 bytes.
-fn print(text: &[u8]) {
+fn print<W: Write>(output: &mut W, text: &[u8]) -> io::Result<()>
+    ensures { OnOk result (Printed text.now (W.contents output.old) (W.contents output.new)) }
+{
     let mut card = [0u8; 3278];
     let n = compile(text, &mut card);
-    if !io::write_all(STDOUT_FILENO, &card[..n]) {
-        io::write_all(
-            STDERR_FILENO,
-            b"compile: standard output cannot be written\n",
-        );
-    }
+    output.write_all(&card[..n])
 }
 
 // A text is read one byte past the longest one, so that a longer one is refused. A read that fails is not the end of the text.
-fn main() {
+fn compile_all<R: Read, W: Write>(input: &mut R, output: &mut W) -> Ending
+    ensures { Compiles (R.remaining input.old) (R.remaining input.new) (W.contents output.old) (W.contents output.new) result }
+{
     let mut text = [0u8; 16385];
-    match stream::read_all(STDIN_FILENO, &mut text[..]) {
-        stream::Input::Whole(size) => print(&text[..size]),
-        stream::Input::Failed => {
-            io::write_all(STDERR_FILENO, b"compile: standard input cannot be read\n");
-        }
+    let stream::Input::Whole(size) = stream::read_all(input, &mut text) else {
+        return Ending::NotRead;
+    };
+    if print(output, &text[..size]).is_err() {
+        return Ending::NotWritten;
+    }
+    Ending::Whole
+}
+
+fn main(rt: HostRuntime) -> io::Result<()> {
+    let mut input = rt.stdin();
+    let mut output = rt.stdout();
+    match compile_all(&mut input, &mut output) {
+        Ending::NotRead => eprintln!(rt; "compile: standard input cannot be read"),
+        Ending::NotWritten => eprintln!(rt; "compile: standard output cannot be written"),
+        Ending::Whole => Ok(()),
     }
 }

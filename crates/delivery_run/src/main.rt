@@ -1,8 +1,11 @@
 // Runs the whole way on some of the paper's books and plans, on a book of the three kinds of rules, on one without rules and on a text of no bytes, a line
 // each: length, peak, letters and states of the card and the board's reply; or the refusal with its line. The card buffer is longer than the card and holds other bytes, and so do the work buffers.
+#![tactic(auto)]
+
+use std::io;
 
 // The whole way with buffers of its own.
-fn deliver(text: &[u8], plan: &[u8]) {
+fn deliver(rt: &impl Print, text: &[u8], plan: &[u8]) -> io::Result<()> {
     let mut card = [7u8; 4000];
     let mut low = [7u8; 43706];
     let mut high = [7u8; 43706];
@@ -25,19 +28,19 @@ fn deliver(text: &[u8], plan: &[u8]) {
         &mut work[..],
         &mut code[..],
     );
-    printing::delivered(answer);
+    printing::delivered(rt, answer)
 }
 
-fn main() {
-    deliver(b":ab\n>b / .*a _ .*\n", b"ab");
-    deliver(b":ab\n>b / .*a _ .*\n", b"abb");
-    deliver(b":ab\n>b / .*a _ .*\n", b"abcb");
-    deliver(b":abc\n>b / a _ a / c _ c\n", b"ab");
+fn main(rt: HostRuntime) -> io::Result<()> {
+    deliver(&rt, b":ab\n>b / .*a _ .*\n", b"ab")?;
+    deliver(&rt, b":ab\n>b / .*a _ .*\n", b"abb")?;
+    deliver(&rt, b":ab\n>b / .*a _ .*\n", b"abcb")?;
+    deliver(&rt, b":abc\n>b / a _ a / c _ c\n", b"ab")?;
     let mixed = b":ab\n>a / .*b _ .*\n<aa / .* _ .*\n^(.*b)? / @ _ @\n";
-    deliver(mixed, b"ba");
-    deliver(mixed, b"baa");
-    deliver(b":ab\n>c\n", b"ab");
-    deliver(b":ab\n=Aa+\n", b"abba");
-    deliver(b"", b"");
-    deliver(b"", b"a");
+    deliver(&rt, mixed, b"ba")?;
+    deliver(&rt, mixed, b"baa")?;
+    deliver(&rt, b":ab\n>c\n", b"ab")?;
+    deliver(&rt, b":ab\n=Aa+\n", b"abba")?;
+    deliver(&rt, b"", b"")?;
+    deliver(&rt, b"", b"a")
 }

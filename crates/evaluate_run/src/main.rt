@@ -1,7 +1,9 @@
 // Runs each line of a text by itself, over the letters a and b: the line is read, and its program is run on lent buffers of the documented lengths, which
 // hold other bytes. Writes for each line the most sets that a stage made with the states of its machine, or the number of its refusal. A rule is met with
 // `.*`, as in a book of this one rule; no line may use a name.
-ghost use Rattle.std.specs.Prelude.{◌≡◌, ◌*◌, ◌<◌, ◌≤◌, length};
+#![tactic(auto)]
+
+ghost use Rattle.std.specs.Prelude.{◌≡◌, ◌*◌, ◌<◌, ◌≤◌, length, IfOk};
 ghost use Rattle.lexer.specs.Kinds.{Kinds};
 ghost use Rattle.operands.specs.Stack.{Slots};
 ghost use Rattle.evaluate_run.specs.Ready.{Coded};
@@ -9,11 +11,11 @@ ghost use Rattle.evaluate_run.specs.Ready.{Coded};
 use evaluate::run;
 use evaluate::run::Evaluated;
 use lexer::kinds::KindTable;
-use libc::{STDIN_FILENO, STDOUT_FILENO};
 use operands::Layout;
 use reader::line::{LineAnswer, read_line};
 use reader::names::Names;
 use slots::{given, slot};
+use std::io;
 
 // `.*` in each of n slots.
 fn fill(n: usize, slots: &mut [u8])
@@ -28,26 +30,20 @@ fn fill(n: usize, slots: &mut [u8])
     }
 }
 
-fn say_refused(n: u8) {
-    io::write_all(STDOUT_FILENO, b"refused ");
-    io::print_decimal(STDOUT_FILENO, n as u64);
-    io::write_all(STDOUT_FILENO, b"\n");
+fn say_refused(rt: &impl Print, n: u8) -> io::Result<()> {
+    println!(rt; "refused {n}")
 }
 
 // What was made; its machine is in front of the stack.
-fn say(r: Evaluated, stack: &[u8])
+fn say(rt: &impl Print, r: Evaluated, stack: &[u8]) -> io::Result<()>
     requires { 2 ≤ length stack.now }
 {
     match r {
         Evaluated::Made(peak) => {
-            io::print_decimal(STDOUT_FILENO, peak as u64);
-            io::write_all(STDOUT_FILENO, b" sets ");
-            io::print_decimal(STDOUT_FILENO, slot::number(stack, 0) as u64);
-            io::write_all(STDOUT_FILENO, b" states\n");
+            let states = slot::number(stack, 0);
+            println!(rt; "{peak} sets {states} states")
         }
-        Evaluated::Refused(n) => {
-            say_refused(n);
-        }
+        Evaluated::Refused(n) => say_refused(rt, n),
     }
 }
 
@@ -85,7 +81,7 @@ fn work() -> [u16; 6720] {
 }
 
 // A line's program, run.
-fn make(code: &[u8], len: usize, letters: &[u8])
+fn make(rt: &impl Print, code: &[u8], len: usize, letters: &[u8]) -> io::Result<()>
     requires coded { Coded code.now len }
     requires value { 2 ≡ length letters.now }
 {
@@ -113,7 +109,7 @@ fn make(code: &[u8], len: usize, letters: &[u8])
         &mut table,
         &mut work,
     );
-    say(r, &stack);
+    say(rt, r, &stack)
 }
 
 fn code() -> [u8; 32832] {
@@ -121,42 +117,50 @@ fn code() -> [u8; 32832] {
 }
 
 // The line that starts at `at`, with no names above it: where the next line starts. A line that is refused as it is read is the last.
-fn line(kinds: &KindTable, text: &[u8], at: usize, letters: &[u8]) -> usize
+fn line(
+    rt: &impl Print,
+    kinds: &KindTable,
+    text: &[u8],
+    at: usize,
+    letters: &[u8],
+) -> io::Result<usize>
     requires kinds { Kinds kinds.now }
     requires at_in_bounds { (at < length text.now) × (length text.now ≤ 4096) }
     requires value { 2 ≡ length letters.now }
-    ensures { at < result }
+    ensures { IfOk result (λ next. at < next) }
 {
     let mut code = code();
     match read_line(kinds, text, at, letters, Names::none(), &mut code) {
         LineAnswer::Define(_name, len, next) => {
-            make(&code, len, letters);
-            return next;
+            make(rt, &code, len, letters)?;
+            Ok(next)
         }
         LineAnswer::Rule(len, next) => {
-            make(&code, len, letters);
-            return next;
+            make(rt, &code, len, letters)?;
+            Ok(next)
         }
         LineAnswer::Refused(n) => {
-            say_refused(n);
-            return text.len();
+            say_refused(rt, n)?;
+            Ok(text.len())
         }
     }
 }
 
-fn lines(text: &[u8], letters: &[u8])
+fn lines(rt: &impl Print, text: &[u8], letters: &[u8]) -> io::Result<()>
     requires text_len_bound { length text.now ≤ 4096 }
     requires value { 2 ≡ length letters.now }
 {
     let kinds = lexer::kinds::table();
     let mut at = 0;
     while at < text.len() {
-        at = line(&kinds, text, at, letters);
+        at = line(rt, &kinds, text, at, letters)?;
     }
+    Ok(())
 }
 
-fn main() {
-    let mut text = io::buffer();
-    let size = io::read_full(STDIN_FILENO, &mut text);
-    lines(&text[..size], b"ab");
+fn main(rt: HostRuntime) -> io::Result<()> {
+    let mut text = [0u8; 4096];
+    let mut input = rt.stdin();
+    let size = stream::read_full(&mut input, &mut text)?;
+    lines(&rt, &text[..size], b"ab")
 }

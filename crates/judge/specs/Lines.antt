@@ -1,10 +1,28 @@
--- All bytes of a read, from one state to the next.
-use Rattle.std.specs.Prelude.{◌≡◌, true, List, ℕ}
-use Rattle.plans.specs.Plans.{begun}
+-- All bytes of a read, from one state to the next; and all bytes of an input.
+use Rattle.std.specs.Prelude.{◌≡◌, true, List, ℕ, Option}
+use Rattle.std.specs.Io.KnownBytes.{Consumes, Appends, IsAtEnd}
+use Rattle.plans.specs.Plans.{begun, plans_of}
+use Rattle.reply.specs.Text.{reply_lines}
 use Rattle.judging.specs.declared.State.{State}
 use Rattle.judging.specs.Lines.{Since}
 use Rattle.judge.specs.declared.lines.Answered.{Answered}
+use Rattle.judge.specs.declared.lines.Ending.{Ending}
+use Rattle.judge.specs.declared.lines.Ending.TheVariants.{Whole, NotRead, NotWritten, TooLong}
 
 -- All bytes were taken in.
 pub record Wrote (c : List ℕ) (state : State) (s : List ℕ) (r : Answered) : Type 0 where
   pub since : r.written ≡ true → (u : List ℕ) → Since c u state → Since c (begun u s) r.state
+
+-- The input was read to its end, and for its plans, in their order, the lines of the answers were written, and nothing else.
+pub record AllReplies (c : List ℕ) (input input' output output' : Option (List ℕ)) : Type 0 where
+  pub bytes : List ℕ
+  pub read : Consumes input input' bytes
+  pub all : IsAtEnd input'
+  pub written : Appends output output' (reply_lines c (plans_of bytes))
+
+-- What was read and written, where judging ended with the input.
+abbrev pub Replies : List ℕ → Option (List ℕ) → Option (List ℕ) → Option (List ℕ) → Option (List ℕ) → Ending → Type 0
+Replies c input input' output output' Whole = AllReplies c input input' output output'
+Replies c input input' output output' NotRead = Unit {0}
+Replies c input input' output output' NotWritten = Unit {0}
+Replies c input input' output output' TooLong = Unit {0}

@@ -1,62 +1,64 @@
 // What `view_run` and `delivery_run` print, on standard output: a word with a number behind it, a verdict, a board's reply, and the answers of the whole way.
+#![tactic(auto)]
+
 use handing::{BoardAnswer, Delivered};
-use libc::STDOUT_FILENO;
 use run::{Answer, Verdict};
+use std::io;
 
-pub fn word(text: &[u8]) {
-    io::write_all(STDOUT_FILENO, text);
+pub fn word(rt: &impl Print, text: &[u8]) -> io::Result<()> {
+    rt.write_all(text)
 }
 
-pub fn number(text: &[u8], n: usize) {
-    word(text);
-    io::print_decimal(STDOUT_FILENO, n as u64);
+pub fn number(rt: &impl Print, text: &[u8], n: usize) -> io::Result<()> {
+    word(rt, text)?;
+    rt.print(n)
 }
 
-fn verdict(found: Verdict) {
+fn verdict(rt: &impl Print, found: Verdict) -> io::Result<()> {
     match found {
-        Verdict::Allowed => word(b"allowed"),
-        Verdict::Unfinished(owed) => number(b"unfinished ", owed),
-        Verdict::Hopeless(k) => number(b"hopeless ", k),
+        Verdict::Allowed => word(rt, b"allowed"),
+        Verdict::Unfinished(owed) => number(rt, b"unfinished ", owed),
+        Verdict::Hopeless(k) => number(rt, b"hopeless ", k),
     }
 }
 
-pub fn reply(answer: Answer) {
+pub fn reply(rt: &impl Print, answer: Answer) -> io::Result<()> {
     match answer {
-        Answer::Judged(found) => verdict(found),
+        Answer::Judged(found) => verdict(rt, found)?,
         Answer::Refused(n, before) => {
-            number(b"refused ", n as usize);
-            number(b" after ", before);
+            number(rt, b"refused ", n as usize)?;
+            number(rt, b" after ", before)?;
         }
     }
-    word(b"\n");
+    word(rt, b"\n")
 }
 
-fn board(answer: BoardAnswer) {
+fn board(rt: &impl Print, answer: BoardAnswer) -> io::Result<()> {
     match answer {
         BoardAnswer::Judged(m, n, judged) => {
-            number(b" letters ", m);
-            number(b" states ", n);
-            word(b": ");
-            reply(judged);
+            number(rt, b" letters ", m)?;
+            number(rt, b" states ", n)?;
+            word(rt, b": ")?;
+            reply(rt, judged)
         }
         BoardAnswer::NotLoaded(n) => {
-            number(b" not loaded ", n as usize);
-            word(b"\n");
+            number(rt, b" not loaded ", n as usize)?;
+            word(rt, b"\n")
         }
     }
 }
 
-pub fn delivered(answer: Delivered) {
+pub fn delivered(rt: &impl Print, answer: Delivered) -> io::Result<()> {
     match answer {
         Delivered::Card(length, peak, answered) => {
-            number(b"length ", length);
-            number(b" peak ", peak);
-            board(answered);
+            number(rt, b"length ", length)?;
+            number(rt, b" peak ", peak)?;
+            board(rt, answered)
         }
         Delivered::Refused(n, line) => {
-            number(b"refused ", n as usize);
-            number(b" line ", line);
-            word(b"\n");
+            number(rt, b"refused ", n as usize)?;
+            number(rt, b" line ", line)?;
+            word(rt, b"\n")
         }
     }
 }

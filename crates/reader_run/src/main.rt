@@ -1,14 +1,16 @@
 // Reads texts from standard input, each ended by a byte 0x1E, and writes for each the number and the line of the first refusal that reading it
 // gives, 3 to 7 in a line; `0 0` where it gives none, as for a text of no bytes. No stage is made.
+#![tactic(auto)]
+
 ghost use Rattle.std.specs.Prelude.{◌≤◌, length};
 ghost use Rattle.lexer.specs.Kinds.{Kinds};
 
 use lexer::kinds::KindTable;
-use libc::STDOUT_FILENO;
 use reader::line::{LineAnswer, read_line};
 use reader::names::Names;
 use scans::ends::line_end;
 use scans::head::{Head, read_head};
+use std::io;
 
 #[derive(Clone, Copy)]
 struct Outcome {
@@ -22,7 +24,7 @@ fn later(kinds: &KindTable, text: &[u8], start: usize, letters: &[u8]) -> Outcom
     requires text_len_bound { length text.now ≤ 4096 }
     requires le_start { 2 ≤ start }
 {
-    let mut out = io::large_buffer();
+    let mut out = [0u8; 65536];
     let mut names = Names::none();
     let mut line = 2;
     let mut at = start;
@@ -67,19 +69,18 @@ fn first_refusal(kinds: &KindTable, text: &[u8]) -> Outcome
     }
 }
 
-fn report(kinds: &KindTable, text: &[u8])
+fn report(rt: &impl Print, kinds: &KindTable, text: &[u8]) -> io::Result<()>
     requires kinds { Kinds kinds.now }
     requires text_len_bound { length text.now ≤ 4096 }
 {
     let o = first_refusal(kinds, text);
-    io::print_decimal(STDOUT_FILENO, o.number as u64);
-    io::write_all(STDOUT_FILENO, b" ");
-    io::print_decimal(STDOUT_FILENO, o.line as u64);
-    io::write_all(STDOUT_FILENO, b"\n");
+    let number = o.number;
+    let line = o.line;
+    println!(rt; "{number} {line}")
 }
 
 // Each text of the input.
-fn report_all(kinds: &KindTable, input: &[u8])
+fn report_all(rt: &impl Print, kinds: &KindTable, input: &[u8]) -> io::Result<()>
     requires kinds { Kinds kinds.now }
     requires input_len_bound { length input.now ≤ 4096 }
 {
@@ -87,16 +88,18 @@ fn report_all(kinds: &KindTable, input: &[u8])
     let mut i = 0;
     while i < input.len() {
         if input[i] == 0x1E {
-            report(kinds, &input[from..i]);
+            report(rt, kinds, &input[from..i])?;
             from = i + 1;
         }
         i += 1;
     }
+    Ok(())
 }
 
-fn main() {
-    let mut input = io::buffer();
-    let n = io::read_full(0, &mut input);
+fn main(rt: HostRuntime) -> io::Result<()> {
+    let mut text = [0u8; 4096];
+    let mut input = rt.stdin();
+    let n = stream::read_full(&mut input, &mut text)?;
     let kinds = lexer::kinds::table();
-    report_all(&kinds, &input[..n]);
+    report_all(&rt, &kinds, &text[..n])
 }

@@ -2,8 +2,7 @@
 use Rattle.std.specs.Prelude.{◌≡◌, List, [], ◌∷◌, ◌++◌, ℕ, zero, suc, ◌+◌, ◌-◌, ◌*◌, ◌^◌, ◌≤◌, ◌<◌, take}
 use Rattle.std.proofs.Common.{ap, ◌∙◌, inl, inr, append_assoc, arith, length-append}
 use native.Mathlib.Nat.{pow-le-pow_right, zero-lt-suc, mod-eq_of_lt}
-use Rattle.io.specs.Digits.{IsDigitCount}
-use Rattle.automata.specs.Basics.{LtCases, lt_cases, lt_ltb}
+use Rattle.automata.specs.Basics.{LtCases, lt_cases}
 use Rattle.stream.specs.Text.{Put, places, decimal}
 
 -- one text behind another
@@ -21,8 +20,12 @@ put_as a at t u b r p e = rw e at p
 grows : (j k : ℕ) → j ≤ k → 10 ^ j ≤ 10 ^ k
 grows j k h = pow-le-pow_right (zero-lt-suc 9) h
 
+-- n takes k decimal digits
+abbrev pub IsDigitCount : ℕ → ℕ → Type 0
+IsDigitCount n k = (1 ≤ k) × (n < 10 ^ k) × (1 < k → 10 ^ (k - 1) ≤ n)
+
 -- a 64-bit number has at most 20 digits
-pub digits_few : (n k : ℕ) → n < 2 ^ 64 → IsDigitCount 10 1 n k → k ≤ 20
+pub digits_few : (n k : ℕ) → n < 2 ^ 64 → IsDigitCount n k → k ≤ 20
 digits_few n k h f = go (lt_cases 20 k)
   where
     go : LtCases 20 k → k ≤ 20
@@ -33,7 +36,7 @@ below_power : (k : ℕ) → k < 10 ^ k
 below_power zero = omega arith
 below_power (suc k) = let z : 10 ^ suc k ≡ 10 ^ k * 10 = native.Mathlib.Nat.pow-suc 10 k in omega (arith, below_power k, z)
 
-module _ (n k : ℕ) (w : IsDigitCount 10 1 n k) where
+module _ (n k : ℕ) (w : IsDigitCount n k) where
   from : (f j : ℕ) → 1 ≤ j → j ≤ k → k ≤ j + f → places f n j ≡ k
   from zero j a b c = omega arith
   from (suc f) j a b c = go (lt_cases n (10 ^ j)) (λ x. from f (suc j) (omega arith) x (omega arith))
@@ -61,4 +64,4 @@ module _ (n k : ℕ) (w : IsDigitCount 10 1 n k) where
 pub one_digit : (n : ℕ) → n < 10 → decimal n ≡ (48 + n) ∷ []
 one_digit n h =
     let z : places n n 1 ≡ 1 = fewest_places n 1 (omega arith, omega arith, λ x. absurd (omega arith)) in
-    rw (z, mod-eq_of_lt h, lt_ltb n 10 h)
+    rw (z, mod-eq_of_lt h)

@@ -1,7 +1,13 @@
 // What the programs share: a whole input in a lent buffer, and text in one.
-ghost use Rattle.std.specs.Prelude.{◌+◌, ◌≤◌, ◌<◌, length};
+#![tactic(auto)]
+
+ghost use Rattle.std.specs.Prelude.{◌+◌, ◌≤◌, ◌<◌, length, IfOk};
+ghost use Rattle.std.specs.Io.{ReadsAtMost};
 ghost use Rattle.stream.specs.Text.{Put, PutNumber, decimal};
-ghost use Rattle.stream.specs.Input.{Within};
+ghost use Rattle.stream.specs.Input.{Within, ReadsFirst, ReadsInput};
+
+use std::io;
+use std::io::Read;
 
 // The byte of the digit 0.
 const ZERO: u8 = 48;
@@ -13,23 +19,31 @@ pub enum Input {
     Failed,
 }
 
-// Reads until the input ends or the buffer is full.
-pub fn read_all(fd: i32, buf: &mut [u8]) -> Input
-    ensures { Within result buf.new }
+// Reads until the input ends or the buffer is full, and gives the number of bytes; or the error of the read that failed.
+pub fn read_full<R: Read>(input: &mut R, buf: &mut [u8]) -> io::Result<usize>
+    ensures within { ReadsAtMost result buf.new }
+    ensures bytes { IfOk result (λ n. ReadsFirst (R.remaining input.old) (R.remaining input.new) n buf.new) }
 {
     let mut done = 0;
     while done < buf.len() {
-        let got = libc::read(fd, &mut buf[done..]);
-        if got < 0 {
-            return Input::Failed;
-        }
-        let n = io::count(got, &buf[done..]);
+        let n = input.read(&mut buf[done..])?;
         if n == 0 {
-            return Input::Whole(done);
+            return Ok(done);
         }
         done += n;
     }
-    Input::Whole(done)
+    Ok(done)
+}
+
+// Reads until the input ends or the buffer is full.
+pub fn read_all<R: Read>(input: &mut R, buf: &mut [u8]) -> Input
+    ensures within { Within result buf.new }
+    ensures bytes { ReadsInput (R.remaining input.old) (R.remaining input.new) result buf.new }
+{
+    match read_full(input, buf) {
+        Ok(size) => Input::Whole(size),
+        Err(_) => Input::Failed,
+    }
 }
 
 // Copies a text into `out` from the place `at` on. The next place.
@@ -63,6 +77,12 @@ pub fn put_number(out: &mut [u8], at: usize, number: usize) -> usize
         return put_digit(out, at, number as u8);
     }
     let mut digits = [0u8; 20];
-    let k = io::decimal(number as u64, &mut digits);
-    put(out, at, &digits[..k])
+    let mut k = 20;
+    let mut rest = number;
+    while rest > 0 {
+        k -= 1;
+        digits[k] = ZERO + (rest % 10) as u8;
+        rest /= 10;
+    }
+    put(out, at, &digits[k..])
 }

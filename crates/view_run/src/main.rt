@@ -1,11 +1,14 @@
 // Runs the view on the paper's first card: a view that judges plan after plan, a view whose counts are forged, and a card that is refused. A line for each
 // answer.
+#![tactic(auto)]
+
 ghost use Rattle.std.specs.Prelude.{◌≡◌};
 ghost use Rattle.automata.specs.Format.{narrow};
 ghost use Rattle.card.specs.Judge.{judge as judgeOf};
 ghost use Rattle.run.specs.Reading.{reply_of};
 
 use run::Answer;
+use std::io;
 use view::View;
 
 // Two answers.
@@ -46,20 +49,20 @@ fn forged<'a, 'p>(card: &'a [u8], plan: &'p [u8]) -> Answer
     )
 }
 
-fn say_counts(card: &[u8]) {
+fn say_counts(rt: &impl Print, card: &[u8]) -> io::Result<()> {
     let k = view::counts(card);
-    printing::number(b"letters ", k.letters);
-    printing::number(b" states ", k.states);
-    printing::number(b" number ", k.number as usize);
-    printing::word(b"\n");
+    printing::number(rt, b"letters ", k.letters)?;
+    printing::number(rt, b" states ", k.states)?;
+    printing::number(rt, b" number ", k.number as usize)?;
+    printing::word(rt, b"\n")
 }
 
-fn say_several(card: &[u8], first: &[u8], second: &[u8]) {
+fn say_several(rt: &impl Print, card: &[u8], first: &[u8], second: &[u8]) -> io::Result<()> {
     let answers = several(card, first, second);
     let one = answers.first;
     let other = answers.second;
-    printing::reply(one);
-    printing::reply(other);
+    printing::reply(rt, one)?;
+    printing::reply(rt, other)
 }
 
 // The card of the book `:ab`, `>b / .*a _ .*`, with the given marks byte for state 0.
@@ -70,27 +73,27 @@ fn card(mark: u8) -> [u8; 23] {
 }
 
 // The card is the paper's.
-fn on_card(card: &[u8]) {
+fn on_card(rt: &impl Print, card: &[u8]) -> io::Result<()> {
     let plan = b"ab";
     let longer = b"abb";
-    say_counts(card);
-    say_several(card, plan, longer);
-    say_several(card, b"b", b"abcb");
-    printing::reply(forged(card, plan));
-    printing::reply(forged(card, longer));
+    say_counts(rt, card)?;
+    say_several(rt, card, plan, longer)?;
+    say_several(rt, card, b"b", b"abcb")?;
+    printing::reply(rt, forged(card, plan))?;
+    printing::reply(rt, forged(card, longer))
 }
 
 // No card: each plan is refused with the card's number.
-fn on_wrong(card: &[u8]) {
+fn on_wrong(rt: &impl Print, card: &[u8]) -> io::Result<()> {
     let plan = b"ab";
-    say_counts(card);
-    say_several(card, plan, b"c");
-    printing::reply(forged(card, plan));
+    say_counts(rt, card)?;
+    say_several(rt, card, plan, b"c")?;
+    printing::reply(rt, forged(card, plan))
 }
 
-fn main() {
+fn main(rt: HostRuntime) -> io::Result<()> {
     let good = card(1);
-    on_card(&good);
+    on_card(&rt, &good)?;
     let wrong = card(2);
-    on_wrong(&wrong);
+    on_wrong(&rt, &wrong)
 }
