@@ -5,8 +5,8 @@
 ghost use Rattle.std.specs.Prelude.{◌≡◌, ◌<◌};
 ghost use Rattle.automata.specs.Format.{narrow};
 ghost use Rattle.card.specs.Answer.{load as load_of};
-ghost use Rattle.card.specs.Judge.{judge as judgeOf};
-ghost use Rattle.card.specs.Step.{landing as landingOf, step_on};
+ghost use Rattle.card.specs.Judge.{judge as judge_of};
+ghost use Rattle.card.specs.Step.{landing as landing_of, step_on};
 ghost use Rattle.run.specs.Reading.{reply_of};
 ghost use Rattle.run.specs.Walk.{Ready};
 ghost use Rattle.board.specs.Answers.{loading, stepping};
@@ -46,7 +46,7 @@ pub enum Stepped {
 // Where a step lands.
 fn landing(card: &[u8], m: usize, n: usize, next: usize) -> Stepped
     requires { Ready card.now m n × (next < n) }
-    ensures { stepping result ≡ landingOf narrow card.now next }
+    ensures { stepping result ≡ landing_of narrow card.now next }
 {
     let marks = fields::marks(card, m, n);
     let mark = marks[next];
@@ -84,7 +84,7 @@ pub fn step(card: &[u8], state: usize, letter: u8) -> Stepped
 
 // Judges a plan: the card is tested, then all letters, then the plan.
 pub fn judge(card: &[u8], plan: &[u8]) -> run::Answer
-    ensures { reply_of result ≡ judgeOf narrow card.now plan.now }
+    ensures { reply_of result ≡ judge_of narrow card.now plan.now }
 {
     match load(card) {
         Loaded::Refused(number) => run::Answer::Refused(number, 0),

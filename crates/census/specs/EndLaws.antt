@@ -20,7 +20,6 @@ use Rattle.card.proofs.RunLaws.{state_machine}
 use Rattle.census.specs.Listing.{passing}
 use Rattle.census.specs.Plans.{prefixed, plans_of, allowed_verdict, unfinished_verdict, hopeless_verdict}
 use Rattle.census.specs.Census.{count_of}
-use Rattle.census.specs.PlanLaws.{plans_listed}
 use Rattle.census.specs.CountLaws.{passing_alike, passing_append, passing_map}
 
 -- How many plans of k letters lead from state p to a state with this marks byte.

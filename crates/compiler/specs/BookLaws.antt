@@ -30,7 +30,7 @@ use Rattle.book.proofs.HeadLaws.{head_letters}
 use Rattle.book.specs.Text.{Line, lines_of, letters_of, Form, define, rule, malformed}
 use Rattle.compiler.specs.Allows.{on_form, rules_of, book_letters, book_rules, allows_lines, allows}
 use Rattle.compiler.specs.Book.{Draft, BookResult, done, stopped, start_draft, compile_book}
-use Rattle.compiler.specs.Table.{MakesLine, advance, LinesSay, line_stops, stage_stops, goes_on, all_lines, BookSays, no_bytes, head_stops, head_goes, line_form, head_form, accepted_says}
+use Rattle.compiler.specs.Table.{MakesLine, advance, LinesSay, line_stops, stage_stops, goes_on, all_lines, BookSays, no_bytes, head_stops, head_goes}
 
 -- what holds of an accepted book's letters and draft
 abbrev pub Accepts : (List ℕ → Draft → Type 0) → BookResult → Type 0

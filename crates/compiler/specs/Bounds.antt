@@ -11,7 +11,7 @@ use Rattle.language.specs.Stagewise.{Stagewise, expression_holds, rule_holds}
 use Rattle.book.specs.Text.{Line, lines_of, Form, define, rule, malformed}
 use Rattle.compiler.specs.Book.{Draft, BookResult, done, start_draft, compile_book}
 use Rattle.compiler.specs.BookLaws.{Accepts}
-use Rattle.compiler.specs.Table.{MakesLine, advance, LinesSay, line_stops, stage_stops, goes_on, all_lines, BookSays, no_bytes, head_stops, head_goes, accepted_says}
+use Rattle.compiler.specs.Table.{MakesLine, advance, LinesSay, line_stops, stage_stops, goes_on, all_lines, BookSays, no_bytes, head_stops, head_goes}
 
 -- each number of the list is at most n
 abbrev pub EachMost : ℕ → List ℕ → Type 0

@@ -21,7 +21,7 @@ use Rattle.book.proofs.HeadLaws.{head_letters}
 use Rattle.compiler.specs.Allows.{book_letters}
 use Rattle.compiler.specs.Book.{Draft, BookResult, done, stopped, start_draft, compile_book}
 use Rattle.compiler.specs.Outcome.{most}
-use Rattle.compiler.specs.Table.{MakesLine, advance, LinesSay, line_stops, stage_stops, goes_on, all_lines, BookSays, no_bytes, head_stops, head_goes, line_form, head_form, accepted_says}
+use Rattle.compiler.specs.Table.{MakesLine, advance, LinesSay, line_stops, stage_stops, goes_on, all_lines, BookSays, no_bytes, head_stops, head_goes}
 use Rattle.compiler.specs.BookStages.{Stage, pairs, joins, stars, erases, Reaches, Leaves, Row, gives, makes, and_then, StageIn, first, later, expression_stages, marked_stages, context_stages, contexts_stages, union_stages, set_stages, rule_stages, form_stages, line_stages, book_stages, Attained, Peak}
 
 -- No count is greater.

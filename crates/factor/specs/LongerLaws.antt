@@ -2,7 +2,7 @@
 use Rattle.std.specs.Prelude.{◌≡◌, refl, Bool, List, ◌∷◌, ℕ, zero, suc, ◌+◌, ◌≤◌, ◌<◌, length, take}
 use Rattle.std.proofs.Common.{sym, subst, arith}
 use Rattle.std.proofs.Math.Seq.{take-length}
-use Rattle.factor.specs.Factor.{factor, Inside, Shortest, none, at, Blamed, Blames, is_none, is_at, inside_factor, none_apart, blames_one, blames_at}
+use Rattle.factor.specs.Factor.{factor, Inside, Shortest, none, at, Blamed, Blames, is_none, is_at}
 
 -- The first k letters lie inside no allowed plan, and fewer do.
 pub record ShortestStart (ok : List ℕ → Bool) (plan : List ℕ) (k : ℕ) : Type 0 where

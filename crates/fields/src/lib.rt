@@ -6,7 +6,7 @@ ghost use Rattle.std.specs.Prelude.{◌≡◌, ◌+◌, ◌≤◌, length};
 ghost use Rattle.automata.specs.Format.{narrow};
 ghost use Rattle.card.specs.Number.{number_at};
 ghost use Rattle.card.specs.Layout.{letters_of, marks_of, moves_of};
-ghost use Rattle.card.specs.Alphabet.{column as columnOf};
+ghost use Rattle.card.specs.Alphabet.{column as column_of};
 ghost use Rattle.fields.specs.Counts.{Counted, counts_of};
 
 // How many letters and how many states the contents give, or that the contents are not right.
@@ -93,7 +93,7 @@ pub fn moves(card: &[u8], m: usize, n: usize) -> &[u8]
 
 // The column of a letter, the first where it stands twice; as many as there are letters where it does not stand among them.
 pub fn column(letters: &[u8], letter: u8) -> usize
-    ensures { result ≡ columnOf letters.now letter }
+    ensures { result ≡ column_of letters.now letter }
 {
     let mut i = 0;
     while i < letters.len() {

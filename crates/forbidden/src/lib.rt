@@ -3,7 +3,7 @@
 
 ghost use Rattle.std.specs.Prelude.{◌≡◌, ◌+◌, ◌≤◌, length};
 ghost use Rattle.automata.specs.Format.{narrow};
-ghost use Rattle.factor.specs.Shortest.{shortest as shortestOf};
+ghost use Rattle.factor.specs.Shortest.{shortest as shortest_of};
 ghost use Rattle.run.specs.Walk.{Ready};
 ghost use Rattle.forbidden.specs.Reading.{answer_of};
 ghost use Rattle.forbidden.specs.Pass.{Searchable, Searched, Bettered};
@@ -87,7 +87,7 @@ fn pass(
 // A card that loads: the letters are tested, then the pass is made.
 fn on_card(card: &[u8], m: usize, n: usize, plan: &[u8]) -> Answer
     requires { Ready card.now m n }
-    ensures { answer_of result ≡ shortestOf narrow card.now plan.now }
+    ensures { answer_of result ≡ shortest_of narrow card.now plan.now }
 {
     let table = run::table(card, m, n);
     let k = run::known(card, m, n, &table, plan, 0);
@@ -100,7 +100,7 @@ fn on_card(card: &[u8], m: usize, n: usize, plan: &[u8]) -> Answer
 
 // The card is tested, then all letters, then the plan's factors.
 pub fn shortest(card: &[u8], plan: &[u8]) -> Answer
-    ensures { answer_of result ≡ shortestOf narrow card.now plan.now }
+    ensures { answer_of result ≡ shortest_of narrow card.now plan.now }
 {
     match board::load(card) {
         board::Loaded::Refused(number) => Answer::Refused(number, 0),

@@ -6,7 +6,7 @@ ghost use Rattle.card.specs.Answer.{load_numbers, step_numbers, reply_numbers};
 ghost use Rattle.run.specs.Reading.{reply_of};
 ghost use Rattle.board.specs.Answers.{loading, stepping};
 ghost use Rattle.forbidden.specs.Reading.{answer_of};
-ghost use Rattle.counting.specs.Reading.{answer_of as censusOf};
+ghost use Rattle.counting.specs.Reading.{answer_of as census_of};
 ghost use Rattle.plans.specs.Many.{many_of};
 ghost use Rattle.compiler.specs.Reading.{reading};
 ghost use Rattle.numbers.specs.Handed.{handed, numbers, step_handed, answer_numbers, shortest_numbers, census_numbers};
@@ -69,7 +69,7 @@ pub fn blamed(answer: forbidden::Answer, out: &mut [u64; 3]) -> u64
 
 // How many plans of a length: 0, and the allowed, the unfinished, the hopeless ones; or 21 to 26, or 31.
 pub fn census(answer: counting::Answer, out: &mut [u64; 3]) -> u64
-    ensures { handed result out.new ≡ census_numbers (censusOf answer) }
+    ensures { handed result out.new ≡ census_numbers (census_of answer) }
 {
     match answer {
         counting::Answer::Refused(number) => put(out, number as u64, 0, 0, 0),

@@ -2,13 +2,13 @@
 ghost use Rattle.std.specs.Prelude.{◌≡◌, ◌<◌};
 ghost use Rattle.automata.specs.Format.{narrow};
 ghost use Rattle.card.specs.Layout.{mark_at};
-ghost use Rattle.card.specs.Judge.{owed as owedOf};
+ghost use Rattle.card.specs.Judge.{owed as owed_of};
 ghost use Rattle.run.specs.Walk.{Ready, OwedTable};
 
 // The letters owed in a state whose marks byte is 0.
 pub fn owed(card: &[u8], m: usize, n: usize, state: usize) -> usize
     requires { Ready card.now m n × (state < n) × (mark_at narrow card.now state ≡ 0) }
-    ensures { result ≡ owedOf narrow card.now state }
+    ensures { result ≡ owed_of narrow card.now state }
 {
     levels::distance(
         fields::marks(card, m, n),

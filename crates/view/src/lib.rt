@@ -5,7 +5,7 @@
 ghost use Rattle.std.specs.Prelude.{◌≡◌};
 ghost use Rattle.automata.specs.Format.{narrow};
 ghost use Rattle.card.specs.Answer.{load as load_of, load_numbers};
-ghost use Rattle.card.specs.Judge.{judge as judgeOf};
+ghost use Rattle.card.specs.Judge.{judge as judge_of};
 ghost use Rattle.run.specs.Reading.{reply_of};
 ghost use Rattle.view.specs.Numbers.{numbers_of, view_numbers};
 
@@ -59,14 +59,14 @@ pub fn load<'a>(card: &'a [u8]) -> View<'a>
 
 // Judges a plan by the view's bytes, whatever stands beside them: the card is tested, then all letters, then the plan.
 pub fn judge<'a, 'p>(view: View<'a>, plan: &'p [u8]) -> run::Answer
-    ensures { reply_of result ≡ judgeOf narrow view.entry.bytes.now plan.now }
+    ensures { reply_of result ≡ judge_of narrow view.entry.bytes.now plan.now }
 {
     board::judge(view.bytes, plan)
 }
 
 // The same on plain parameters, by a view made here: a caller of it holds no view.
 pub fn judge_card<'a, 'p>(card: &'a [u8], plan: &'p [u8]) -> run::Answer
-    ensures { reply_of result ≡ judgeOf narrow card.now plan.now }
+    ensures { reply_of result ≡ judge_of narrow card.now plan.now }
 {
     judge(load(card), plan)
 }

@@ -4,7 +4,7 @@
 
 ghost use Rattle.std.specs.Prelude.{◌≡◌};
 ghost use Rattle.automata.specs.Format.{narrow};
-ghost use Rattle.card.specs.Judge.{judge as judgeOf};
+ghost use Rattle.card.specs.Judge.{judge as judge_of};
 ghost use Rattle.run.specs.Reading.{reply_of};
 
 use run::Answer;
@@ -26,7 +26,7 @@ fn together(first: Answer, second: Answer) -> Both
 
 // The card is loaded once, and the view judges one plan and then another.
 fn several<'a, 'p, 'r>(card: &'a [u8], first: &'p [u8], second: &'r [u8]) -> Both
-    ensures { (reply_of result.first ≡ judgeOf narrow card.now first.now) × (reply_of result.second ≡ judgeOf narrow card.now second.now) }
+    ensures { (reply_of result.first ≡ judge_of narrow card.now first.now) × (reply_of result.second ≡ judge_of narrow card.now second.now) }
 {
     let view = view::load(card);
     let one = view::judge(view, first);
@@ -36,7 +36,7 @@ fn several<'a, 'p, 'r>(card: &'a [u8], first: &'p [u8], second: &'r [u8]) -> Bot
 
 // A view that was not loaded: 9 letters, 200 states and a refusal beside the card's bytes.
 fn forged<'a, 'p>(card: &'a [u8], plan: &'p [u8]) -> Answer
-    ensures { reply_of result ≡ judgeOf narrow card.now plan.now }
+    ensures { reply_of result ≡ judge_of narrow card.now plan.now }
 {
     view::judge(
         View {

@@ -33,9 +33,13 @@ overflow_add-end c =
 
 pub lines-ended-requires : goal.lines-ended-requires
 lines-ended-requires c =
-    record { kinds = c.table-kinds.ensures; placed = (opened_lines c.args.text.now _ _ c.opening.ensures _ _ c.in-Lines.is).2.headed.placed; lent = lent c.args.low.now c.args.high.now
-            c.args.registers.now c.args.stack.now c.args.rows.now c.args.table.now c.args.work.now c.args.code.now
-            (opened_lines c.args.text.now _ _ c.opening.ensures _ _ c.in-Lines.is).1; }
+    record {
+      kinds = c.table-kinds.ensures;
+      placed = (opened_lines c.args.text.now _ _ c.opening.ensures _ _ c.in-Lines.is).2.headed.placed;
+      lent = lent c.args.low.now c.args.high.now
+          c.args.registers.now c.args.stack.now c.args.rows.now c.args.table.now c.args.work.now c.args.code.now
+          (opened_lines c.args.text.now _ _ c.opening.ensures _ _ c.in-Lines.is).1;
+    }
 
 pub put-requires : goal.put-requires
 put-requires c =
