@@ -1,5 +1,7 @@
 // The entries for Rust and C, on numbers and slices: each hands back the paper's number of its answer, 0 where nothing is refused, and puts the rest of the
 // answer into `out`. They ask nothing of the caller.
+#![tactic(auto)]
+
 mod lines;
 
 ghost use Rattle.std.specs.Prelude.{◌≡◌, length};

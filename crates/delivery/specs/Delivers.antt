@@ -11,7 +11,6 @@ use Rattle.card.specs.Loads as Loads
 use Rattle.card.specs.Answer.{load, holds}
 use Rattle.card.specs.Verdict.{Verdict, allowed, unfinished, hopeless}
 use Rattle.card.specs.Reply.{Reply, answered}
-use Rattle.card.specs.Reply as Reply
 use Rattle.card.specs.Judge.{judge}
 use Rattle.card.specs.Demand.{Demand3}
 use Rattle.book.specs.Text.{lines_of}

@@ -1,5 +1,7 @@
 // The whole way: a book is compiled, just its card's bytes are handed to the board, the board loads them and judges a plan, each by the real entry. The
 // contract is demand 3 for these arguments. It asks nothing of the caller.
+#![tactic(auto)]
+
 ghost use Rattle.driver.specs.Entry.{lent_lengths};
 ghost use Rattle.delivery.specs.Delivers.{Delivers};
 

@@ -1,4 +1,6 @@
 // The compiler's entry: the lines of a book in order, their stages, and the card. It has no requires; all below it are its parts.
+#![tactic(auto)]
+
 ghost use Rattle.std.specs.Prelude.{length};
 ghost use Rattle.automata.specs.Format.{narrow};
 ghost use Rattle.compiler.specs.Outcome.{outcome};

@@ -1,5 +1,7 @@
 // One line of a book: it is read, its stages are made, and its machine is kept. These are parts: callers give a book in the making and buffers that are
 // long enough.
+#![tactic(auto)]
+
 ghost use Rattle.std.specs.Prelude.{◌≤◌, ◌<◌, length};
 ghost use Rattle.lexer.specs.Kinds.{Kinds};
 ghost use Rattle.kept.specs.Stored.{Right, Shelves};

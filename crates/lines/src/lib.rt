@@ -1,4 +1,6 @@
 // The lines of a book in their order, behind line 1. This is a part: its caller gives the letters of line 1 and buffers that are long enough.
+#![tactic(auto)]
+
 ghost use Rattle.lexer.specs.Kinds.{Kinds};
 ghost use Rattle.compiler.specs.Rest.{Placed};
 ghost use Rattle.lines.specs.Lines.{Lent, CompilesLines};

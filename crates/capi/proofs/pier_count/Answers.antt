@@ -1,7 +1,6 @@
 -- `capi::pier_count` meets its contract.
 use Rattle.numbers.specs.Handed.{census_numbers}
 use Rattle.numbers.specs.HandedLaws.{handed_as}
-use borrow.Author.Rules.{rules}
 use Rattle.capi.proofs.pier_count.Goals as goal
 
 pub returns : goal.returns

@@ -2,7 +2,6 @@
 use Rattle.numbers.specs.Handed.{numbers}
 use Rattle.numbers.specs.HandedLaws.{handed_as}
 use Rattle.card.specs.Answer.{reply_numbers}
-use borrow.Author.Rules.{rules}
 use Rattle.capi.proofs.pier_judge.Goals as goal
 
 pub returns : goal.returns

@@ -2,7 +2,6 @@
 use Rattle.numbers.specs.Handed.{step_handed}
 use Rattle.numbers.specs.HandedLaws.{handed_as}
 use Rattle.card.specs.Answer.{step_numbers}
-use borrow.Author.Rules.{rules}
 use Rattle.capi.proofs.pier_step.Goals as goal
 
 pub returns : goal.returns

@@ -11,10 +11,6 @@ pub opening-requires : goal.opening-requires
 opening-requires c =
     c.table-kinds.ensures
 
-pub enum_known-from : goal.enum_known-from
-enum_known-from c =
-    c.in-Lines.keys1
-
 pub slice_bounds-letters-count : goal.slice_bounds-letters-count
 slice_bounds-letters-count c =
     omega (arith, (opened_lines c.args.text.now _ _ c.opening.ensures _ _ c.in-Lines.is).2.some)
@@ -44,10 +40,6 @@ lines-ended-requires c =
 pub put-requires : goal.put-requires
 put-requires c =
     ready c.args.text.now _ _ (opened_lines c.args.text.now _ _ c.opening.ensures _ _ c.in-Lines.is).2.headed _ _ c.lines-ended.ensures
-
-pub enum_known-n : goal.enum_known-n
-enum_known-n c =
-    c.in-Refused.keys2
 
 pub shape_of-card : goal.shape_of-card
 shape_of-card c =

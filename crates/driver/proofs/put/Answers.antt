@@ -1,7 +1,6 @@
 -- `driver::put` meets its contract: the card, or the lines' refusal.
 use mathlib.Core.Path.{refl}
 use Rattle.driver.proofs.EntryLaws.{ready_at, puts_at}
-use borrow.Author.Rules.{rules}
 use Rattle.driver.proofs.put.Goals as goal
 
 pub put_card-requires : goal.put_card-requires

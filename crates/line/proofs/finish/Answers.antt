@@ -2,21 +2,13 @@
 use Rattle.line.proofs.LineLaws.{finishes_as}
 use Rattle.line.proofs.finish.Goals as goal
 
-pub enum_known-made : goal.enum_known-made
-enum_known-made c =
-    c.in-Made.keys1
-
 pub keep-requires : goal.keep-requires
 keep-requires c =
-    record { right = c.requires.right.0; in_bounds = c.requires.in_bounds; shelves = c.requires.shelves; }
+    record { right = c.requires.right.0; in_bounds = c.requires.in_bounds; shelves = c.requires.shelves }
 
 pub goes-requires : goal.goes-requires
 goes-requires c =
     c.requires.right
-
-pub enum_known-made-in-Refused-1 : goal.enum_known-made-in-Refused-1
-enum_known-made-in-Refused-1 c =
-    c.in-Refused.keys2
 
 pub stops-requires : goal.stops-requires
 stops-requires c =

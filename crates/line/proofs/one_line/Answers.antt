@@ -7,7 +7,7 @@ use Rattle.line.proofs.one_line.Goals as goal
 
 pub read_line-requires : goal.read_line-requires
 read_line-requires c =
-    record { kinds = c.requires.kinds; at_in_bounds = c.requires.at_in_bounds; text_in_bounds = c.requires.going.long; }
+    record { kinds = c.requires.kinds; at_in_bounds = c.requires.at_in_bounds; text_in_bounds = c.requires.going.long }
 
 pub tell-read-requires : goal.tell-read-requires
 tell-read-requires c =
@@ -27,22 +27,27 @@ returns-then-not-read c =
 
 pub run-made-requires : goal.run-made-requires
 run-made-requires c =
-    record { running = running c.args.letters.now c.tell-read.result.len _ c.args.low.now c.args.high.now c.args.registers.now
+    record {
+      running = running c.args.letters.now c.tell-read.result.len _ c.args.low.now c.args.high.now c.args.registers.now
           (told_runs c.args.text.now c.args.letters.now c.args.book _ _ c.read_line.ensures _ c.tell-read.ensures c.args.low.now c.args.high.now
           c.args.registers.now c.args.stack.now c.args.rows.now c.args.table.now c.args.work.now c.args.code.now (not-false _ c.if-not-read.false)
-          c.requires.going).0; code_value = one_machine c.args.letters.now c.tell-read.result.len _ c.args.low.now c.args.high.now c.args.registers.now
+          c.requires.going).0;
+      code_value = one_machine c.args.letters.now c.tell-read.result.len _ c.args.low.now c.args.high.now c.args.registers.now
           (told_runs c.args.text.now c.args.letters.now c.args.book _ _ c.read_line.ensures _ c.tell-read.ensures c.args.low.now c.args.high.now
           c.args.registers.now c.args.stack.now c.args.rows.now c.args.table.now c.args.work.now c.args.code.now (not-false _ c.if-not-read.false)
-          c.requires.going).0; }
+          c.requires.going).0;
+    }
 
 pub finish-requires : goal.finish-requires
 finish-requires c =
-    (
-      (told_runs c.args.text.now c.args.letters.now c.args.book _ _ c.read_line.ensures _ c.tell-read.ensures c.args.low.now c.args.high.now
+    let k = kept_asks c.requires.going _ c.run-made.new.stack c.run-made.auto.registers c.run-made.auto.stack in
+    record {
+      right = (told_runs c.args.text.now c.args.letters.now c.args.book _ _ c.read_line.ensures _ c.tell-read.ensures c.args.low.now c.args.high.now
           c.args.registers.now c.args.stack.now c.args.rows.now c.args.table.now c.args.work.now c.args.code.now (not-false _ c.if-not-read.false)
-          c.requires.going).1,
-      kept_asks c.requires.going _ c.run-made.new.1.1.1.1.1.1.1.0 c.run-made.auto.registers c.run-made.auto.stack,
-    )
+          c.requires.going).1;
+      in_bounds = k.0;
+      shelves = k.1;
+    }
 
 pub shape_of-low : goal.shape_of-low
 shape_of-low c =

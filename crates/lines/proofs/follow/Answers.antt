@@ -2,7 +2,6 @@
 use mathlib.Core.Path.{refl}
 use borrow.Author.Tests.{not-true, not-false}
 use Rattle.lines.proofs.LinesLaws.{follows_off, follows_on}
-use borrow.Author.Rules.{rules}
 use Rattle.lines.proofs.follow.Goals as goal
 
 pub returns-then-not-next : goal.returns-then-not-next

@@ -1,8 +1,7 @@
 -- `lines::lines` meets its contract. The loop's invariant: the lines that are left, with the draft that the buffers hold, give what all the lines give. The
 -- measure is what is left of the text.
-use Rattle.lines.proofs.LinesLaws.{Lengths, CourseSays, left, course_on, course_over, course_reached, course_next, course_less, reached_start, lent_begun, going}
+use Rattle.lines.proofs.LinesLaws.{Lengths, CourseSays, left}
 use lib.ListN.{length}
-use mathlib.Core.Path.{refl, ◌∙◌}
 use Rattle.lines.proofs.lines.Given as goal
 
 abbrev pub invariant-loop-course : goal.invariant-loop-course

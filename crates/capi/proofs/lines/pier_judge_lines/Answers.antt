@@ -1,6 +1,5 @@
 -- `capi::pier_judge_lines` meets its contract.
 use Rattle.capi.specs.Lines.{many_as}
-use borrow.Author.Rules.{rules}
 use Rattle.capi.proofs.lines.pier_judge_lines.Goals as goal
 
 pub returns : goal.returns
