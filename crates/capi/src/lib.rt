@@ -2,7 +2,7 @@
 // answer into `out`. They ask nothing of the caller.
 #![tactic(auto)]
 
-mod lines;
+mod many;
 
 ghost use Rattle.std.specs.Prelude.{◌≡◌, length};
 ghost use Rattle.automata.specs.Format.{narrow};

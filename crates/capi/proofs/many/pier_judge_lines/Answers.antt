@@ -1,6 +1,6 @@
 -- `capi::pier_judge_lines` meets its contract.
 use Rattle.capi.specs.Lines.{many_as}
-use Rattle.capi.proofs.lines.pier_judge_lines.Goals as goal
+use Rattle.capi.proofs.many.pier_judge_lines.Goals as goal
 
 pub returns : goal.returns
 returns c =
