@@ -1,5 +1,5 @@
 -- Bytes as they are read: those of one read, and read after read; and what is written for them.
-use Rattle.std.specs.Prelude.{Option, None, Some, Result, Ok, Err, OnOk, Bool, false}
+use Rattle.std.specs.Prelude.{Option, Result, Ok, Err, OnOk, Bool, false}
 use Rattle.std.specs.Result.{is_err}
 use Rattle.std.proofs.KnownBytes.{Appends-nil, Appends-trans, Consumes-nil, Consumes-trans}
 use Rattle.std.specs.Io.KnownBytes.{Consumes, Appends, IsAtEnd}
