@@ -99,14 +99,23 @@ static int unknown_letters(Judging *j, int *compared) {
     return differ;
 }
 
-static int ask_twenty(Judging *j, int *compared) { return ask(j, 20, compared); }
-
-// Mostly refused, and ahead of an unknown letter.
-static int damaged(Judging *j, int *compared) {
+// One byte altered, the length one less, one more: mostly refused, and ahead of an unknown letter.
+static int damaged(Judging *j, int count, int *compared) {
+    int differ = 0;
+    const size_t length = j->length;
     random_plan(j, 20);
-    int differ = on_damaged(j, 30, ask_twenty, compared);
-    plan[10] = '?';
-    return differ + on_damaged(j, 30, ask_twenty, compared);
+    for (int i = 0; i < count; i++) {
+        if (i == count / 2) plan[10] = '?';
+        size_t at = (size_t)below(i % 3 ? (int)length : 12 + j->card[2] + j->card[6]);
+        uint8_t kept = j->card[at];
+        j->card[at] = (uint8_t)(i % 2 ? below(4) : below(256));
+        differ += ask(j, 20, compared);
+        j->card[at] = kept;
+    }
+    j->length = length - 1, differ += ask(j, 20, compared);
+    if (length < CARD) j->card[length] = 0, j->length = length + 1, differ += ask(j, 20, compared);
+    j->length = length;
+    return differ;
 }
 
 // Whether a live plan may be as long as one likes, wherever it is: each live state has a letter that leads to one.
@@ -130,7 +139,7 @@ static int all_plans(Judging *j, int *compared) {
         hopeless_plan(j, 1000);
         differ += ask(j, 1000, compared);
     }
-    return differ + damaged(j, compared);
+    return differ + damaged(j, 60, compared);
 }
 
 // One dead state over the first letters of the alphabet.
@@ -146,13 +155,21 @@ static void nothing_card(int m, Judging *j) {
 
 int same_factors(const char *folder, int *compared) {
     static Judging j;
-    int differ = on_cards(folder, all_plans, compared);
+    int differ = 0;
+    Texts sets[] = {read_texts(folder), seeded_texts(), ruleless_texts(), kind_texts()};
+    begin_seed(200);
+    for (int s = 0; s < 4; s++)
+        for (int i = 0; i < sets[s].count; i++)
+            if (text_card(&sets[s].text[i], &j)) differ += all_plans(&j, compared);
     for (int m = 1; m <= 26; m += 5) nothing_card(m, &j), differ += all_plans(&j, compared);
+    for (int states = 1; states <= 2; states++)
+        for (int marks = 0; marks <= 3; marks++) bare_card(states, marks, &j), differ += all_plans(&j, compared);
     for (int i = 0; i < 100; i++) {
         begin_seed(300 + (uint32_t)i);
         trap_card(1 + below(4), 2 + below(8), &j);
         differ += all_plans(&j, compared);
     }
+    for (int i = 0; i < seeded_cards(); i++) seeded_card(i, &j), differ += all_plans(&j, compared);
     return differ;
 }
 
