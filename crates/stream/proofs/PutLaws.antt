@@ -1,13 +1,17 @@
 -- Counts of bytes, and a text put byte by byte.
 use mathlib.Core.Path.{◌≡◌, sym, ap, ◌∙◌}
 use mathlib.Core.List.{List, [], ◌∷◌, ◌++◌, append_assoc, append-nil}
-use Prim.Native.Nat.{ℕ, suc, ◌+◌, ◌<◌}
+use Prim.Native.Nat.{ℕ, suc, ◌+◌, ◌≤◌, ◌<◌}
 use native.Mathlib.Numerals.{add-one}
 use native.Mathlib.Omega.{arith}
 use lib.ListN.{length, get_or, set, take}
-use lib.Seq.{take-suc, take-suc-set, take_all}
+use lib.Seq.{take-suc, take-suc-set, take_all, length-take-le}
+use Rattle.stream.specs.Input.{IsPrefixLen}
 use Rattle.stream.specs.Text.{Put, decimal}
 use Rattle.stream.specs.TextLaws.{one_digit}
+
+pub counts_le : (n : ℕ) (l : List ℕ) → n ≤ length l → IsPrefixLen n l
+counts_le n l h = (h, sym (length-take-le n l h))
 
 -- one digit
 pub digit_put : (out : List ℕ) (at n : ℕ) → at < length out → n < 10 → Put out at (decimal n) (set out at (48 + n)) (at + 1)
