@@ -15,14 +15,18 @@ use Rattle.automata.specs.Automaton.{Automaton}
 use Rattle.automata.specs.Machine.{Machine, size, automaton, WellFormed}
 use Rattle.automata.specs.Table.{flag_of}
 use Rattle.automata.specs.Flags.{flags_test, some_flag, some_sound, some_whole}
-use Rattle.automata.specs.Subset.{epsilons, subset, step_long, start_long}
-use Rattle.automata.specs.Operations.{product, pair_test, concat_NFA, concat_inside, star_NFA, star_inside, erase_NFA, erase_inside}
-use Rattle.automata.specs.Members.{In, concat_start_left, concat_start_right, concat_step_left, concat_step_right, star_start, star_step, erase_start, erase_step, erase_mark}
+use Rattle.automata.specs.Subset.{epsilons, subset}
+use Rattle.automata.proofs.Subset.{step_long, start_long}
+use Rattle.automata.specs.Operations.{product, pair_test, concat_NFA, star_NFA, erase_NFA}
+use Rattle.automata.proofs.Operations.{concat_inside, star_inside, erase_inside}
+use Rattle.automata.specs.Members.{In}
+use Rattle.automata.proofs.Members.{concat_start_left, concat_start_right, concat_step_left, concat_step_right, star_start, star_step, erase_start, erase_step, erase_mark}
 use Rattle.automata.specs.Orbit.{met_early}
 use Rattle.automata.specs.Format.{Format}
 use Rattle.automata.specs.Stage.{Made, StageResult}
 use Rattle.automata.specs.Stages.{Pairing, combine, pair_stage, concat_stage, star_stage, erase_stage}
-use Rattle.automata.specs.Correspondence.{StandsFor, stage_by}
+use Rattle.automata.specs.Correspondence.{StandsFor}
+use Rattle.automata.proofs.Correspondence.{stage_by}
 use Rattle.rows.specs.Rows.{bit, flag_at, number_at, number_bytes, pair_row}
 use Rattle.flags.specs.Flags.{flag_row, leads_to, some_accepting}
 use Rattle.slots.specs.Slot.{flag_bit_lem}

@@ -1,5 +1,5 @@
 -- A node that silent moves lead to is led to by fewer silent moves than there are nodes.
-use Rattle.std.specs.Prelude.{◌≡◌, refl, length, get_or}
+use Rattle.std.specs.Prelude.{◌≡◌, refl}
 use Rattle.std.proofs.Math.Path.{sym}
 use Rattle.std.proofs.Common.{ap, ◌∙◌, inl, inr, le_refl, arith}
 use Prim.Native.Nat.{ℕ, zero, suc, ◌+◌, ◌-◌, ◌≤◌, ◌<◌}

@@ -3,7 +3,7 @@ use Rattle.std.specs.Prelude.{◌≡◌, refl, true, false, ◌↔◌, List, [],
 use Rattle.std.proofs.Common.{sym, ap, ◌∙◌, subst, arith}
 use Rattle.automata.specs.Automaton.{run}
 use Rattle.automata.specs.Decide.{contradict}
-use Rattle.automata.specs.Distance.{fewest_one, fewest_some}
+use Rattle.automata.proofs.Distance.{fewest_one, fewest_some}
 use Rattle.automata.specs.Format.{Format}
 use Rattle.automata.specs.Machine.{Machine, automaton, run_inside}
 use Rattle.card.specs.Mark.{Mark, is_accepting, is_dead, is_live}

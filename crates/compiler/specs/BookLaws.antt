@@ -6,8 +6,10 @@ use Rattle.automata.specs.Format.{Format}
 use Rattle.automata.specs.Booleans.{and_left, and_right, and_both, and_true}
 use Rattle.automata.specs.Automaton.{Over, over_more, accepts}
 use Rattle.automata.specs.Machine.{Machine, automaton, Canonical}
-use Rattle.automata.specs.Stage.{Made, made, Keeps, then_keeps}
-use Rattle.automata.specs.Exactly.{Exactly, then_exactly}
+use Rattle.automata.specs.Stage.{Made, made, Keeps}
+use Rattle.automata.proofs.Stage.{then_keeps}
+use Rattle.automata.specs.Exactly.{Exactly}
+use Rattle.automata.proofs.Exactly.{then_exactly}
 use Rattle.automata.specs.Stages.{both, pair_stage}
 use Rattle.language.specs.Cuts.{Word}
 use Rattle.language.specs.Language.{Language, all_words, all_words_sound, all_words_whole, intersection}

@@ -5,7 +5,8 @@ use Rattle.std.proofs.Common.{sym, subst, ◌∙◌, inl, inr, append_assoc, app
 use Rattle.automata.specs.Format.{Format}
 use Rattle.automata.specs.Basics.{LtCases, lt_cases}
 use Rattle.automata.specs.Machine.{Machine}
-use Rattle.automata.specs.Stage.{Made, made, refused, after, kept_one, too_many_sets, too_many_states, smallest_one, counts_unique}
+use Rattle.automata.specs.Stage.{Made, made, refused, after, kept_one, too_many_sets, too_many_states}
+use Rattle.automata.proofs.Stage.{smallest_one, counts_unique}
 use Rattle.automata.specs.Exactly.{Then, goes, fails, Given, given}
 use Rattle.automata.specs.Given.{all_machine}
 use Rattle.automata.specs.Stages.{Pairing, either, both, without}

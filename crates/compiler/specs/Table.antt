@@ -12,7 +12,8 @@ use Rattle.automata.specs.Booleans.{choose, bool_cases}
 use Rattle.automata.specs.Basics.{LtCases, lt_cases, lt_ltb, ltb_false}
 use Rattle.automata.specs.Machine.{Machine}
 use Rattle.automata.specs.Stage.{Made, made, refused, then_made}
-use Rattle.automata.specs.Exactly.{Exactly, Then, then_exactly}
+use Rattle.automata.specs.Exactly.{Exactly, Then}
+use Rattle.automata.proofs.Exactly.{then_exactly}
 use Rattle.automata.specs.Stages.{both, pair_stage}
 use Rattle.language.specs.Environment.{names_of}
 use Rattle.language.specs.Evaluate.{evaluate, evaluate_rule}

@@ -8,7 +8,8 @@ use Rattle.automata.specs.Booleans.{choose, not_true, and_left, and_right}
 use Rattle.automata.specs.Basics.{nat_test, ltb_lt}
 use Rattle.automata.specs.Automaton.{Over, accepts}
 use Rattle.automata.specs.Machine.{Machine, automaton}
-use Rattle.automata.specs.Stage.{Made, made, refused, Keeps, then_keeps}
+use Rattle.automata.specs.Stage.{Made, made, refused, Keeps}
+use Rattle.automata.proofs.Stage.{then_keeps}
 use Rattle.automata.specs.Given.{empty_machine, all_machine}
 use Rattle.automata.specs.Stages.{Pairing, either, both, without, pair_stage, concat_stage, star_stage}
 use Rattle.language.specs.Cuts.{Word}

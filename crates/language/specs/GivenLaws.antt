@@ -9,7 +9,7 @@ use native.Mathlib.Omega.{arith}
 use Rattle.automata.specs.Basics.{nat_test, tab, lt_ltb, ltb_false}
 use Rattle.automata.specs.Automaton.{Automaton, Over, run, accepts}
 use Rattle.automata.specs.Machine.{Machine, size, automaton, minimal_numbers, at_least}
-use Rattle.automata.specs.GivenTables.{given_smallest, cond_below}
+use Rattle.automata.proofs.GivenTables.{given_smallest, cond_below}
 use Rattle.automata.specs.Given.{one_sign, many_signs, given, letter_machine, dot_machine, empty_machine, all_machine, mark_machine}
 use Rattle.language.specs.Cuts.{Word}
 use Rattle.language.specs.Language.{Language, empty_word, symbol, single, any_symbol, all_words}

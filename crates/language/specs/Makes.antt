@@ -9,7 +9,8 @@ use Rattle.automata.specs.Machine.{Machine}
 use Rattle.automata.specs.Subset.{subset}
 use Rattle.automata.specs.Operations.{product, pair_test, concat_NFA, star_NFA, erase_NFA}
 use Rattle.automata.specs.Stage.{Made, StageResult}
-use Rattle.automata.specs.Exactly.{Exactly, Then, Given, given_exactly, stage_exactly, then_exactly}
+use Rattle.automata.specs.Exactly.{Exactly, Then, Given}
+use Rattle.automata.proofs.Exactly.{given_exactly, stage_exactly, then_exactly}
 use Rattle.automata.specs.Given.{letter_machine, dot_machine, empty_machine, all_machine, mark_machine}
 use Rattle.automata.specs.Stages.{Pairing, either, without, combine, pair_stage, concat_stage, star_stage, erase_stage}
 use Rattle.language.specs.Expression.{Expr, letter, name, dot, empty, pair, join, star, plus, option, complement}

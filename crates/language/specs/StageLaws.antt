@@ -8,8 +8,10 @@ use Rattle.automata.specs.Automaton.{Over, over_parts, over_more, accepts}
 use Rattle.automata.specs.Machine.{Machine, automaton, Canonical}
 use Rattle.automata.specs.Flags.{flags_test}
 use Rattle.automata.specs.Subset.{subset}
-use Rattle.automata.specs.Operations.{product, product_accept, pair_test, concat_NFA, concat_accept, star_NFA, star_accept, Each as EachOf, erase_NFA, erase_accept, erase_letters}
-use Rattle.automata.specs.Stage.{Smallest, Keeps, stage_keeps}
+use Rattle.automata.specs.Operations.{product, pair_test, concat_NFA, star_NFA, Each as EachOf, erase_NFA}
+use Rattle.automata.proofs.Operations.{product_accept, concat_accept, star_accept, erase_accept, erase_letters}
+use Rattle.automata.specs.Stage.{Smallest, Keeps}
+use Rattle.automata.proofs.Stage.{stage_keeps}
 use Rattle.automata.specs.Stages.{Pairing, either, both, without, combine, pair_stage, concat_stage, star_stage, erase_stage}
 use Rattle.language.specs.Cuts.{Word}
 use Rattle.language.specs.Language.{Language, union, intersection, difference, concatenation, concatenation_sound, concatenation_whole, star, star_sound, star_whole, in_row, Each}

@@ -13,8 +13,9 @@ use Rattle.automata.specs.Booleans.{choose}
 use Rattle.automata.specs.Basics.{LtCases, lt_cases, SameCases, same_cases, nat_test, pigeonhole}
 use Rattle.automata.specs.Automaton.{Over, over_append, run, run_append}
 use Rattle.automata.specs.Machine.{Machine, size, automaton}
-use Rattle.automata.specs.Live.{live_word, live_within}
-use Rattle.automata.specs.Distance.{distance, Fewest, fewest_one, distance_fewest}
+use Rattle.automata.proofs.Live.{live_word, live_within}
+use Rattle.automata.specs.Distance.{distance, Fewest}
+use Rattle.automata.proofs.Distance.{fewest_one, distance_fewest}
 use Rattle.moves.specs.Holds.{Table, Holds}
 use Rattle.moves.specs.TableLaws.{move_inside}
 use Rattle.levels.specs.Levels.{no_level, most_levels, Accepts, Order, Front, Reached, Kept, Spread, Unseen, next, Behind, Near, Search, DistanceExactly, DistancesExactly}

@@ -11,7 +11,8 @@ use lib.ListN.{length, get_or, set, length-set}
 use lib.Seq.{get_or-set_same, get_or-set_other}
 use lib.Dec.{eqb}
 use Rattle.automata.specs.Booleans.{bool_cases, not_true, bool_iff}
-use Rattle.automata.specs.Live.{Within, live, live_word, live_within, live_dead, live_only}
+use Rattle.automata.specs.Live.{Within, live}
+use Rattle.automata.proofs.Live.{live_word, live_within, live_dead, live_only}
 use Rattle.card.specs.Mark.{Mark, mark_by, marks_only, marks_get_or, is_accepting, is_dead, is_live}
 use Rattle.automata.specs.Basics.{LtCases, lt_cases, nat_test}
 use Rattle.automata.specs.Machine.{Machine, size, automaton}

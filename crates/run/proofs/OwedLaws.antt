@@ -8,7 +8,8 @@ use lib.ListN.{get_or}
 use mir.Syntax.{w64}
 use mir.Val.{Fits}
 use Rattle.automata.specs.Format.{narrow}
-use Rattle.automata.specs.Distance.{distance, distance_most}
+use Rattle.automata.specs.Distance.{distance}
+use Rattle.automata.proofs.Distance.{distance_most}
 use Rattle.card.specs.Layout.{letter_count, mark_at, marks_of, moves_of, machine_of}
 use Rattle.card.specs.LayoutLaws.{size_is}
 use Rattle.card.specs.Loads.{Loaded, load_loaded}

@@ -12,9 +12,11 @@ use Rattle.automata.specs.Automaton.{Automaton}
 use Rattle.automata.specs.Basics.{SameCases, same_cases, LtCases, lt_cases, nat_test, find}
 use Rattle.automata.specs.Booleans.{bool_cases}
 use Rattle.automata.specs.Dead.{Dead, dead_stays}
-use Rattle.automata.specs.Live.{live, live_dead, dead_live}
+use Rattle.automata.specs.Live.{live}
+use Rattle.automata.proofs.Live.{live_dead, dead_live}
 use Rattle.automata.specs.Machine.{Machine, size, automaton, Canonical}
-use Rattle.automata.specs.Restrict.{restrict, restrict_canonical}
+use Rattle.automata.specs.Restrict.{restrict}
+use Rattle.automata.proofs.Restrict.{restrict_canonical}
 use Rattle.automata.specs.Table.{flag_of, table_accepting}
 use Rattle.card.specs.Mark.{marks, mark_by, marks_get_or, marks_length}
 use Rattle.numbering.specs.Arrival.{kept_machine, Ordered}

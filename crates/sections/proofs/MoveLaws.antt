@@ -10,7 +10,8 @@ use lib.Seq.{ext_get_or}
 use Rattle.automata.specs.Basics.{nat_test, find, tab, length_tab, get_or_tab, tab_ext}
 use Rattle.automata.specs.Machine.{Machine, size, automaton, WellFormed}
 use Rattle.automata.specs.Numbering.{tab_snoc}
-use Rattle.automata.specs.Restrict.{restrict, restrict_formed}
+use Rattle.automata.specs.Restrict.{restrict}
+use Rattle.automata.proofs.Restrict.{restrict_formed}
 use Rattle.automata.specs.Rows.{flat}
 use Rattle.automata.specs.Table.{ClosedTable, table_formed}
 use Rattle.card.specs.Number.{Bytes, bytes_of, below_flat}

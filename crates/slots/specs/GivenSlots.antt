@@ -8,7 +8,7 @@ use Rattle.automata.specs.Machine.{Machine, automaton}
 use Rattle.automata.specs.Rows.{cell_below}
 use Rattle.automata.specs.Table.{table_machine, flag_of, ClosedTable, table_size, table_accepting, table_step, table_formed}
 use Rattle.automata.specs.Given.{one_sign, many_signs, given, letter_machine, dot_machine, empty_machine, all_machine}
-use Rattle.automata.specs.GivenTables.{one_written, many_written, cond_below}
+use Rattle.automata.proofs.GivenTables.{one_written, many_written, cond_below}
 use Rattle.rows.specs.Rows.{number_at, bit}
 use Rattle.slots.specs.Slot.{flag_bit_lem, slot_machine, Holds, Written}
 

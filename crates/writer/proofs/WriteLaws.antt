@@ -8,7 +8,8 @@ use lib.ListN.{length, length-append}
 use Rattle.automata.specs.Basics.{lt_ltb, ltb_false}
 use Rattle.automata.specs.Format.{narrow}
 use Rattle.automata.specs.Machine.{Machine, size, WellFormed}
-use Rattle.automata.specs.Restrict.{restrict, restrict_formed}
+use Rattle.automata.specs.Restrict.{restrict}
+use Rattle.automata.proofs.Restrict.{restrict_formed}
 use Rattle.automata.specs.Rows.{flat, flat_length}
 use Rattle.automata.specs.Table.{table_formed}
 use Rattle.card.specs.Mark.{marks_length}

@@ -1,0 +1,10 @@
+pub mod Subset
+pub mod Operations
+pub mod Live
+pub mod Distance
+pub mod Restrict
+pub mod Stage
+pub mod Exactly
+pub mod Correspondence
+pub mod Members
+pub mod GivenTables
