@@ -27,7 +27,7 @@ use Rattle.automata.specs.Distance.{distance}
 use Rattle.automata.specs.Numbering.{seen, across}
 use Rattle.automata.specs.NumberingTest.{numbered_test, row_numbered}
 use Rattle.card.specs.Alphabet.{alphabet_test}
-use Rattle.card.specs.Allowed.{known_count_lem}
+use Rattle.card.proofs.Allowed.{known_count_lem}
 use Rattle.automata.specs.ReducedTest.{reduced_test}
 use Rattle.card.specs.Same.{card_of}
 use Rattle.card.specs.NoLetters.{no_letters}

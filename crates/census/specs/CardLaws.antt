@@ -8,13 +8,14 @@ use Rattle.automata.specs.Basics.{LtCases, lt_cases, nat_test}
 use Rattle.automata.specs.Decide.{unless_elim, contradict}
 use Rattle.automata.specs.Format.{Format}
 use Rattle.card.specs.Layout.{letter_count, letters_of}
-use Rattle.card.specs.LayoutLaws.{letters_length}
+use Rattle.card.proofs.LayoutLaws.{letters_length}
 use Rattle.card.specs.Load.{load_test}
-use Rattle.card.specs.LoadLaws.{tested, tested_only}
-use Rattle.card.specs.Loads.{Loaded, load_loaded}
+use Rattle.card.proofs.LoadLaws.{tested, tested_only}
+use Rattle.card.specs.Loads.{Loaded}
+use Rattle.card.proofs.Loads.{load_loaded}
 use Rattle.card.specs.Verdict.{Verdict, says_one}
 use Rattle.card.specs.Judge.{plan_verdict, card_allows}
-use Rattle.card.specs.JudgeLaws.{loaded_says, judge_iff}
+use Rattle.card.proofs.JudgeLaws.{loaded_says, judge_iff}
 use Rattle.census.specs.Listing.{passing}
 use Rattle.census.specs.Plans.{plans_of, OfLength, NumberOf, allowed_verdict, unfinished_verdict, hopeless_verdict, OfKind, NumbersOf, RightCounts}
 use Rattle.census.specs.Census.{longest_plan, most_plans, Past, Within, Census, counts, refused, count_of, census, JudgedSo, Answers, no_card, count_too_large, are_counts}

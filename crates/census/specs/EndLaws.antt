@@ -8,14 +8,15 @@ use Rattle.automata.specs.Machine.{Machine, automaton, run_inside}
 use Rattle.automata.specs.Format.{Format}
 use Rattle.card.specs.Mark.{Mark, is_accepting, is_dead, is_live}
 use Rattle.card.specs.Layout.{letter_count, state_count, mark_at, move_at, letters_of, machine_of}
-use Rattle.card.specs.LayoutLaws.{letters_length, size_is}
+use Rattle.card.proofs.LayoutLaws.{letters_length, size_is}
 use Rattle.card.specs.Alphabet.{column, columns, spell, Known}
-use Rattle.card.specs.Loads.{Loaded, loaded_formed}
-use Rattle.card.specs.Allowed.{allows_known, allows_dead, allows_word}
+use Rattle.card.specs.Loads.{Loaded}
+use Rattle.card.proofs.Loads.{loaded_formed}
+use Rattle.card.proofs.Allowed.{allows_known, allows_dead, allows_word}
 use Rattle.card.specs.Verdict.{Verdict, Says, is_allowed, is_unfinished, is_hopeless, hopeless_plan}
 use Rattle.card.specs.Judge.{state_after, plan_verdict, card_allows}
-use Rattle.card.specs.JudgeLaws.{loaded_says}
-use Rattle.card.specs.RunLaws.{state_machine}
+use Rattle.card.proofs.JudgeLaws.{loaded_says}
+use Rattle.card.proofs.RunLaws.{state_machine}
 use Rattle.census.specs.Listing.{passing}
 use Rattle.census.specs.Plans.{prefixed, plans_of, allowed_verdict, unfinished_verdict, hopeless_verdict}
 use Rattle.census.specs.Census.{count_of}

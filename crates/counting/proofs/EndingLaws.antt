@@ -8,8 +8,9 @@ use lib.Dec.{eqb}
 use Rattle.automata.specs.Booleans.{choose}
 use Rattle.automata.specs.Format.{narrow}
 use Rattle.card.specs.Layout.{letter_count, state_count, mark_at, move_at, letters_of, marks_of, moves_of}
-use Rattle.card.specs.LayoutLaws.{letters_length}
-use Rattle.card.specs.Alphabet.{column, column_letter}
+use Rattle.card.proofs.LayoutLaws.{letters_length}
+use Rattle.card.specs.Alphabet.{column}
+use Rattle.card.proofs.Alphabet.{column_letter}
 use Rattle.card.specs.Loads.{Loaded}
 use Rattle.fields.specs.Counts.{Counted}
 use Rattle.fields.specs.CardTable.{cell, mark_at_lem}

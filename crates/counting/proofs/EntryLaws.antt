@@ -9,8 +9,9 @@ use lib.ListN.{length}
 use Rattle.automata.specs.Format.{narrow}
 use Rattle.card.specs.Layout.{marks_of, moves_of}
 use Rattle.card.specs.Load.{Tested}
-use Rattle.card.specs.LoadLaws.{tested}
-use Rattle.card.specs.Loads.{Loaded, load_loaded}
+use Rattle.card.proofs.LoadLaws.{tested}
+use Rattle.card.specs.Loads.{Loaded}
+use Rattle.card.proofs.Loads.{load_loaded}
 use Rattle.card.specs.Answer.{load, rejected}
 use Rattle.moves.specs.Holds.{Table}
 use Rattle.fields.specs.Counts.{Counted}

@@ -7,13 +7,13 @@ use lib.ListN.{length, take, drop, length-append}
 use Rattle.automata.specs.Format.{narrow}
 use Rattle.automata.specs.Machine.{Machine, size}
 use Rattle.card.specs.Layout.{narrow_sound, letter_count, state_count}
-use Rattle.card.specs.LayoutLaws.{encode_letter_count, encode_state_count}
-use Rattle.card.specs.Loads.{card_fits, load_loaded}
+use Rattle.card.proofs.LayoutLaws.{encode_letter_count, encode_state_count}
+use Rattle.card.proofs.Loads.{card_fits, load_loaded}
 use Rattle.card.specs.Answer.{holds, load, load_holds}
 use Rattle.card.specs.Verdict.{allowed, unfinished, hopeless}
 use Rattle.card.specs.Reply.{unknown_letter}
 use Rattle.card.specs.Judge.{judge}
-use Rattle.card.specs.JudgeLaws.{replies_only}
+use Rattle.card.proofs.JudgeLaws.{replies_only}
 use Rattle.card.specs.Demand.{Demand3}
 use Rattle.compiler.specs.Outcome.{Outcome, card, stop, answer, outcome, card_stands}
 use Rattle.compiler.specs.declared.Compiled as C

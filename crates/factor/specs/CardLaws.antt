@@ -12,16 +12,19 @@ use Rattle.automata.specs.Decide.{contradict, any_below_lem, below_any}
 use Rattle.automata.specs.Format.{Format}
 use Rattle.card.specs.Mark.{Mark, is_accepting, is_dead, is_live}
 use Rattle.card.specs.Layout.{letter_count, state_count, mark_at, letters_of, machine_of}
-use Rattle.card.specs.LayoutLaws.{letters_length, size_is}
-use Rattle.card.specs.Alphabet.{columns, columns_append, columns_spell, spell, Known, known_left, known_append}
+use Rattle.card.proofs.LayoutLaws.{letters_length, size_is}
+use Rattle.card.specs.Alphabet.{columns, spell, Known}
+use Rattle.card.proofs.Alphabet.{columns_append, columns_spell, known_left, known_append}
 use Rattle.card.specs.Load.{load_test}
-use Rattle.card.specs.Loads.{Loaded, load_loaded, loaded_formed}
-use Rattle.card.specs.Allowed.{allows_iff, allows_word, known_right}
+use Rattle.card.specs.Loads.{Loaded}
+use Rattle.card.proofs.Loads.{load_loaded, loaded_formed}
+use Rattle.card.proofs.Allowed.{allows_iff, allows_word, known_right}
 use Rattle.card.specs.Verdict.{Verdict, hopeless, Says, is_allowed, is_unfinished, is_hopeless}
-use Rattle.card.specs.Reply.{Reply, answered, refused, is_answered, asked_replies, replies_one, reply_right, refused_alike}
+use Rattle.card.specs.Reply.{Reply, answered, refused, is_answered}
+use Rattle.card.proofs.Reply.{asked_replies, replies_one, reply_right, refused_alike}
 use Rattle.card.specs.Judge.{state_after, plan_verdict, card_allows, judge}
-use Rattle.card.specs.JudgeLaws.{judge_iff}
-use Rattle.card.specs.RunLaws.{state_machine}
+use Rattle.card.proofs.JudgeLaws.{judge_iff}
+use Rattle.card.proofs.RunLaws.{state_machine}
 use Rattle.factor.specs.Factor.{factor, Inside, Shortest, none, at, Blames, blames_one, blames_none, nothing_empty}
 use Rattle.factor.specs.Shortest.{lies_inside, shortest_by, shortest, Searches}
 use Rattle.factor.specs.ShortestLaws.{failed, shortest_blames}

@@ -6,7 +6,8 @@ use Rattle.automata.specs.Decide.{any_below, unless}
 use Rattle.automata.specs.Format.{narrow}
 use Rattle.card.specs.Layout.{letter_count, state_count, mark_at, letters_of}
 use Rattle.card.specs.Reply.{refused, asked}
-use Rattle.card.specs.Mounted.{mounted, mounted_refuses, same_test, state_same}
+use Rattle.card.specs.Mounted.{mounted}
+use Rattle.card.proofs.Mounted.{mounted_refuses, same_test, state_same}
 use Rattle.factor.specs.Shortest.{lies_inside, shortest}
 
 pub mounted_finds_none : (c : List ℕ) → letter_count narrow c ≡ 0 → (plan : List ℕ) → shortest mounted c plan ≡ refused 21 0

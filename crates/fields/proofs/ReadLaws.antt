@@ -13,7 +13,7 @@ use Rattle.automata.specs.Basics.{LtCases, lt_cases, nat_test, find, find_le, fi
 use Rattle.automata.specs.Format.{narrow}
 use Rattle.card.specs.Number.{number_at}
 use Rattle.card.specs.Layout.{letter_count, state_count, contents_at, letters_of, marks_of, moves_of, Contents, contents_test}
-use Rattle.card.specs.LayoutLaws.{contents_sound, contents_whole, moves_one}
+use Rattle.card.proofs.LayoutLaws.{contents_sound, contents_whole, moves_one}
 use Rattle.card.specs.Alphabet.{column}
 use Rattle.fields.specs.Counts.{Counted, counts_of}
 use Rattle.fields.specs.declared.Counts.{Counts}

@@ -4,7 +4,7 @@ use Rattle.std.proofs.Common.{sym, ap, ◌∙◌, inl, inr, mod-lt, div-add-mod'
 use Rattle.automata.specs.Basics.{LtCases, lt_cases}
 use Rattle.automata.specs.Format.{narrow}
 use Rattle.card.specs.Layout.{letter_count, state_count, mark_at, move_at, marks_of, moves_of, machine_of}
-use Rattle.card.specs.LayoutLaws.{marks_of_length, marks_at, size_is, accepting_at, moves_length, moves_at, step_at, machine_formed}
+use Rattle.card.proofs.LayoutLaws.{marks_of_length, marks_at, size_is, accepting_at, moves_length, moves_at, step_at, machine_formed}
 use Rattle.card.specs.Load.{CardInside}
 use Rattle.moves.specs.Holds.{Table, Holds}
 use Rattle.fields.specs.Counts.{Counted}

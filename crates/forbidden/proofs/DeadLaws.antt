@@ -11,11 +11,12 @@ use Rattle.automata.specs.Dead.{Dead, dead_one}
 use Rattle.automata.specs.Format.{narrow}
 use Rattle.card.specs.Mark.{Mark, is_accepting, is_dead, is_live}
 use Rattle.card.specs.Layout.{letter_count, state_count, mark_at, move_at, letters_of, marks_of, machine_of}
-use Rattle.card.specs.LayoutLaws.{letters_length, marks_of_length, marks_at, size_is}
+use Rattle.card.proofs.LayoutLaws.{letters_length, marks_of_length, marks_at, size_is}
 use Rattle.card.specs.Alphabet.{column, Known}
-use Rattle.card.specs.Loads.{Loaded, loaded_card}
+use Rattle.card.specs.Loads.{Loaded}
+use Rattle.card.proofs.Loads.{loaded_card}
 use Rattle.card.specs.Judge.{Place, none, found, state_after, first_dead}
-use Rattle.card.specs.RunLaws.{dead_stays}
+use Rattle.card.proofs.RunLaws.{dead_stays}
 use Rattle.factor.specs.CardLaws.{known_factor}
 use Rattle.ends.specs.Ends.{DeadState}
 

@@ -6,10 +6,10 @@ use native.Mathlib.Omega.{arith}
 use lib.ListN.{length}
 use Rattle.automata.specs.Format.{narrow}
 use Rattle.card.specs.Layout.{letters_of}
-use Rattle.card.specs.Alphabet.{at_known}
+use Rattle.card.proofs.Alphabet.{at_known}
 use Rattle.card.specs.Load.{Tested}
-use Rattle.card.specs.LoadLaws.{tested}
-use Rattle.card.specs.Loads.{load_loaded}
+use Rattle.card.proofs.LoadLaws.{tested}
+use Rattle.card.proofs.Loads.{load_loaded}
 use Rattle.card.specs.Answer.{load, rejected}
 use Rattle.card.specs.Reply.{answered, refused, no_card, unknown_letter, is_answered}
 use Rattle.factor.specs.Shortest.{shortest}

@@ -10,9 +10,11 @@ use mir.Syntax.{w8, w64}
 use mir.Val.{Fits}
 use Rattle.automata.specs.Format.{narrow}
 use Rattle.card.specs.Layout.{letter_count, state_count, letters_of, marks_of, moves_of}
-use Rattle.card.specs.LayoutLaws.{letters_length, marks_of_length, moves_length, moves_at}
-use Rattle.card.specs.Alphabet.{column, known_at}
-use Rattle.card.specs.Loads.{Loaded, load_loaded}
+use Rattle.card.proofs.LayoutLaws.{letters_length, marks_of_length, moves_length, moves_at}
+use Rattle.card.specs.Alphabet.{column}
+use Rattle.card.proofs.Alphabet.{known_at}
+use Rattle.card.specs.Loads.{Loaded}
+use Rattle.card.proofs.Loads.{load_loaded}
 use Rattle.card.specs.Judge.{card_allows}
 use Rattle.factor.specs.Factor.{Inside, none, at}
 use Rattle.ends.specs.Ends.{DeadState, Filled, Stepping, Stepped}

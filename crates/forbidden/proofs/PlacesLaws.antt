@@ -12,10 +12,11 @@ use Rattle.automata.specs.Booleans.{not_true}
 use Rattle.automata.specs.Basics.{SameCases, same_cases, nat_test}
 use Rattle.automata.specs.Format.{narrow}
 use Rattle.card.specs.Layout.{letter_count, state_count, mark_at, move_at, letters_of, marks_of, moves_of, machine_of}
-use Rattle.card.specs.LayoutLaws.{letters_length, moves_at}
-use Rattle.card.specs.Alphabet.{column, Known, known_at}
+use Rattle.card.proofs.LayoutLaws.{letters_length, moves_at}
+use Rattle.card.specs.Alphabet.{column, Known}
+use Rattle.card.proofs.Alphabet.{known_at}
 use Rattle.card.specs.Loads.{Loaded}
-use Rattle.card.specs.Allowed.{allows_dead}
+use Rattle.card.proofs.Allowed.{allows_dead}
 use Rattle.card.specs.Judge.{state_after, first_dead, card_allows}
 use Rattle.factor.specs.Factor.{Inside, at, Blames, nothing_empty}
 use Rattle.factor.specs.LongerLaws.{ShortestStart}

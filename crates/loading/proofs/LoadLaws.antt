@@ -18,13 +18,14 @@ use Rattle.automata.specs.Rows.{cell_below}
 use Rattle.automata.specs.NumberingTest.{numbered_whole}
 use Rattle.automata.specs.ReducedTest.{reduced_test}
 use Rattle.card.specs.Layout.{letter_count, state_count, mark_at, letters_of, marks_of, moves_of, machine_of, Contents}
-use Rattle.card.specs.LayoutLaws.{contents_whole}
+use Rattle.card.proofs.LayoutLaws.{contents_whole}
 use Rattle.card.specs.Mark.{Mark}
-use Rattle.card.specs.Alphabet.{Alphabet, rising_from, alphabet_test, alphabet_sound, alphabet_whole}
+use Rattle.card.specs.Alphabet.{Alphabet, rising_from, alphabet_test}
+use Rattle.card.proofs.Alphabet.{alphabet_sound, alphabet_whole}
 use Rattle.fields.specs.Counts.{Counted}
 use Rattle.card.specs.Load.{load_test, CardInside, CardMarked, CardNumbered, CardReduced, marks_test, bad_contents, bad_alphabet, transition_out_of_range, not_numbered, loaded}
 use Rattle.card.specs.Answer.{holds, rejected, load, load_holds, load_rejected}
-use Rattle.card.specs.LoadLaws.{tested_only, inside_true, marks_hold, marks_true, reduced_holds}
+use Rattle.card.proofs.LoadLaws.{tested_only, inside_true, marks_hold, marks_true, reduced_holds}
 use Rattle.fields.specs.CardTable.{Cell, cell_of, cells, cell, states_many, mark_at_lem, card_holds, card_table}
 use Rattle.moves.specs.Holds.{Table, Holds}
 use Rattle.loading.specs.Inside.{InsideExactly}

@@ -6,7 +6,7 @@ use Rattle.std.proofs.Common.{ap, not-suc-le-zero, arith}
 use Rattle.automata.specs.Booleans.{choose}
 use Rattle.automata.specs.Format.{Format}
 use Rattle.card.specs.Alphabet.{Alphabet}
-use Rattle.card.specs.NoLetters.{no_alphabet}
+use Rattle.card.proofs.NoLetters.{no_alphabet}
 use Rattle.card.specs.Same.{card_of}
 use Rattle.card.specs.Demand.{Compiled}
 use Rattle.book.specs.Kind.{kind_of, line_end_kind}

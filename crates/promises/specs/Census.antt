@@ -4,8 +4,8 @@ use Rattle.std.proofs.Common.{sym, ap, ◌∙◌, subst, arith}
 use Rattle.std.proofs.Math.Path.{fun_ext}
 use Rattle.automata.specs.Format.{Format, narrow}
 use Rattle.card.specs.Layout.{Sound, narrow_sound, letter_count, letters_of}
-use Rattle.card.specs.LayoutLaws.{letters_length}
-use Rattle.card.specs.Loads.{load_loaded}
+use Rattle.card.proofs.LayoutLaws.{letters_length}
+use Rattle.card.proofs.Loads.{load_loaded}
 use Rattle.card.specs.Judge.{card_allows}
 use Rattle.card.specs.Demand.{Demand3}
 use Rattle.census.specs.Plans.{RightCounts}

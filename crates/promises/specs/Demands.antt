@@ -9,13 +9,15 @@ use Rattle.language.specs.Language.{all_words, all_words_whole, all_words_sound}
 use Rattle.language.specs.Matches.{obeys, Obeys, obeys_sound, obeys_whole}
 use Rattle.card.specs.Number.{Bytes}
 use Rattle.card.specs.Layout.{Sound, letter_count, state_count}
-use Rattle.card.specs.LayoutLaws.{encode_letter_count, encode_state_count}
+use Rattle.card.proofs.LayoutLaws.{encode_letter_count, encode_state_count}
 use Rattle.card.specs.Alphabet.{columns, Known}
 use Rattle.card.specs.Load.{load_test}
-use Rattle.card.specs.Loads.{Plans, CardOf, card_fits, card_of_card, loads_smallest}
+use Rattle.card.specs.Loads.{Plans, CardOf}
+use Rattle.card.proofs.Loads.{card_fits, card_of_card, loads_smallest}
 use Rattle.card.specs.Answer.{Loading, holds, rejected, load, load_holds, load_rejected}
 use Rattle.card.specs.Judge.{card_allows}
-use Rattle.card.specs.Demand.{Demand3, demand_3, card_bytes}
+use Rattle.card.specs.Demand.{Demand3}
+use Rattle.card.proofs.Demand.{demand_3, card_bytes}
 use Rattle.book.specs.Text.{lines_of}
 use Rattle.compiler.specs.Allows.{book_letters, book_rules, allows}
 use Rattle.compiler.specs.Outcome.{Outcome, card, stop, outcome, buffer_after}

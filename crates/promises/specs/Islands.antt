@@ -23,10 +23,14 @@ use Rattle.card.specs.Reply.{answered}
 use Rattle.card.specs.Judge.{judge}
 use Rattle.card.specs.Verdict.{allowed, is_allowed}
 use Rattle.card.specs.Same.{card_of}
-use Rattle.card.specs.Demand.{Demand3, Compiled, demand_3, card_bytes}
-use Rattle.card.specs.MountedVerdict.{MountedDemand3, mounted_demand}
-use Rattle.card.specs.Mounted.{mounted, mounted_sound, mounted_rejects}
-use Rattle.card.specs.NoLetters.{no_letters, no_letters_load, no_letters_bytes}
+use Rattle.card.specs.Demand.{Demand3, Compiled}
+use Rattle.card.proofs.Demand.{demand_3, card_bytes}
+use Rattle.card.specs.MountedVerdict.{MountedDemand3}
+use Rattle.card.proofs.MountedVerdict.{mounted_demand}
+use Rattle.card.specs.Mounted.{mounted}
+use Rattle.card.proofs.Mounted.{mounted_sound, mounted_rejects}
+use Rattle.card.specs.NoLetters.{no_letters}
+use Rattle.card.proofs.NoLetters.{no_letters_load, no_letters_bytes}
 use Rattle.book.specs.Text.{lines_of}
 use Rattle.compiler.specs.Allows.{book_letters, book_rules, allows}
 use Rattle.compiler.specs.Book.{compile_text, compile_book}

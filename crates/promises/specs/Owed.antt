@@ -9,11 +9,12 @@ use Rattle.card.specs.Alphabet.{Known}
 use Rattle.card.specs.Verdict.{Verdict, Says, unfinished}
 use Rattle.card.specs.Reply.{answered}
 use Rattle.card.specs.Judge.{state_after, judge}
-use Rattle.card.specs.JudgeLaws.{judge_iff}
+use Rattle.card.proofs.JudgeLaws.{judge_iff}
 use Rattle.card.specs.Step.{step_on, owing}
-use Rattle.card.specs.StepLaws.{step_same}
+use Rattle.card.proofs.StepLaws.{step_same}
 use Rattle.card.specs.Demand.{Demand3}
-use Rattle.card.specs.MountedVerdict.{MountedDemand3, mounted_demand}
+use Rattle.card.specs.MountedVerdict.{MountedDemand3}
+use Rattle.card.proofs.MountedVerdict.{mounted_demand}
 use Rattle.book.specs.Text.{lines_of}
 use Rattle.compiler.specs.Allows.{book_letters}
 use Rattle.compiler.specs.Outcome.{card, outcome}

@@ -5,7 +5,8 @@ use mathlib.Core.List.{List, [], ◌∷◌, ◌++◌, head-eq_of_cons-eq, tail-e
 use Rattle.language.specs.Language.{Language}
 use Rattle.language.specs.Restriction.{RuleKind, restricts, forbids, obliges, Context, Fits, Demands}
 use Rattle.language.specs.Matches.{Rule, Obeys}
-use Rattle.card.specs.Alphabet.{columns, columns_append}
+use Rattle.card.specs.Alphabet.{columns}
+use Rattle.card.proofs.Alphabet.{columns_append}
 
 -- A row of bytes is one of a set's plans, over the letters ls: the columns of its letters are.
 abbrev pub In : List ℕ → Language → List ℕ → Type 0

@@ -11,8 +11,9 @@ use Rattle.automata.specs.Format.{narrow}
 use Rattle.automata.specs.Distance.{distance}
 use Rattle.automata.proofs.Distance.{distance_most}
 use Rattle.card.specs.Layout.{letter_count, mark_at, marks_of, moves_of, machine_of}
-use Rattle.card.specs.LayoutLaws.{size_is}
-use Rattle.card.specs.Loads.{Loaded, load_loaded}
+use Rattle.card.proofs.LayoutLaws.{size_is}
+use Rattle.card.specs.Loads.{Loaded}
+use Rattle.card.proofs.Loads.{load_loaded}
 use Rattle.card.specs.Mark.{Mark, is_accepting, is_dead, is_live}
 use Rattle.card.specs.Judge.{owed}
 use Rattle.fields.specs.CardTable.{card_holds, card_table}

@@ -13,7 +13,7 @@ use Rattle.card.specs.Verdict.{allowed, hopeless}
 use Rattle.card.specs.Reply.{answered, refused}
 use Rattle.card.specs.Judge.{none, found}
 use Rattle.card.specs.Run.{going, halted, run_start, run_on, run_reply}
-use Rattle.card.specs.RunLaws.{letter_known, letter_unknown, run_halted}
+use Rattle.card.proofs.RunLaws.{letter_known, letter_unknown, run_halted}
 use Rattle.run.specs.declared.Place.TheVariants.{None, At}
 use Rattle.run.specs.declared.Run.{Run as Run'}
 use Rattle.run.specs.declared.Walk.{Walk}

@@ -17,14 +17,15 @@ use Rattle.automata.specs.Format.{narrow}
 use Rattle.automata.specs.Dead.{Dead, dead_one}
 use Rattle.automata.specs.Machine.{size, automaton}
 use Rattle.card.specs.Layout.{letter_count, state_count, mark_at, move_at, letters_of, marks_of, moves_of, machine_of, Contents}
-use Rattle.card.specs.LayoutLaws.{letters_length, marks_of_length, marks_at, moves_length, moves_at, size_is}
+use Rattle.card.proofs.LayoutLaws.{letters_length, marks_of_length, marks_at, moves_length, moves_at, size_is}
 use Rattle.card.specs.Alphabet.{column}
 use Rattle.fields.specs.Counts.{Counted}
-use Rattle.card.specs.Loads.{Loaded, load_loaded, loaded_card}
+use Rattle.card.specs.Loads.{Loaded}
+use Rattle.card.proofs.Loads.{load_loaded, loaded_card}
 use Rattle.card.specs.Mark.{Mark, is_accepting, is_dead, is_live}
 use Rattle.card.specs.Judge.{none, found, dead_at}
 use Rattle.card.specs.Run.{going, halted, run_on}
-use Rattle.card.specs.RunLaws.{letter_known, letter_unknown, run_halted, dead_stays}
+use Rattle.card.proofs.RunLaws.{letter_known, letter_unknown, run_halted, dead_stays}
 use Rattle.run.specs.declared.Walk.TheVariants.{Dead as Stopped, Unknown}
 use Rattle.run.specs.Walk.{Ready, ColumnTable, KnownTo, Walked}
 

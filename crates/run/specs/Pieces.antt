@@ -5,7 +5,7 @@ use Rattle.std.proofs.Common.{sym, ap, ◌∙◌}
 use Rattle.automata.specs.Format.{narrow}
 use Rattle.card.specs.Judge.{judge}
 use Rattle.card.specs.Run.{run_start, run_on, run_reply}
-use Rattle.card.specs.RunLaws.{run_append, judge_run}
+use Rattle.card.proofs.RunLaws.{run_append, judge_run}
 use Rattle.run.specs.declared.Run.{Run as Run'}
 use Rattle.run.specs.declared.Answer.{Answer}
 use Rattle.run.specs.Reading.{run_of, reply_of}

@@ -14,7 +14,8 @@ use Rattle.automata.specs.Restrict.{restrict}
 use Rattle.automata.proofs.Restrict.{restrict_formed}
 use Rattle.automata.specs.Rows.{flat}
 use Rattle.automata.specs.Table.{ClosedTable, table_formed}
-use Rattle.card.specs.Number.{Bytes, bytes_of, below_flat}
+use Rattle.card.specs.Number.{Bytes, bytes_of}
+use Rattle.card.proofs.Number.{below_flat}
 use Rattle.numbering.specs.Arrival.{kept_machine, Arranged}
 use Rattle.sections.specs.Laid.{Laid}
 use Rattle.sections.specs.Parts.{row_bytes, move_bytes}

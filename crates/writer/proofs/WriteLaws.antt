@@ -13,9 +13,9 @@ use Rattle.automata.proofs.Restrict.{restrict_formed}
 use Rattle.automata.specs.Rows.{flat, flat_length}
 use Rattle.automata.specs.Table.{table_formed}
 use Rattle.card.specs.Mark.{marks_length}
-use Rattle.card.specs.Number.{bytes_of_length}
+use Rattle.card.proofs.Number.{bytes_of_length}
 use Rattle.card.specs.Layout.{contents, encode}
-use Rattle.card.specs.LayoutLaws.{contents_length}
+use Rattle.card.proofs.LayoutLaws.{contents_length}
 use Rattle.card.specs.Same.{card_of}
 use Rattle.numbering.specs.Arrival.{kept_machine, Arranged}
 use Rattle.sections.specs.Laid.{Laid}

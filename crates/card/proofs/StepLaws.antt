@@ -8,18 +8,21 @@ use Rattle.automata.specs.Format.{Format}
 use Rattle.automata.specs.Machine.{Machine, automaton, run_inside}
 use Rattle.card.specs.Mark.{Mark, is_accepting, is_dead, is_live}
 use Rattle.card.specs.Layout.{letter_count, state_count, mark_at, move_at, letters_of, machine_of}
-use Rattle.card.specs.LayoutLaws.{letters_length, size_is, step_at}
-use Rattle.card.specs.Alphabet.{column, columns, Known, known_left}
+use Rattle.card.proofs.LayoutLaws.{letters_length, size_is, step_at}
+use Rattle.card.specs.Alphabet.{column, columns, Known}
+use Rattle.card.proofs.Alphabet.{known_left}
 use Rattle.card.specs.Load.{load_test}
-use Rattle.card.specs.LoadLaws.{tested_only}
-use Rattle.card.specs.Loads.{Loaded, load_loaded, loaded_card, loaded_formed}
+use Rattle.card.proofs.LoadLaws.{tested_only}
+use Rattle.card.specs.Loads.{Loaded}
+use Rattle.card.proofs.Loads.{load_loaded, loaded_card, loaded_formed}
 use Rattle.card.specs.Verdict.{Verdict, unfinished, Says, is_allowed, is_unfinished, is_hopeless}
-use Rattle.card.specs.Allowed.{allows_known, allows_dead, known_right}
+use Rattle.card.proofs.Allowed.{allows_known, allows_dead, known_right}
 use Rattle.card.specs.Reply.{answered}
 use Rattle.card.specs.Judge.{state_after, owed, judge, card_allows}
-use Rattle.card.specs.JudgeLaws.{owing_says, judge_iff}
-use Rattle.card.specs.RunLaws.{state_machine}
-use Rattle.card.specs.Step.{Stepped, owing, landing, Steps, step_no_card, step_unknown, step_no_state, step_moved, step_owing, step_on, steps, step_loaded, on_column, owed_fewest}
+use Rattle.card.proofs.JudgeLaws.{owing_says, judge_iff}
+use Rattle.card.proofs.RunLaws.{state_machine}
+use Rattle.card.specs.Step.{Stepped, owing, landing, Steps, step_no_card, step_unknown, step_no_state, step_moved, step_owing, step_on}
+use Rattle.card.proofs.Step.{steps, step_loaded, on_column, owed_fewest}
 
 module _ (fmt : Format) (c : List ℕ) (z : load_test fmt c ≡ 0) where
   d : Loaded fmt c

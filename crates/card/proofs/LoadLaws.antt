@@ -12,8 +12,9 @@ use Rattle.automata.specs.ReducedTest.{reduced_test, reduced_sound, equivalent_e
 use Rattle.automata.specs.Format.{Format}
 use Rattle.card.specs.Mark.{marks, Mark, marks_sound, marks_only}
 use Rattle.card.specs.Layout.{letter_count, state_count, mark_at, move_at, letters_of, moves_of, machine_of, Contents, contents_test}
-use Rattle.card.specs.LayoutLaws.{contents_sound, contents_whole, moves_length, moves_at, size_is, step_at, machine_formed}
-use Rattle.card.specs.Alphabet.{Alphabet, alphabet_test, alphabet_sound, alphabet_whole}
+use Rattle.card.proofs.LayoutLaws.{contents_sound, contents_whole, moves_length, moves_at, size_is, step_at, machine_formed}
+use Rattle.card.specs.Alphabet.{Alphabet, alphabet_test}
+use Rattle.card.proofs.Alphabet.{alphabet_sound, alphabet_whole}
 use Rattle.card.specs.Load.{row_inside, inside_test, marks_test, load_test, CardInside, CardMarked, CardNumbered, CardReduced, Tested, bad_contents, bad_alphabet, transition_out_of_range, not_numbered, wrong_marks, equivalent_states, loaded}
 
 -- ---- each test is exact
