@@ -32,7 +32,7 @@ use Rattle.automata.specs.ReducedTest.{reduced_test}
 use Rattle.card.specs.Same.{card_of}
 use Rattle.card.specs.NoLetters.{no_letters}
 use Rattle.book.specs.Text.{line_test, form_of}
-use Rattle.language.specs.Makes.{joins_exactly}
+use Rattle.language.proofs.Makes.{joins_exactly}
 use Rattle.book.specs.Line.{read_head, read_line, check_form}
 use Rattle.compiler.specs.Book.{compile_form, compile_line, compile_lines, compile_head, compile_text, compile_book}
 use Rattle.compiler.specs.Outcome.{card, stop, outcome}

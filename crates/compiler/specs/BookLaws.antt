@@ -17,14 +17,16 @@ use Rattle.language.specs.Restriction.{demands}
 use Rattle.language.specs.GivenLaws.{all_recognizes}
 use Rattle.language.specs.Environment.{names_of, known, all_known}
 use Rattle.language.specs.Evaluate.{evaluate_rule}
-use Rattle.language.specs.Makes.{makes_exactly, rule_exactly, pairs_exactly}
-use Rattle.language.specs.Matches.{matches, contexts_in, Rule, obeys, Obeys, obeys_sound, obeys_whole}
+use Rattle.language.proofs.Makes.{makes_exactly, rule_exactly, pairs_exactly}
+use Rattle.language.specs.Matches.{matches, contexts_in, Rule, obeys, Obeys}
+use Rattle.language.proofs.Matches.{obeys_sound, obeys_whole}
 use Rattle.language.specs.ExpressionLaws.{Right, right_same, right_marks, EnvRight, keeps_map, pair_right, expression_right}
-use Rattle.language.specs.RuleLaws.{rule_right}
+use Rattle.language.proofs.RuleLaws.{rule_right}
 use Rattle.book.specs.Line.{reads, letters}
 use Rattle.book.specs.LineGrammar.{Contexted}
 use Rattle.book.specs.LineLaws.{KnownForm}
-use Rattle.book.specs.HeadLaws.{Letters, head_letters}
+use Rattle.book.specs.HeadLaws.{Letters}
+use Rattle.book.proofs.HeadLaws.{head_letters}
 use Rattle.book.specs.Text.{Line, lines_of, letters_of, Form, define, rule, malformed}
 use Rattle.compiler.specs.Allows.{on_form, rules_of, book_letters, book_rules, allows_lines, allows}
 use Rattle.compiler.specs.Book.{Draft, BookResult, done, stopped, start_draft, compile_book}

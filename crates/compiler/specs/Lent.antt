@@ -2,7 +2,7 @@
 use Rattle.std.specs.Prelude.{◌≡◌, refl, true, ◌↔◌, List, [], ◌∷◌, ℕ, zero, suc, ◌*◌, ◌≤◌, ◌<◌, length, get_or, T, leb}
 use Rattle.std.proofs.Common.{sym, subst, suc-le-suc, not-suc-le-zero, le_of_suc-le-suc, zero-lt-suc, arith, leb→le}
 use Rattle.automata.specs.Booleans.{and_left, and_right, and_both}
-use Rattle.book.specs.HeadLaws.{le_leb}
+use Rattle.book.proofs.HeadLaws.{le_leb}
 use Rattle.compiler.specs.Outcome.{enough}
 
 -- "a lent work buffer is below its documented length (at most 8 buffers, none needing over 65,536 bytes)": each buffer's length, and the bytes of one of

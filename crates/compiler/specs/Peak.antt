@@ -17,7 +17,7 @@ use Rattle.language.specs.Expression.{Expr, letter, name, dot, empty, pair, join
 use Rattle.language.specs.Makes.{Pairs, Joins, Stars, Erasing, Makes, MakesMarked, MakesContext, MakesContexts, MakesUnion, MakesSet, MakesRule}
 use Rattle.book.specs.Text.{Line, lines_of, letters_of, Form, define, rule, malformed}
 use Rattle.book.specs.Line.{reads, letters}
-use Rattle.book.specs.HeadLaws.{head_letters}
+use Rattle.book.proofs.HeadLaws.{head_letters}
 use Rattle.compiler.specs.Allows.{book_letters}
 use Rattle.compiler.specs.Book.{Draft, BookResult, done, stopped, start_draft, compile_book}
 use Rattle.compiler.specs.Outcome.{most}

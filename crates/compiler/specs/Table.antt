@@ -17,14 +17,18 @@ use Rattle.automata.proofs.Exactly.{then_exactly}
 use Rattle.automata.specs.Stages.{both, pair_stage}
 use Rattle.language.specs.Environment.{names_of}
 use Rattle.language.specs.Evaluate.{evaluate, evaluate_rule}
-use Rattle.language.specs.Makes.{Pairs, Makes, MakesRule, makes_exactly, rule_exactly, pairs_exactly}
+use Rattle.language.specs.Makes.{Pairs, Makes, MakesRule}
+use Rattle.language.proofs.Makes.{makes_exactly, rule_exactly, pairs_exactly}
 use Rattle.card.specs.Same.{card_of}
 use Rattle.book.specs.Text.{Line, lines_of, Form, define, rule, malformed, form_of, unless}
 use Rattle.book.specs.Line as L
 use Rattle.book.specs.Line.{LineRead, reads, stops, read_line, HeadRead, letters, read_head}
-use Rattle.book.specs.LineGrammar.{Contexted, contexts_enough}
-use Rattle.book.specs.LineLaws.{KnownForm, LineSays, line_says, line_says_only, line_elim}
-use Rattle.book.specs.HeadLaws.{HeadForm, HeadSays, head_says, head_says_only, head_elim}
+use Rattle.book.specs.LineGrammar.{Contexted}
+use Rattle.book.proofs.LineGrammar.{contexts_enough}
+use Rattle.book.specs.LineLaws.{KnownForm, LineSays}
+use Rattle.book.proofs.LineLaws.{line_says, line_says_only, line_elim}
+use Rattle.book.specs.HeadLaws.{HeadForm, HeadSays}
+use Rattle.book.proofs.HeadLaws.{head_says, head_says_only, head_elim}
 use Rattle.compiler.specs.Book.{Draft, on, on_made, compile_form, after_read, compile_line, BookResult, done, stopped, after_line, compile_lines, start_draft, after_head, compile_head, compile_text, compile_book}
 use Rattle.compiler.specs.Outcome.{Outcome, card, stop, most, enough, written, outcome}
 

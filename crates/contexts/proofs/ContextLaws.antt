@@ -16,7 +16,7 @@ use Rattle.language.specs.Restriction.{RuleKind, restricts, forbids, obliges, So
 use Rattle.language.specs.Expression.{Expr}
 use Rattle.book.specs.Kind.{kind_of, space_kind, slash_kind, underscore_kind, line_end_kind}
 use Rattle.book.specs.Reader.{got, bad, read_choice}
-use Rattle.book.specs.Grammar.{reader_sound}
+use Rattle.book.proofs.Grammar.{reader_sound}
 use Rattle.book.specs.Text.{tokens, count_of, Form, rule, malformed, form_of, contexts_of, on_read, tail_at, unless}
 use Rattle.book.specs.Program.{postfix, context_program, contexts_program, program}
 use Rattle.lexer.specs.Token.{At, kind_ahead}

@@ -6,7 +6,8 @@ use Rattle.automata.specs.Basics.{LtCases, lt_cases}
 use Rattle.automata.specs.Machine.{Machine}
 use Rattle.book.specs.Kind.{is_name}
 use Rattle.book.specs.Text.{define, rule}
-use Rattle.book.specs.StackLaws.{highest, program_highest}
+use Rattle.book.specs.StackLaws.{highest}
+use Rattle.book.proofs.StackLaws.{program_highest}
 use Rattle.reader.specs.Answers.{ReadsNext}
 use Rattle.reader.specs.AnswerLaws.{name_read, rule_read}
 use Rattle.reader.specs.declared.names.Names.{Names}

@@ -13,7 +13,8 @@ use Rattle.language.specs.Expression.{Expr}
 use Rattle.book.specs.Kind.{kind_of, is_name, name_kind, equals_kind, greater_kind, less_kind, caret_kind, slash_kind, underscore_kind}
 use Rattle.book.specs.Reader.{bad, read_choice}
 use Rattle.book.specs.Text.{tokens, count_of, rule, malformed, form_of, define_of, define_as, rule_of, needs_context, contexts_of, on_read}
-use Rattle.book.specs.LineGrammar.{rule_sign, contexts_end}
+use Rattle.book.specs.LineGrammar.{rule_sign}
+use Rattle.book.proofs.LineGrammar.{contexts_end}
 use Rattle.book.specs.Program.{store_pattern_code, complement_code, without_code, either_code, postfix, pattern_program, context_program, finish_program, contexts_program, union_program, program}
 use Rattle.lexer.specs.Token.{At, kind_ahead}
 use Rattle.signs.specs.Buffer.{Grown}

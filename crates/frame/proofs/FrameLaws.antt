@@ -20,7 +20,8 @@ use Rattle.card.specs.Same.{card_of}
 use Rattle.book.specs.Text.{Line, lines_of, letters_of}
 use Rattle.book.specs.Line as L
 use Rattle.book.specs.Line.{HeadRead, letters, read_head}
-use Rattle.book.specs.HeadLaws.{Letters, head_elim, head_letters}
+use Rattle.book.specs.HeadLaws.{Letters}
+use Rattle.book.proofs.HeadLaws.{head_elim, head_letters}
 use Rattle.compiler.specs.Book.{stopped, compile_lines, start_draft, after_head, compile_head, compile_text, compile_book}
 use Rattle.compiler.specs.Outcome.{card, stop, outcome, enough}
 use Rattle.slots.specs.Slot.{slot_machine}

@@ -1,9 +1,8 @@
 -- What expressions, rules and books mean: sets of plans. A plan is written by the columns of its letters.
-use Rattle.std.specs.Prelude.{ℕ, true, ◌&&◌, ◌≡◌, refl, List, [], ◌∷◌, length}
-use Rattle.automata.specs.Booleans.{and_left, and_right, and_both}
+use Rattle.std.specs.Prelude.{ℕ, true, ◌&&◌, List, [], ◌∷◌, length}
 use Rattle.language.specs.Cuts.{Word}
 use Rattle.language.specs.Language.{Language, empty_word, single, any_symbol, all_words, concatenation, union, difference, star as star_of}
-use Rattle.language.specs.Restriction.{RuleKind, Context, demands, Demands, demands_iff}
+use Rattle.language.specs.Restriction.{RuleKind, Context, demands, Demands}
 use Rattle.language.specs.StageLaws.{combined}
 use Rattle.language.specs.Expression.{Expr, letter, name, dot, empty, pair, join, star, plus, option, complement}
 use Rattle.language.specs.Environment.{lookup}
@@ -43,14 +42,3 @@ obeys (r ∷ rs) w = demands r.kind r.pattern r.contexts w && obeys rs w
 abbrev pub Obeys : List Rule → Word → Type 0
 Obeys [] w = Unit {0}
 Obeys (r ∷ rs) w = Demands r.kind r.pattern r.contexts w × Obeys rs w
-
-pub obeys_sound : (rs : List Rule) (w : Word) → obeys rs w ≡ true → Obeys rs w
-obeys_sound [] w e = tt
-obeys_sound (r ∷ rs) w e = (
-  (demands_iff r.kind r.pattern r.contexts w).0 (and_left (demands r.kind r.pattern r.contexts w) (obeys rs w) e),
-  obeys_sound rs w (and_right (demands r.kind r.pattern r.contexts w) (obeys rs w) e),
-)
-
-pub obeys_whole : (rs : List Rule) (w : Word) → Obeys rs w → obeys rs w ≡ true
-obeys_whole [] w o = refl
-obeys_whole (r ∷ rs) w o = and_both (demands r.kind r.pattern r.contexts w) (obeys rs w) ((demands_iff r.kind r.pattern r.contexts w).1 o.0) (obeys_whole rs w o.1)

@@ -12,7 +12,8 @@ use Rattle.automata.specs.Stage.{made, refused}
 use Rattle.language.specs.Environment.{names_of}
 use Rattle.book.specs.Text.{Line, Form, define, rule, malformed}
 use Rattle.book.specs.Line.{LineRead, reads, stops, read_line}
-use Rattle.book.specs.LineLaws.{KnownForm, line_elim}
+use Rattle.book.specs.LineLaws.{KnownForm}
+use Rattle.book.proofs.LineLaws.{line_elim}
 use Rattle.compiler.specs.Book.{Draft, on, off, on_made, compile_form, after_read, compile_line}
 use Rattle.compiler.specs.Outcome.{most}
 use Rattle.reader.specs.Names.{Holds}

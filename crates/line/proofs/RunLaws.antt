@@ -15,13 +15,14 @@ use Rattle.automata.specs.Stage.{made, refused}
 use Rattle.automata.specs.Stages.{Pairing, either, both, without}
 use Rattle.language.specs.Restriction.{RuleKind, restricts, forbids, obliges}
 use Rattle.language.specs.Evaluate.{pattern_of}
-use Rattle.language.specs.RuleLaws.{pattern_known}
+use Rattle.language.proofs.RuleLaws.{pattern_known}
 use Rattle.language.specs.Expression.{Expr, letter, name, dot, empty, pair, join, star, plus, option, complement, member}
 use Rattle.language.specs.Environment.{names_of, known, all_known}
 use Rattle.book.specs.Kind.{kind_of, is_letter, is_name}
 use Rattle.book.specs.Text.{Form, define, rule, malformed}
 use Rattle.book.specs.Program.{store_pattern_code, pair_code, postfix, context_program, finish_program, contexts_program, union_program, set_program, program}
-use Rattle.book.specs.StackLaws.{Leaves, highest, Held, AllHeld, FormHeld, program_highest}
+use Rattle.book.specs.StackLaws.{Leaves, highest, Held, AllHeld, FormHeld}
+use Rattle.book.proofs.StackLaws.{program_highest}
 use Rattle.book.specs.LineLaws.{KnownForm}
 use Rattle.compiler.specs.Outcome.{most}
 use Rattle.slots.specs.Slot.{slot_machine}

@@ -6,7 +6,8 @@ use Rattle.automata.specs.Format.{Format}
 use Rattle.automata.specs.Booleans.{bool_iff, and_left, and_right, and_both}
 use Rattle.automata.specs.Machine.{size}
 use Rattle.language.specs.Language.{all_words, all_words_whole, all_words_sound}
-use Rattle.language.specs.Matches.{obeys, Obeys, obeys_sound, obeys_whole}
+use Rattle.language.specs.Matches.{obeys, Obeys}
+use Rattle.language.proofs.Matches.{obeys_sound, obeys_whole}
 use Rattle.card.specs.Number.{Bytes}
 use Rattle.card.specs.Layout.{Sound, letter_count, state_count}
 use Rattle.card.proofs.LayoutLaws.{encode_letter_count, encode_state_count}

@@ -14,14 +14,15 @@ use Rattle.automata.specs.Basics.{nat_test, LtCases, lt_cases}
 use Rattle.automata.specs.Stages.{Pairing, either, both, without}
 use Rattle.language.specs.Restriction.{RuleKind, restricts, forbids, obliges}
 use Rattle.language.specs.Evaluate.{pattern_of}
-use Rattle.language.specs.RuleLaws.{pattern_known}
+use Rattle.language.proofs.RuleLaws.{pattern_known}
 use Rattle.language.specs.Expression.{Expr, star, plus, pair, empty, join, option, complement, letter, name, dot, member}
 use Rattle.language.specs.Environment.{known, all_known}
 use Rattle.book.specs.Kind.{kind_of, name_kind, underscore_kind}
 use Rattle.book.specs.Text.{define, rule, malformed, form_of, too_deep, count_of, line_test, unless}
 use Rattle.book.specs.Line.{reads, stops, read_line, check_form}
 use Rattle.book.specs.Program.{pair_code, postfix, program, context_program, contexts_program, union_program, set_program}
-use Rattle.book.specs.StackLaws.{Leaves, Held, AllHeld, FormHeld, line_held}
+use Rattle.book.specs.StackLaws.{Leaves, Held, AllHeld, FormHeld}
+use Rattle.book.proofs.StackLaws.{line_held}
 use Rattle.scans.specs.Lines.{line_of, line_at, Ends}
 use Rattle.reader.specs.Names.{Holds}
 use Rattle.reader.specs.Known.{code_known, Knows}

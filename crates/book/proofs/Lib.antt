@@ -1,0 +1,6 @@
+pub mod ReaderLaws
+pub mod Grammar
+pub mod LineGrammar
+pub mod LineLaws
+pub mod HeadLaws
+pub mod StackLaws

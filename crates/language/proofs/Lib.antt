@@ -1,0 +1,4 @@
+pub mod Restriction
+pub mod Makes
+pub mod Matches
+pub mod RuleLaws
