@@ -2,9 +2,6 @@
 pub mod Listing
 pub mod Plans
 pub mod Census
-pub mod PlanLaws
 pub mod CountLaws
-pub mod CardLaws
-pub mod FewerLaws
 pub mod EndLaws
 pub mod Examples

@@ -14,7 +14,8 @@ use Rattle.card.proofs.Alphabet.{column_letter}
 use Rattle.card.specs.Loads.{Loaded}
 use Rattle.fields.specs.Counts.{Counted}
 use Rattle.fields.specs.CardTable.{cell, mark_at_lem}
-use Rattle.census.specs.EndLaws.{ending, sum_over, ending_more}
+use Rattle.census.specs.EndLaws.{ending, sum_over}
+use Rattle.census.proofs.EndLaws.{ending_more}
 use Rattle.arrivals.specs.Weights.{sum_below, behind, before, earlier, mark_weight}
 use Rattle.arrivals.specs.WeightLaws.{sum_alike, sum_front, earlier_front}
 

@@ -20,8 +20,9 @@ use Rattle.run.specs.Walk.{Ready}
 use Rattle.run.proofs.WalkLaws.{ready_counted}
 use Rattle.board.proofs.EntryLaws.{rejected_test, rejected_some}
 use Rattle.census.specs.Census.{longest_plan, counts, refused, census, no_card, count_too_large, are_counts}
-use Rattle.census.specs.CardLaws.{answers_only, loaded_counted}
-use Rattle.census.specs.EndLaws.{ending, allowed_ending, unfinished_ending, hopeless_ending}
+use Rattle.census.proofs.CardLaws.{answers_only, loaded_counted}
+use Rattle.census.specs.EndLaws.{ending}
+use Rattle.census.proofs.EndLaws.{allowed_ending, unfinished_ending, hopeless_ending}
 use Rattle.arrivals.specs.Weights.{weighed, earlier, each, mark_weight, fits}
 use Rattle.arrivals.specs.WeightLaws.{earlier_each}
 use Rattle.arrivals.specs.Rounds.{Startable, Arrived, Countable as Summable}

@@ -1,3 +1,2 @@
 -- How far a change is, over any states and letters.
 pub mod Distance
-pub mod DistanceLaws

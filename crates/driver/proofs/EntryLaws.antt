@@ -12,7 +12,7 @@ use Rattle.automata.specs.Basics.{ltb_false}
 use Rattle.language.specs.ExpressionLaws.{Right}
 use Rattle.compiler.specs.Allows.{allows}
 use Rattle.compiler.specs.Book.{done, stopped, compile_book}
-use Rattle.compiler.specs.BookLaws.{accepted_right}
+use Rattle.compiler.proofs.BookLaws.{accepted_right}
 use Rattle.compiler.specs.Outcome.{stop, written, outcome, enough}
 use Rattle.lines.specs.Lines.{Lent, LinesSay, CompilesLines}
 use Rattle.progress.specs.declared.Ended.{Ended}

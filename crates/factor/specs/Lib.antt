@@ -2,7 +2,4 @@
 pub mod Factor
 pub mod LongerLaws
 pub mod Shortest
-pub mod ShortestLaws
-pub mod CardLaws
-pub mod MountedLaws
 pub mod Examples

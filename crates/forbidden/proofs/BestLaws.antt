@@ -10,8 +10,10 @@ use lib.Seq.{drop-length, drop-cons}
 use lib.Dec.{eqb}
 use Rattle.automata.specs.Booleans.{choose, not_true}
 use Rattle.automata.specs.Basics.{SameCases, same_cases, nat_test}
-use Rattle.factor.specs.Factor.{Inside, Shortest, none, at, none_apart, Blames, is_none}
-use Rattle.factor.specs.LongerLaws.{ShortestStart, longer_inside, longer_first, longer_nearer, longer_kept}
+use Rattle.factor.specs.Factor.{Inside, Shortest, none, at, Blames, is_none}
+use Rattle.factor.proofs.Factor.{none_apart}
+use Rattle.factor.specs.LongerLaws.{ShortestStart}
+use Rattle.factor.proofs.LongerLaws.{longer_inside, longer_first, longer_nearer, longer_kept}
 use Rattle.forbidden.specs.declared.Best.{Best}
 use Rattle.forbidden.specs.Pass.{Bettered, nearer, nowhere, longer}
 

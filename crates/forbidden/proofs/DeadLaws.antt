@@ -17,7 +17,7 @@ use Rattle.card.specs.Loads.{Loaded}
 use Rattle.card.proofs.Loads.{loaded_card}
 use Rattle.card.specs.Judge.{Place, none, found, state_after, first_dead}
 use Rattle.card.proofs.RunLaws.{dead_stays}
-use Rattle.factor.specs.CardLaws.{known_factor}
+use Rattle.factor.proofs.CardLaws.{known_factor}
 use Rattle.ends.specs.Ends.{DeadState}
 
 -- A place as a number, `never` where there is none.

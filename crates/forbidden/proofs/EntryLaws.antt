@@ -13,7 +13,7 @@ use Rattle.card.proofs.Loads.{load_loaded}
 use Rattle.card.specs.Answer.{load, rejected}
 use Rattle.card.specs.Reply.{answered, refused, no_card, unknown_letter, is_answered}
 use Rattle.factor.specs.Shortest.{shortest}
-use Rattle.factor.specs.CardLaws.{replies_only}
+use Rattle.factor.proofs.CardLaws.{replies_only}
 use Rattle.run.specs.Walk.{Ready, ColumnTable, KnownTo}
 use Rattle.board.proofs.EntryLaws.{rejected_test, rejected_some}
 use Rattle.forbidden.specs.declared.Answer.{Answer}

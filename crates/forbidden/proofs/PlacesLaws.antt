@@ -18,9 +18,10 @@ use Rattle.card.proofs.Alphabet.{known_at}
 use Rattle.card.specs.Loads.{Loaded}
 use Rattle.card.proofs.Allowed.{allows_dead}
 use Rattle.card.specs.Judge.{state_after, first_dead, card_allows}
-use Rattle.factor.specs.Factor.{Inside, at, Blames, nothing_empty}
+use Rattle.factor.specs.Factor.{Inside, at, Blames}
+use Rattle.factor.proofs.Factor.{nothing_empty}
 use Rattle.factor.specs.LongerLaws.{ShortestStart}
-use Rattle.factor.specs.CardLaws.{known_factor, inside_from, outside_dead}
+use Rattle.factor.proofs.CardLaws.{known_factor, inside_from, outside_dead}
 use Rattle.ends.specs.Ends.{DeadState, Filled, next_place, Stepped}
 use Rattle.forbidden.proofs.DeadLaws.{place_or, move_state, first_low, dead_by, no_word, dead_is}
 

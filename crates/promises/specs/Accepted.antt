@@ -13,12 +13,14 @@ use Rattle.book.specs.Kind.{kind_of, line_end_kind}
 use Rattle.book.specs.Text.{Line, put_byte, lines_of}
 use Rattle.compiler.specs.Allows.{book_letters, allows}
 use Rattle.compiler.specs.Book.{Draft, done, compile_book}
-use Rattle.compiler.specs.BookLaws.{LettersOf, accepted_right, accepted_letters, accepted_alphabet}
-use Rattle.compiler.specs.Bounds.{accepted_within}
+use Rattle.compiler.specs.BookLaws.{LettersOf}
+use Rattle.compiler.proofs.BookLaws.{accepted_right, accepted_letters, accepted_alphabet}
+use Rattle.compiler.proofs.Bounds.{accepted_within}
 use Rattle.compiler.specs.Outcome.{Outcome, card, stop, most, outcome}
-use Rattle.compiler.specs.Table.{Outcomes, text_too_long, buffer_too_short, book_stops, output_too_short, gives, outcomes, book_says_only}
+use Rattle.compiler.specs.Table.{Outcomes, text_too_long, buffer_too_short, book_stops, output_too_short, gives}
+use Rattle.compiler.proofs.Table.{outcomes, book_says_only}
 use Rattle.compiler.specs.BookStages.{Peak}
-use Rattle.compiler.specs.Peak.{book_peak}
+use Rattle.compiler.proofs.Peak.{book_peak}
 
 -- A text with a byte has a line.
 lines_some : (text : List ℕ) → 1 ≤ length text → 1 ≤ length (lines_of text)

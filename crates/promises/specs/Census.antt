@@ -10,8 +10,8 @@ use Rattle.card.specs.Judge.{card_allows}
 use Rattle.card.specs.Demand.{Demand3}
 use Rattle.census.specs.Plans.{RightCounts}
 use Rattle.census.specs.Census.{Past, Within, counts, refused, census}
-use Rattle.census.specs.CardLaws.{too_large_iff, census_iff, three_sum}
-use Rattle.census.specs.FewerLaws.{counts_fewer}
+use Rattle.census.proofs.CardLaws.{too_large_iff, census_iff, three_sum}
+use Rattle.census.proofs.FewerLaws.{counts_fewer}
 use Rattle.book.specs.Text.{lines_of}
 use Rattle.compiler.specs.Allows.{book_letters}
 use Rattle.compiler.specs.Outcome.{card, outcome}

@@ -22,7 +22,8 @@ use Rattle.card.proofs.Demand.{demand_3, card_bytes}
 use Rattle.book.specs.Text.{lines_of}
 use Rattle.compiler.specs.Allows.{book_letters, book_rules, allows}
 use Rattle.compiler.specs.Outcome.{Outcome, card, stop, outcome, buffer_after}
-use Rattle.compiler.specs.Table.{Outcomes, outcomes, outcomes_only}
+use Rattle.compiler.specs.Table.{Outcomes}
+use Rattle.compiler.proofs.Table.{outcomes, outcomes_only}
 use Rattle.promises.specs.Accepted.{accepted, compiled}
 use Rattle.promises.specs.PlanCuts.{EveryRule, every_rule}
 

@@ -10,7 +10,7 @@ use Rattle.card.specs.Judge.{card_allows}
 use Rattle.card.specs.Demand.{Demand3}
 use Rattle.factor.specs.Factor.{Inside, Shortest, none, at, Blames}
 use Rattle.factor.specs.Shortest.{shortest}
-use Rattle.factor.specs.CardLaws.{shortest_iff, none_iff, nothing_allowed}
+use Rattle.factor.proofs.CardLaws.{shortest_iff, none_iff, nothing_allowed}
 use Rattle.book.specs.Text.{lines_of}
 use Rattle.compiler.specs.Allows.{book_letters}
 use Rattle.compiler.specs.Outcome.{card, outcome}

@@ -16,7 +16,8 @@ use Rattle.book.specs.HeadLaws as HL
 use Rattle.book.specs.HeadLaws.{HeadSays}
 use Rattle.compiler.specs.Book.{Draft, BookResult, done, stopped}
 use Rattle.compiler.specs.Outcome.{Outcome, card, stop, outcome}
-use Rattle.compiler.specs.Table.{MakesLine, LinesSay, line_stops, stage_stops, goes_on, all_lines, BookSays, no_bytes, head_stops, head_goes, Outcomes, text_too_long, buffer_too_short, book_stops, output_too_short, gives, outcomes}
+use Rattle.compiler.specs.Table.{MakesLine, LinesSay, line_stops, stage_stops, goes_on, all_lines, BookSays, no_bytes, head_stops, head_goes, Outcomes, text_too_long, buffer_too_short, book_stops, output_too_short, gives}
+use Rattle.compiler.proofs.Table.{outcomes}
 
 -- A number between two others.
 abbrev Between : ℕ → ℕ → ℕ → Type 0

@@ -1,6 +1,6 @@
 -- `behind` meets its contract.
 use mathlib.Core.Path.{sym}
-use Rattle.distance.specs.DistanceLaws.{behind_same, behind_other}
+use Rattle.distance.proofs.DistanceLaws.{behind_same, behind_other}
 use Rattle.sweeps.proofs.behind.Goals as goal
 
 pub returns-then-key-side : goal.returns-then-key-side

@@ -25,9 +25,10 @@ use Rattle.card.proofs.Reply.{asked_replies, replies_one, reply_right, refused_a
 use Rattle.card.specs.Judge.{state_after, plan_verdict, card_allows, judge}
 use Rattle.card.proofs.JudgeLaws.{judge_iff}
 use Rattle.card.proofs.RunLaws.{state_machine}
-use Rattle.factor.specs.Factor.{factor, Inside, Shortest, none, at, Blames, blames_one, blames_none, nothing_empty}
+use Rattle.factor.specs.Factor.{factor, Inside, Shortest, none, at, Blames}
+use Rattle.factor.proofs.Factor.{blames_one, blames_none, nothing_empty}
 use Rattle.factor.specs.Shortest.{lies_inside, shortest_by, shortest, Searches}
-use Rattle.factor.specs.ShortestLaws.{failed, shortest_blames}
+use Rattle.factor.proofs.ShortestLaws.{failed, shortest_blames}
 
 -- A factor of known letters has known letters.
 pub known_factor : (fmt : Format) (c plan : List ℕ) (i k : ℕ) → Known (letters_of fmt c) plan → Known (letters_of fmt c) (factor plan i k)

@@ -19,7 +19,7 @@ use Rattle.card.proofs.JudgeLaws.{loaded_says, judge_iff}
 use Rattle.census.specs.Listing.{passing}
 use Rattle.census.specs.Plans.{plans_of, OfLength, NumberOf, allowed_verdict, unfinished_verdict, hopeless_verdict, OfKind, NumbersOf, RightCounts}
 use Rattle.census.specs.Census.{longest_plan, most_plans, Past, Within, Census, counts, refused, count_of, census, JudgedSo, Answers, no_card, count_too_large, are_counts}
-use Rattle.census.specs.PlanLaws.{number_one, lists_alike, lists_passing, plans_listed, plans_many}
+use Rattle.census.proofs.PlanLaws.{number_one, lists_alike, lists_passing, plans_listed, plans_many}
 use Rattle.census.specs.CountLaws.{three_kinds}
 
 -- ---- three numbers of a set of plans

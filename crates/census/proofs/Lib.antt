@@ -1,0 +1,4 @@
+pub mod PlanLaws
+pub mod CardLaws
+pub mod FewerLaws
+pub mod EndLaws

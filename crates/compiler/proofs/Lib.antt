@@ -1,0 +1,4 @@
+pub mod Table
+pub mod BookLaws
+pub mod Bounds
+pub mod Peak

@@ -1,0 +1,5 @@
+pub mod Factor
+pub mod LongerLaws
+pub mod ShortestLaws
+pub mod CardLaws
+pub mod MountedLaws
