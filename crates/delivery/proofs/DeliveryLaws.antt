@@ -19,8 +19,8 @@ use Rattle.compiler.specs.Outcome.{Outcome, card, stop, answer, outcome, card_st
 use Rattle.compiler.specs.declared.Compiled as C
 use Rattle.driver.specs.Entry.{documented, reading, Answers}
 use Rattle.promises.specs.Demands.{book_allows}
-use Rattle.promises.specs.Today.{card_keeps_demand, rules_obeyed, one_card}
-use Rattle.promises.specs.Refusals.{refusal_numbered}
+use Rattle.promises.proofs.Today.{card_keeps_demand, rules_obeyed, one_card}
+use Rattle.promises.proofs.Refusals.{refusal_numbered}
 use Rattle.handing.specs.declared.Delivered as D
 use Rattle.handing.specs.Answers.{board_says, delivery}
 use Rattle.handing.specs.Answers as A

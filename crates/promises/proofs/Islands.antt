@@ -36,9 +36,10 @@ use Rattle.compiler.specs.Allows.{book_letters, book_rules, allows}
 use Rattle.compiler.specs.Book.{compile_text, compile_book}
 use Rattle.compiler.specs.BookStages.{Stage, StageOf, Attained}
 use Rattle.compiler.specs.Outcome.{card, stop, enough, outcome}
-use Rattle.promises.specs.Accepted.{accepted, compiled, alphabet, letters_most, letters_some, peak_of_stages}
-use Rattle.promises.specs.Demands.{book_allows, demand_three, SmallestCard, demand_two_board}
-use Rattle.promises.specs.Today.{board_loads}
+use Rattle.promises.proofs.Accepted.{accepted, compiled, alphabet, letters_most, letters_some, peak_of_stages}
+use Rattle.promises.specs.Demands.{book_allows, SmallestCard}
+use Rattle.promises.proofs.Demands.{demand_three, demand_two_board}
+use Rattle.promises.proofs.Today.{board_loads}
 
 -- ---- a text of no bytes
 

@@ -14,7 +14,8 @@ use Rattle.factor.proofs.CardLaws.{shortest_iff, none_iff, nothing_allowed}
 use Rattle.book.specs.Text.{lines_of}
 use Rattle.compiler.specs.Allows.{book_letters}
 use Rattle.compiler.specs.Outcome.{card, outcome}
-use Rattle.promises.specs.Demands.{book_allows, demand_three}
+use Rattle.promises.specs.Demands.{book_allows}
+use Rattle.promises.proofs.Demands.{demand_three}
 
 module _ (fmt : Format) (s : Sound fmt) (two : 2 ≤ fmt.most_states) (needs text lent : List ℕ) (room : ℕ) (c : List ℕ) (peak : ℕ)
     (e : outcome fmt needs text lent room ≡ card c peak) (some : fmt.least_letters ≤ length (book_letters (lines_of text)))

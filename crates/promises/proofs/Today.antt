@@ -12,7 +12,8 @@ use Rattle.card.specs.Demand.{Demand3}
 use Rattle.book.specs.Text.{lines_of}
 use Rattle.compiler.specs.Allows.{book_letters, book_rules}
 use Rattle.compiler.specs.Outcome.{card, outcome}
-use Rattle.promises.specs.Demands.{book_allows, demand_two, demand_two_cuts, SmallestCard, demand_two_board, demand_three, same_card}
+use Rattle.promises.specs.Demands.{book_allows, SmallestCard}
+use Rattle.promises.proofs.Demands.{demand_two, demand_two_cuts, demand_two_board, demand_three, same_card}
 use Rattle.promises.specs.PlanCuts.{EveryRule}
 
 module _ (needs text lent : List ℕ) (room : ℕ) (c : List ℕ) (peak : ℕ) (e : outcome narrow needs text lent room ≡ card c peak) where

@@ -1,0 +1,9 @@
+pub mod Accepted
+pub mod Refusals
+pub mod PlanCuts
+pub mod Demands
+pub mod Today
+pub mod Factor
+pub mod Islands
+pub mod Owed
+pub mod Census
