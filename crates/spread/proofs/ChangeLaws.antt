@@ -11,8 +11,7 @@ use Rattle.automata.specs.Basics.{LtCases, lt_cases}
 use Rattle.automata.specs.Machine.{size, Equivalent}
 use Rattle.automata.specs.Partition.{bit}
 use Rattle.automata.specs.Table.{table_machine, ClosedTable, table_size, table_accepting, table_formed}
-use Rattle.distance.specs.DistanceLaws as laws
-use Rattle.distance.proofs.DistanceLaws as lawsLaws
+use Rattle.distance.proofs.DistanceLaws as laws
 use Rattle.entries.specs.Entries.{flag_bit, Target}
 use Rattle.entries.specs.Classes.{next, Sized}
 use Rattle.spread.specs.Change.{far, leads, after, Nearest, Backed, Closed, Alike, Measured, SameClasses, Lowered, Swept, Settling}
@@ -21,19 +20,19 @@ use Rattle.spread.specs.Change.{far, leads, after, Nearest, Backed, Closed, Alik
 
 module _ (base n k : ℕ) (t w : List ℕ) (p : ℕ) where
   pub near_start : (r : ℕ) → suc r ≡ n → Nearest base n k t w p 0 r
-  near_start r e = record { least = lawsLaws.near_start n (after base n k t w p) r e }
+  near_start r e = record { least = laws.near_start n (after base n k t w p) r e }
 
   -- a column that changes the answer
   pub near_change : (c s a b : ℕ) → c < k → Target base n k t p c s → a ≡ flag_bit t s → b ≡ flag_bit t p → a ≢ b → 0 < n → Nearest base n k t w p k 0
-  near_change c s a b h T i j d z = record { least = lawsLaws.near_zero n (after base n k t w p) k c h (lawsLaws.behind_other (flag_bit t (leads base n k t p c)) (flag_bit t p) (far n w (leads base n k t p c)) (λ e. d (i ∙ ap (flag_bit t) T.step ∙ e ∙ sym j))) z }
+  near_change c s a b h T i j d z = record { least = laws.near_zero n (after base n k t w p) k c h (laws.behind_other (flag_bit t (leads base n k t p c)) (flag_bit t p) (far n w (leads base n k t p c)) (λ e. d (i ∙ ap (flag_bit t) T.step ∙ e ∙ sym j))) z }
 
   -- a column that does not
   pub near_next : (c s a b x y r r' : ℕ) → Target base n k t p c s → a ≡ flag_bit t s → b ≡ flag_bit t p → a ≡ b → x ≡ get_or w (n + s) 0 → y ≡ x + 1
       → Nearest base n k t w p c r → (r' ≤ r) × (r' ≤ y) × ((r' ≡ r) ⊎ (r' ≡ y)) → Nearest base n k t w p (c + 1) r'
-  near_next c s a b x y r r' T i j d e f N l = record { least = lawsLaws.near_next n (after base n k t w p) c r y r' N.least (same ∙ number) l }
+  near_next c s a b x y r r' T i j d e f N l = record { least = laws.near_next n (after base n k t w p) c r y r' N.least (same ∙ number) l }
     where
       same : after base n k t w p c ≡ far n w (leads base n k t p c)
-      same = lawsLaws.behind_same (flag_bit t (leads base n k t p c)) (flag_bit t p) (far n w (leads base n k t p c)) (sym (ap (flag_bit t) T.step) ∙ sym i ∙ d ∙ j)
+      same = laws.behind_same (flag_bit t (leads base n k t p c)) (flag_bit t p) (far n w (leads base n k t p c)) (sym (ap (flag_bit t) T.step) ∙ sym i ∙ d ∙ j)
 
       number : far n w (leads base n k t p c) ≡ y
       number = let z : x ≡ next n w (leads base n k t p c) = e ∙ ap (λ q. get_or w (n + q) 0) T.step in omega (arith, z, f)
@@ -49,7 +48,7 @@ module _ (base n k : ℕ) (t w : List ℕ) (m : Measured base n k t w) (p : ℕ)
 
   pub lower_yes : (w' : List ℕ) (i y : ℕ) → i ≡ n + p → y ≡ x → w' ≡ set w i y → x < get_or w (n + p) 0 → Lowered base n k t w w' p true
   lower_yes w' i y ei ey e l = record {
-    backed = record { numbers = lawsLaws.lowered_backed n n k (flag_bit t) (leads base n k t) (far n w) (far n w') p x (ap suc same) (λ q d. ap suc (other q d)) (omega (arith, l)) m.backed.numbers N.least.met };
+    backed = record { numbers = laws.lowered_backed n n k (flag_bit t) (leads base n k t) (far n w) (far n w') p x (ap suc same) (λ q d. ap suc (other q d)) (omega (arith, l)) m.backed.numbers N.least.met };
     kept = record { long = ap length s ∙ length-set w (n + p) x; classes = λ q b. ap (λ v. get_or v q 0) s ∙ get_or-set_other w (n + p) q x 0 (omega arith) };
     no = λ z. absurd (true≢false z);
   }
@@ -100,7 +99,7 @@ unknown_more n i x u v e r z f p h = rw e (go (lt_cases p i))
 
 module _ (base n k : ℕ) (t : List ℕ) where
   pub swept_start : (w : List ℕ) → Backed base n k t w → Swept base n k t w w 0 false
-  swept_start w B = record { backed = B; kept = same_classes_refl n w; closed = λ _. record { numbers = lawsLaws.closed_start k (flag_bit t) (leads base n k t) (far n w) } }
+  swept_start w B = record { backed = B; kept = same_classes_refl n w; closed = λ _. record { numbers = laws.closed_start k (flag_bit t) (leads base n k t) (far n w) } }
 
   pub swept_yes : (w u v : List ℕ) (p : ℕ) (r : Bool) (c : Bool) → Swept base n k t w u p c → Lowered base n k t u v p r → Swept base n k t w v (p + 1) true
   swept_yes w u v p r c S L = record { backed = L.backed; kept = same_classes_more n w u v S.kept L.kept; closed = λ e. absurd (true≢false e) }
@@ -109,19 +108,19 @@ module _ (base n k : ℕ) (t : List ℕ) where
   swept_no w u v p r c z S L = record {
     backed = L.backed;
     kept = same_classes_more n w u v S.kept L.kept;
-    closed = λ e. rw (L.no z).0 (record { numbers = lawsLaws.closed_more k (flag_bit t) (leads base n k t) (far n u) p (S.closed e).numbers (L.no z).1 });
+    closed = λ e. rw (L.no z).0 (record { numbers = laws.closed_more k (flag_bit t) (leads base n k t) (far n u) p (S.closed e).numbers (L.no z).1 });
   }
 
   pub swept_done : (w v : List ℕ) (p : ℕ) (c : Bool) → p ≡ n → Swept base n k t w v p c → Swept base n k t w v n c
   swept_done w v p c e S = rw e at S
 
   pub unknown_backed : (w : List ℕ) → ((p : ℕ) → p < n → suc (next n w p) ≡ n) → Backed base n k t w
-  unknown_backed w h = record { numbers = lawsLaws.unknown_backed n n k (flag_bit t) (leads base n k t) (far n w) h }
+  unknown_backed w h = record { numbers = laws.unknown_backed n n k (flag_bit t) (leads base n k t) (far n w) h }
 
 -- ---- equivalent states have the same number
 
 pub closed_alike : (base n k : ℕ) (t w : List ℕ) → ClosedTable base n k t → Backed base n k t w → Closed base n k t w n → Alike base n k t w
-closed_alike base n k t w C B L p q hp hq e = omega (arith, lawsLaws.closed_alike n n k (flag_bit t) (leads base n k t) (far n w) B.numbers L.numbers (table_machine base n k t) moved (λ p c h b. refl) answers p q (inside p hp) (inside q hq) e)
+closed_alike base n k t w C B L p q hp hq e = omega (arith, laws.closed_alike n n k (flag_bit t) (leads base n k t) (far n w) B.numbers L.numbers (table_machine base n k t) moved (λ p c h b. refl) answers p q (inside p hp) (inside q hq) e)
   where
     inside : (p : ℕ) → p < size (table_machine base n k t) → p < n
     inside p h = rw (table_size base n k t C) at h
