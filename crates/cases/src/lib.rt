@@ -1,2 +1,2 @@
-// Definitions and laws only: they stand in specs/.
+// Definitions and laws only: they stand in specs/ and proofs/.
 #![tactic(auto)]
