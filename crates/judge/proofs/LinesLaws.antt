@@ -3,7 +3,7 @@ use Rattle.std.specs.Prelude.{Option, Result, Ok, Err, OnOk, Bool, false}
 use Rattle.std.specs.Result.{is_err}
 use Rattle.std.proofs.KnownBytes.{Appends-nil, Appends-trans, Consumes-nil, Consumes-trans}
 use Rattle.std.specs.Io.KnownBytes.{Consumes, Appends, IsAtEnd}
-use Rattle.std.proofs.Common.{◌≡◌, refl, sym, ap, subst, ◌∙◌, true≢false, List, [], ◌∷◌, ◌++◌, ℕ, ◌+◌, ◌-◌, ◌*◌, ◌^◌, ◌≤◌, ◌<◌, arith, append_assoc, append-nil, length, take, drop, length-take, length-drop, take-add}
+use Rattle.std.proofs.Common.{◌≡◌, refl, sym, ap, subst, ◌∙◌, true≢false, List, [], ◌∷◌, ◌++◌, ℕ, ◌+◌, ◌-◌, ◌*◌, ◌^◌, ◌≤◌, ◌<◌, arith, append_assoc, append-nil, length, take, drop, length-take, length-drop, length-append, take-add}
 use Rattle.std.proofs.lemmas.List.{take_all}
 use Rattle.automata.specs.Format.{narrow}
 use Rattle.card.specs.Judge.{judge}
@@ -86,12 +86,13 @@ pub record Reading (c : List ℕ) (i₀ o₀ : Option (List ℕ)) (reads : ℕ) 
   pub bytes : List ℕ
   pub since : Since c (begun [] bytes) st
   pub few : length (begun [] bytes) ≤ 65536 * reads
+  pub many : reads ≤ length bytes
   pub read : Consumes i₀ i bytes
   pub written : Appends o₀ o (reply_lines c (ended [] bytes))
 
 module _ (c : List ℕ) (i₀ o₀ : Option (List ℕ)) where
   pub reading_start : (st : State) → Since c [] st → Reading c i₀ o₀ 0 st i₀ o₀
-  reading_start st w = record { bytes = []; since = w; few = omega arith; read = Consumes-nil i₀; written = Appends-nil o₀ }
+  reading_start st w = record { bytes = []; since = w; few = omega arith; many = omega arith; read = Consumes-nil i₀; written = Appends-nil o₀ }
 
   module _ (reads : ℕ) (st : State) (i o : Option (List ℕ)) (r : Reading c i₀ o₀ reads st i o) where
     pub reading_counted : (n : ℕ) → reads < 2 ^ 47 → n ≤ 65536 → Counted c st n
@@ -99,11 +100,12 @@ module _ (c : List ℕ) (i₀ o₀ : Option (List ℕ)) where
 
     -- one read more
     pub reading_more : (s : List ℕ) (st' : State) (i' o' : Option (List ℕ)) → ((u : List ℕ) → Since c u st → Since c (begun u s) st')
-        → ((u : List ℕ) → Since c u st → Appends o o' (reply_lines c (ended u s))) → Consumes i i' s → length s ≤ 65536 → Reading c i₀ o₀ (reads + 1) st' i' o'
-    reading_more s st' i' o' f g q h = record {
+        → ((u : List ℕ) → Since c u st → Appends o o' (reply_lines c (ended u s))) → Consumes i i' s → length s ≤ 65536 → 0 < length s → Reading c i₀ o₀ (reads + 1) st' i' o'
+    reading_more s st' i' o' f g q h some = record {
       bytes = r.bytes ++ s;
       since = subst (λ x. Since c x st') (sym (begun_append [] r.bytes s)) (f (begun [] r.bytes) r.since);
       few = omega (arith, r.few, begun_few (begun [] r.bytes) s, ap length (begun_append [] r.bytes s));
+      many = omega (arith, r.many, length-append r.bytes s);
       read = Consumes-trans i₀ i i' _ _ r.read q;
       written =
           subst (λ x. Appends o₀ o' x) (sym (ap (reply_lines c) (ended_append [] r.bytes s) ∙ lines_append c (ended [] r.bytes) (ended (begun [] r.bytes) s)))

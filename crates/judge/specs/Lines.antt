@@ -1,7 +1,7 @@
 -- All bytes of a read, from one state to the next; and all bytes of an input.
-use Rattle.std.specs.Prelude.{◌≡◌, true, List, ℕ, Option}
+use Rattle.std.specs.Prelude.{◌≡◌, ◌≤◌, true, List, [], ℕ, Option, length}
 use Rattle.std.specs.Io.KnownBytes.{Consumes, Appends, IsAtEnd}
-use Rattle.plans.specs.Plans.{begun, plans_of}
+use Rattle.plans.specs.Plans.{begun, ended, plans_of}
 use Rattle.reply.specs.Text.{reply_lines}
 use Rattle.judging.specs.declared.State.{State}
 use Rattle.judging.specs.Lines.{Since}
@@ -20,9 +20,16 @@ pub record AllReplies (c : List ℕ) (input input' output output' : Option (List
   pub all : IsAtEnd input'
   pub written : Appends output output' (reply_lines c (plans_of bytes))
 
--- What was read and written, where judging ended with the input.
+-- Some of the input was read, and for the plans that ended in it, in their order, the lines of the answers were written, and nothing else.
+pub record SomeReplies (c : List ℕ) (input input' output output' : Option (List ℕ)) (least : ℕ) : Type 0 where
+  pub bytes : List ℕ
+  pub read : Consumes input input' bytes
+  pub written : Appends output output' (reply_lines c (ended [] bytes))
+  pub long : least ≤ length bytes
+
+-- What was read and written: all; or what was ready before the read that failed, or after the most reads, each of a byte at least.
 abbrev pub Replies : List ℕ → Option (List ℕ) → Option (List ℕ) → Option (List ℕ) → Option (List ℕ) → Ending → Type 0
 Replies c input input' output output' Whole = AllReplies c input input' output output'
-Replies c input input' output output' NotRead = Unit {0}
+Replies c input input' output output' NotRead = SomeReplies c input input' output output' 0
 Replies c input input' output output' NotWritten = Unit {0}
-Replies c input input' output output' TooLong = Unit {0}
+Replies c input input' output output' TooLong = SomeReplies c input input' output output' 140737488355328

@@ -14,5 +14,6 @@ loop-preserved g c =
       v.1,
       reading_more _ _ _ _ _ _ _ v.2 _ _ _ _ (c.answer_all-answered.ensures.wrote.since c.if-not-written.false)
           (c.answer_all-answered.ensures.text c.if-not-written.false) c.in-Ok.ensures.bytes.0
-          (omega (arith, length-take c.in-Ok.n c.read.new.buf, c.read.auto.buf)),
+          (omega (arith, length-take c.in-Ok.n c.read.new.buf, c.read.auto.buf))
+          (omega (arith, length-take c.in-Ok.n c.read.new.buf, c.in-Ok.ensures.bound.0, c.if-n-eq0.false)),
     )
