@@ -1,6 +1,6 @@
 -- What the compiling program writes for a text.
 use Rattle.std.specs.Prelude.{◌≡◌, ◌<◌, ℕ, List, Option, length, take}
-use Rattle.std.specs.Io.KnownBytes.{Consumes, Appends, IsAtEnd}
+use Rattle.std.specs.Io.KnownBytes.{Keeps, Consumes, Appends, IsAtEnd}
 use Rattle.automata.specs.Format.{narrow}
 use Rattle.compiler.specs.Outcome.{outcome}
 use Rattle.compiler.specs.declared.Compiled.{Compiled}
@@ -32,7 +32,8 @@ pub record CompilesInput (input input' output output' : Option (List ℕ)) : Typ
   pub whole : length text < 16385 → IsAtEnd input'
   pub printed : Printed text output output'
 
+-- Where the text can't be read nothing is written.
 abbrev pub Compiles : Option (List ℕ) → Option (List ℕ) → Option (List ℕ) → Option (List ℕ) → Ending → Type 0
 Compiles input input' output output' Whole = CompilesInput input input' output output'
-Compiles input input' output output' NotRead = Unit {0}
+Compiles input input' output output' NotRead = Keeps output output'
 Compiles input input' output output' NotWritten = Unit {0}
