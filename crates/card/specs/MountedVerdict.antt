@@ -4,7 +4,7 @@ use Rattle.automata.specs.Booleans.{choose}
 use Rattle.automata.specs.Format.{Format}
 use Rattle.card.specs.Layout.{mark_at}
 use Rattle.card.specs.Verdict as Today
-use Rattle.card.specs.Verdict.{Verdict, Says, hopeless_plan}
+use Rattle.card.specs.Verdict.{Verdict}
 use Rattle.card.specs.Reply.{Reply, answered, asked}
 use Rattle.card.specs.Judge.{by_place, state_after, first_dead}
 use Rattle.card.specs.Demand.{Demanded}

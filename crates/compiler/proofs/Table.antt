@@ -21,7 +21,7 @@ use Rattle.book.specs.Line as L
 use Rattle.book.specs.Line.{LineRead, reads, stops, read_line, HeadRead, letters, read_head}
 use Rattle.book.specs.LineGrammar.{Contexted}
 use Rattle.book.proofs.LineGrammar.{contexts_enough}
-use Rattle.book.specs.LineLaws.{KnownForm, LineSays}
+use Rattle.book.specs.LineLaws.{LineSays}
 use Rattle.book.proofs.LineLaws.{line_says, line_says_only, line_elim}
 use Rattle.book.specs.HeadLaws.{HeadSays}
 use Rattle.book.proofs.HeadLaws.{head_says, head_says_only, head_elim}

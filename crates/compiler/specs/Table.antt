@@ -15,7 +15,7 @@ use Rattle.language.specs.Makes.{Pairs, Makes, MakesRule}
 use Rattle.card.specs.Same.{card_of}
 use Rattle.book.specs.Text.{Line, lines_of, Form, define, rule, malformed, form_of}
 use Rattle.book.specs.Line as L
-use Rattle.book.specs.Line.{LineRead, reads, stops, read_line, HeadRead, letters, read_head}
+use Rattle.book.specs.Line.{LineRead, reads, stops, HeadRead, letters, read_head}
 use Rattle.book.specs.LineGrammar.{Contexted}
 use Rattle.book.specs.LineLaws.{KnownForm, LineSays}
 use Rattle.book.specs.HeadLaws.{HeadForm, HeadSays}

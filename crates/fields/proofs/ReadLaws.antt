@@ -1,5 +1,5 @@
 -- The readers of a card: its contents by their numbers, its parts as parts of its bytes, the column of a letter.
-use mathlib.Core.Path.{◌≡◌, refl, sym, ap, ap₂, ◌∙◌}
+use mathlib.Core.Path.{◌≡◌, refl, sym, ap₂, ◌∙◌}
 use mathlib.Core.Bool.{true, false}
 use mathlib.Core.Logic.{◌⊎◌, inl, inr, ◌≢◌}
 use mathlib.Core.List.{List}
@@ -9,14 +9,13 @@ use native.Mathlib.Omega.{arith}
 use lib.ListN.{length, get_or, take, drop, length-drop}
 use lib.Seq.{take_all}
 use Rattle.automata.specs.Booleans.{bool_cases, not_true}
-use Rattle.automata.specs.Basics.{LtCases, lt_cases, nat_test, find, find_le, find_at, find_least}
+use Rattle.automata.specs.Basics.{LtCases, lt_cases, nat_test, find_le, find_at, find_least}
 use Rattle.automata.specs.Format.{narrow}
 use Rattle.card.specs.Number.{number_at}
-use Rattle.card.specs.Layout.{letter_count, state_count, contents_at, letters_of, marks_of, moves_of, Contents, contents_test}
+use Rattle.card.specs.Layout.{letter_count, state_count, letters_of, marks_of, moves_of, Contents, contents_test}
 use Rattle.card.proofs.LayoutLaws.{contents_sound, contents_whole, moves_one}
 use Rattle.card.specs.Alphabet.{column}
 use Rattle.fields.specs.Counts.{Counted, counts_of}
-use Rattle.fields.specs.declared.Counts.{Counts}
 use Rattle.fields.specs.declared.Counts.TheVariants.{Of, Bad}
 
 -- ---- the contents

@@ -1,20 +1,17 @@
 -- Bytes as they are taken in: what is known so far, one line more, and the ends.
 use mathlib.Core.Path.{◌≡◌, refl, sym, ap, subst, ◌∙◌}
-use mathlib.Core.Bool.{Bool, true, false, not, true≢false}
+use mathlib.Core.Bool.{Bool, true, false, true≢false}
 use mathlib.Core.List.{List, [], ◌∷◌, ◌++◌, append-nil}
 use Prim.Native.Nat.{ℕ, zero, suc, ◌+◌, ◌-◌, ◌*◌, ◌^◌, ◌≤◌, ◌<◌}
 use native.Mathlib.Omega.{arith}
-use lib.ListN.{length, take, drop, length-take, length-drop}
-use lib.Seq.{take_all, take-add}
+use lib.ListN.{length, take, length-take}
 use Rattle.automata.specs.Format.{narrow}
 use Rattle.card.specs.Judge.{judge}
 use Rattle.run.specs.declared.Answer.{Answer}
-use Rattle.run.specs.Reading.{reply_of}
 use Rattle.plans.specs.Plans.{ended, begun, last_plan, line_of, LineEnd}
-use Rattle.plans.specs.PlansLaws.{line_length, ended_line, begun_line, ended_last, begun_last, ended_append, begun_append, begun_few}
+use Rattle.plans.specs.PlansLaws.{line_length, ended_line, begun_line, ended_last, begun_last, begun_few}
 use Rattle.judging.specs.declared.plan.Judging.{Judging}
 use Rattle.judging.specs.declared.State.{State}
-use Rattle.judging.specs.declared.Fed.{Fed}
 use Rattle.judging.specs.Plan.{Tests, Judges, More, Answers}
 use Rattle.reply.specs.Text.{reply_line, reply_lines, longest, PutLine}
 use Rattle.judging.specs.Lines.{is_open, Since, Counted, Feeds, Finishes}

@@ -11,7 +11,7 @@ use Rattle.sets.specs.Operations.{operation_of}
 use Rattle.slots.specs.Slot.{Slot, Holds, Written}
 use Rattle.slots.specs.Aside.{Aside}
 use Rattle.answers.specs.Operate.{operate}
-use Rattle.answers.specs.Stage.{Ready, StageDone, answer_of, InSlot}
+use Rattle.answers.specs.Stage.{Ready, StageDone}
 use Rattle.answers.specs.declared.Limits.{Limits}
 use Rattle.answers.specs.declared.Staged.{Staged}
 use Rattle.answers.specs.declared.Staged.TheVariants.{TooManySets, TooManyStates}

@@ -1,9 +1,8 @@
 -- Cutting at a line end, where the next plan begins (`plans_rest`), and cutting piece by piece (`ended_append`, `begun_append`, `plans_pieces`).
 use Rattle.std.specs.Prelude.{◌≡◌, refl, true, false, ◌⊎◌, ◌≢◌, List, [], ◌∷◌, ◌++◌, ℕ, zero, suc, ◌+◌, ◌-◌, ◌≤◌, ◌<◌, length, get_or, take, drop, eqb}
-use Rattle.std.proofs.Common.{sym, ap, ◌∙◌, inl, inr, append_assoc, append-nil, arith, take-append-drop, length-append, length-take, length-drop, drop_of_length-le, drop-cons, drop-drop, get_or-drop, take-add, take-suc, eq-eqb, ne_eqb}
+use Rattle.std.proofs.Common.{sym, ap, ◌∙◌, inl, inr, append_assoc, append-nil, arith, take-append-drop, length-append, length-take, length-drop, drop_of_length-le, drop-cons, drop-drop, get_or-drop, take-add, take-suc, ne_eqb}
 use Rattle.std.proofs.Math.Seq.{drop-nil}
-use Rattle.automata.specs.Booleans.{bool_cases, choose}
-use Rattle.automata.specs.Basics.{nat_test}
+use Rattle.automata.specs.Booleans.{bool_cases}
 use Rattle.plans.specs.Plans.{line_end, put_byte, plans_of, consumed, ended, begun, last_plan, line_of, LineEnd}
 
 -- Bytes with no line end.

@@ -8,7 +8,7 @@ use Rattle.automata.specs.Stage.{Made, made, refused, after, StageResult, kept_o
 use Rattle.language.specs.Stagewise.{Stagewise, then_holds, expression_holds, rule_holds}
 use Rattle.book.specs.Text.{Line, Form, define, rule, malformed}
 use Rattle.book.specs.Line as L
-use Rattle.book.specs.Line.{LineRead, reads, stops, HeadRead, letters}
+use Rattle.book.specs.Line.{LineRead, stops, HeadRead, letters}
 use Rattle.book.specs.LineLaws as LL
 use Rattle.book.specs.LineLaws.{LineSays}
 use Rattle.book.specs.HeadLaws as HL

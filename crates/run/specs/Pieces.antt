@@ -9,7 +9,7 @@ use Rattle.card.proofs.RunLaws.{run_append, judge_run}
 use Rattle.run.specs.declared.Run.{Run as Run'}
 use Rattle.run.specs.declared.Answer.{Answer}
 use Rattle.run.specs.Reading.{run_of, reply_of}
-use Rattle.run.specs.Walk.{Ready, Underway, Runs}
+use Rattle.run.specs.Walk.{Ready, Runs}
 
 -- The run r is that of the letters u from the start.
 abbrev pub After : List ℕ → ℕ → List ℕ → Run' → Type 0

@@ -1,8 +1,6 @@
 -- `advance` meets its contract: an earlier transition is copied, or the row is made.
 use mathlib.Core.Path.{refl}
-use native.Mathlib.Omega.{arith}
-use borrow.Author.Rules.{rules}
-use Rattle.turns.proofs.TurnLaws.{turn_cell, turn_asking, turn_repeats}
+use Rattle.turns.proofs.TurnLaws.{turn_asking, turn_repeats}
 use Rattle.advance.proofs.advance.Goals as goal
 
 pub earlier-place-requires : goal.earlier-place-requires

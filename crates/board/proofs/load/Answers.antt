@@ -1,6 +1,5 @@
 -- `load` meets its contract.
 use mathlib.Core.Path.{sym, ◌∙◌}
-use borrow.Author.Rules.{rules}
 use Rattle.fields.proofs.ReadLaws.{of_counted, bad_counted}
 use Rattle.loading.proofs.LoadLaws.{loading_contents, loading_accepted, loading_refused}
 use Rattle.board.proofs.load.Goals as goal

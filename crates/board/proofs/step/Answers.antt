@@ -1,6 +1,5 @@
 -- `step` meets its contract: the card's refusal, or a step on a card that was tested.
 use mathlib.Core.Path.{sym, ap, ◌∙◌}
-use borrow.Author.Rules.{rules}
 use Rattle.board.specs.Answers.{loading}
 use Rattle.board.proofs.EntryLaws.{loaded_ready, refused_step}
 use Rattle.board.proofs.step.Goals as goal

@@ -1,5 +1,4 @@
 -- `step_on` meets its contract, test by test.
-use borrow.Author.Rules.{rules}
 use Rattle.run.proofs.WalkLaws.{ready_counted, move_room}
 use Rattle.board.specs.Answers.{stepping}
 use Rattle.board.proofs.EntryLaws.{step_27, step_28, step_lands, step_inside}

@@ -1,6 +1,5 @@
 use mathlib.Core.Logic.{inl, inr}
 use Rattle.codes.specs.Codes.{letter_sorted, name_sorted, leafless}
-use borrow.Author.Rules.{rules}
 use Rattle.codes.proofs.sort_of.Goals as goal
 use Rattle.codes.proofs.sort_of.Goals.{then-c-ge97+else-c-le122, else-c-ge97, then-c-ge65+else-c-le90, else-c-ge65}
 

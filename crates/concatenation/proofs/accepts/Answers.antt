@@ -1,6 +1,5 @@
 -- `accepts` of a concatenation meets its contract.
 use Rattle.sets.proofs.ConcatLaws.{concat_long, concat_flags, concat_accepts}
-use borrow.Author.Rules.{rules}
 use native.Mathlib.Omega.{arith}
 use Rattle.concatenation.proofs.accepts.Goals as goal
 

@@ -2,7 +2,6 @@
 use mathlib.Core.Path.{ap, ◌∙◌}
 use native.Mathlib.Omega.{arith}
 use lib.ListN.{length}
-use borrow.Author.Rules.{rules}
 use Rattle.rows.proofs.SumLaws.{summed_none}
 use Rattle.sets.specs.Fits.{with_zero}
 use Rattle.concatenation.proofs.first_flags.Goals as goal

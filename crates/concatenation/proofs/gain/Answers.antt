@@ -1,6 +1,5 @@
 -- `gain` meets its contract.
 use mathlib.Core.Path.{◌∙◌}
-use borrow.Author.Rules.{rules}
 use Rattle.sets.proofs.ConcatLaws.{gain_yes, gain_no}
 use Rattle.concatenation.proofs.gain.Goals as goal
 

@@ -1,6 +1,5 @@
 -- `next` of a concatenation meets its contract.
 use native.Mathlib.Omega.{arith}
-use borrow.Author.Rules.{rules}
 use Rattle.rows.proofs.SumLaws.{summed_fits}
 use Rattle.sets.proofs.ConcatLaws.{tail_long, concat_room, concat_tail, concat_long, concat_cell, concat_flag, concat_small, concat_put, concat_asks, concat_next}
 use Rattle.concatenation.proofs.next.Goals as goal

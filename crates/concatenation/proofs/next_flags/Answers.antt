@@ -1,6 +1,5 @@
 -- `next_flags` of a concatenation meets its contract.
 use mathlib.Core.Path.{ap, ◌∙◌}
-use borrow.Author.Rules.{rules}
 use Rattle.sets.specs.Fits.{with_zero}
 use Rattle.concatenation.proofs.next_flags.Goals as goal
 

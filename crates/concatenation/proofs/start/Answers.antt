@@ -1,6 +1,5 @@
 -- `start` of a concatenation meets its contract.
 use native.Mathlib.Omega.{arith}
-use borrow.Author.Rules.{rules}
 use Rattle.rows.proofs.SumLaws.{summed_fits}
 use Rattle.sets.proofs.ConcatLaws.{tail_long, concat_room, concat_tail, concat_put, concat_start}
 use Rattle.concatenation.proofs.start.Goals as goal

@@ -1,6 +1,5 @@
 -- `count` meets its contract: the row of arrivals has the sums of the answer.
 use mathlib.Core.Path.{◌∙◌}
-use borrow.Author.Rules.{rules}
 use Rattle.counting.proofs.EntryLaws.{parts, startable, summable, counted}
 use Rattle.counting.proofs.count.Goals as goal
 

@@ -1,7 +1,6 @@
 -- `on_card` meets its contract: 31 in its two cases, and else rows that are long enough.
 use mathlib.Core.Path.{sym, ◌∙◌}
 use lib.Seq.{length-take-le}
-use borrow.Author.Rules.{rules}
 use Rattle.run.proofs.WalkLaws.{states_few}
 use Rattle.counting.proofs.EntryLaws.{refused_long, refused_many, countable}
 use Rattle.counting.proofs.on_card.Goals as goal

@@ -1,6 +1,5 @@
 -- `flag` meets its contract.
 use Rattle.rows.specs.Rows.{bit}
-use borrow.Author.Rules.{rules}
 use mathlib.Core.Path.{sym, ap, ◌∙◌}
 use Rattle.dispatch.proofs.flag.Goals as goal
 

@@ -2,7 +2,6 @@
 use mathlib.Core.Path.{ap}
 use native.Mathlib.Omega.{arith}
 use lib.ListN.{length, length-drop}
-use borrow.Author.Rules.{rules}
 use Rattle.sets.proofs.ConcatLaws.{tail_all}
 use Rattle.sets.proofs.FitLaws.{width_flags, width_concat, listed_pair, listed_flags, listed_concat}
 use Rattle.dispatch.proofs.gather.Goals as goal

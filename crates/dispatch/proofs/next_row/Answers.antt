@@ -1,5 +1,4 @@
 -- `next_row` meets its contract: a case for each operation.
-use borrow.Author.Rules.{rules}
 use Rattle.sets.proofs.FitLaws.{is_concatenation, is_star, is_erase}
 use Rattle.dispatch.proofs.next_row.Goals as goal
 

@@ -1,9 +1,7 @@
 -- `dead_state` meets its contract: no state passed is dead.
-use borrow.Author.Rules.{rules}
 use Prim.Native.Nat.{◌≤◌, ◌-◌}
 use native.Mathlib.Omega.{arith}
-use lib.ListN.{length}
-use Rattle.ends.proofs.EndsLaws.{NoneDead, none_next}
+use Rattle.ends.proofs.EndsLaws.{none_next}
 use Rattle.ends.proofs.dead_state.Goals as goal
 
 pub loop-q-preserved : goal.loop-q-preserved

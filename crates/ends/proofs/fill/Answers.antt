@@ -1,8 +1,7 @@
 -- `fill` meets its contract: the entries passed are filled.
-use borrow.Author.Rules.{rules}
 use Prim.Native.Nat.{◌≤◌, ◌-◌}
 use native.Mathlib.Omega.{arith}
-use Rattle.ends.proofs.EndsLaws.{FilledTo, filled_next, filled_done}
+use Rattle.ends.proofs.EndsLaws.{filled_next, filled_done}
 use Rattle.ends.proofs.fill.Goals as goal
 
 pub loop-q-preserved : goal.loop-q-preserved

@@ -1,8 +1,6 @@
 -- `fill` meets its contract: the entries passed are filled.
-use borrow.Author.Rules.{rules}
 use Prim.Native.Nat.{◌≤◌, ◌-◌}
-use native.Mathlib.Omega.{arith}
-use Rattle.ends.proofs.EndsLaws.{FilledTo, filled_next, filled_done}
+use Rattle.ends.proofs.EndsLaws.{FilledTo}
 use Rattle.ends.proofs.fill.Given as goal
 
 abbrev pub invariant-loop-q : goal.invariant-loop-q

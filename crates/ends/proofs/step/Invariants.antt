@@ -1,11 +1,8 @@
 -- `step` meets its contract: the states passed have their places.
-use borrow.Author.Rules.{rules, scaled_Fits}
 use mathlib.Core.Path.{◌≡◌}
-use mathlib.Core.Logic.{inl, inr, ⊎_elim}
+use mathlib.Core.Logic.{⊎_elim}
 use Prim.Native.Nat.{◌+◌, ◌*◌, ◌≤◌, ◌-◌}
-use native.Mathlib.Nat.{zero-mul}
-use native.Mathlib.Omega.{arith}
-use Rattle.ends.proofs.EndsLaws.{SteppedTo, stepped_start, move_place, end_inside, next_place_lem, next_low, place_read, stepped_next, stepped_done}
+use Rattle.ends.proofs.EndsLaws.{SteppedTo}
 use Rattle.ends.proofs.step.Given as goal
 
 abbrev pub invariant-loop-q : goal.invariant-loop-q

@@ -1,6 +1,5 @@
 -- `at` meets its contract: an entry of 16 bits fits.
 use native.Mathlib.Omega.{arith}
-use borrow.Author.Rules.{rules}
 use Rattle.entries.proofs.at.Goals as goal
 
 pub overflow_cast-result : goal.overflow_cast-result

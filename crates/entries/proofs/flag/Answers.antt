@@ -1,7 +1,6 @@
 -- `flag` meets its contract.
 use mathlib.Core.Path.{sym, ◌∙◌}
 use Rattle.entries.proofs.EntryLaws.{bit_none, bit_some}
-use borrow.Author.Rules.{rules}
 use Rattle.entries.proofs.flag.Goals as goal
 
 pub returns-then-at-eq0 : goal.returns-then-at-eq0

@@ -2,7 +2,6 @@
 use mathlib.Core.Path.{sym, ap, ◌∙◌}
 use native.Mathlib.Omega.{arith}
 use lib.ListN.{length}
-use borrow.Author.Rules.{rules}
 use Rattle.rows.specs.Sums.{row_sum}
 use Rattle.rows.proofs.SumLaws.{sum_none}
 use Rattle.sets.proofs.EraseLaws.{erase_closes, erase_clear, erase_mark, erase_letter}

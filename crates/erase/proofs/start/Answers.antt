@@ -2,7 +2,6 @@
 use mathlib.Core.Path.{◌∙◌}
 use native.Mathlib.Omega.{arith}
 use lib.ListN.{length}
-use borrow.Author.Rules.{rules}
 use Rattle.rows.proofs.SumLaws.{summed_none}
 use Rattle.sets.proofs.EraseLaws.{erase_width, erase_closes, erase_clear, erase_start}
 use Rattle.erase.proofs.start.Goals as goal

@@ -3,12 +3,8 @@ use mathlib.Core.Path.{◌≡◌, refl, sym, ◌∙◌}
 use Prim.Native.Nat.{◌*◌, ◌-◌, ◌<◌}
 use native.Mathlib.Omega.{arith}
 use lib.ListN.{length}
-use borrow.Author.Rules.{rules}
-use Rattle.rows.specs.Rows.{row_at}
 use Rattle.rows.proofs.SumLaws.{hash_is}
-use Rattle.sets.specs.Fits.{Listed}
-use Rattle.sets.specs.Operations.{operation_of}
-use Rattle.explore.proofs.ExploreLaws.{Running, first_room, run_start_lem, run_turning, run_source, listing_kept, run_below, run_less, run_on_lem, run_wrap, run_many, run_flagging, run_done}
+use Rattle.explore.proofs.ExploreLaws.{first_room, run_start_lem, run_turning, run_source, listing_kept, run_less, run_on_lem, run_wrap, run_many, run_flagging, run_done}
 use Rattle.explore.proofs.explore.Goals as goal
 
 pub twins-requires : goal.twins-requires

@@ -1,14 +1,11 @@
 -- `explore` meets its contract: the transitions are laid out one by one, then the flags.
-use mathlib.Core.Path.{◌≡◌, refl, sym, ◌∙◌}
+use mathlib.Core.Path.{◌≡◌, ◌∙◌}
 use Prim.Native.Nat.{◌*◌, ◌-◌, ◌<◌}
-use native.Mathlib.Omega.{arith}
 use lib.ListN.{length}
-use borrow.Author.Rules.{rules}
 use Rattle.rows.specs.Rows.{row_at}
-use Rattle.rows.proofs.SumLaws.{hash_is}
 use Rattle.sets.specs.Fits.{Listed}
 use Rattle.sets.specs.Operations.{operation_of}
-use Rattle.explore.proofs.ExploreLaws.{Running, first_room, run_start_lem, run_turning, run_source, listing_kept, run_below, run_less, run_on_lem, run_wrap, run_many, run_flagging, run_done}
+use Rattle.explore.proofs.ExploreLaws.{Running}
 use Rattle.explore.proofs.explore.Given as goal
 
 abbrev pub invariant-loop-state : goal.invariant-loop-state

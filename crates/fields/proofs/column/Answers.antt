@@ -1,9 +1,8 @@
 -- `column` meets its contract: none of the letters passed is the letter.
 use Prim.Native.Nat.{◌≤◌, ◌-◌}
 use native.Mathlib.Omega.{arith}
-use lib.ListN.{length}
 use borrow.Author.Rules.{rules}
-use Rattle.fields.proofs.ReadLaws.{NotBefore, before_start, before_next, column_here, column_end}
+use Rattle.fields.proofs.ReadLaws.{before_start, before_next, column_here, column_end}
 use Rattle.fields.proofs.column.Goals as goal
 
 pub loop-i-init : goal.loop-i-init

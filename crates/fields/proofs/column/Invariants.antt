@@ -1,9 +1,7 @@
 -- `column` meets its contract: none of the letters passed is the letter.
 use Prim.Native.Nat.{◌≤◌, ◌-◌}
-use native.Mathlib.Omega.{arith}
 use lib.ListN.{length}
-use borrow.Author.Rules.{rules}
-use Rattle.fields.proofs.ReadLaws.{NotBefore, before_start, before_next, column_here, column_end}
+use Rattle.fields.proofs.ReadLaws.{NotBefore}
 use Rattle.fields.proofs.column.Given as goal
 
 abbrev pub invariant-loop-i : goal.invariant-loop-i

@@ -1,6 +1,5 @@
 -- `contents` meets its contract: each test is one of the contents' conditions.
 use native.Mathlib.Omega.{arith}
-use borrow.Author.Rules.{rules}
 use Rattle.fields.proofs.ReadLaws.{counts_bad, counts_moves, counts_long, counts_right, cells_most}
 use Rattle.fields.proofs.contents.Goals as goal
 

@@ -1,5 +1,4 @@
 -- `letters` meets its contract.
-use borrow.Author.Rules.{rules}
 use Rattle.fields.proofs.ReadLaws.{letters_part}
 use Rattle.fields.proofs.letters.Goals as goal
 

@@ -1,5 +1,4 @@
 -- `marks` meets its contract.
-use borrow.Author.Rules.{rules}
 use Rattle.fields.proofs.ReadLaws.{marks_part}
 use Rattle.fields.proofs.marks.Goals as goal
 

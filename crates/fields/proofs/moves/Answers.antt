@@ -1,5 +1,4 @@
 -- `moves` meets its contract.
-use borrow.Author.Rules.{rules}
 use Rattle.fields.proofs.ReadLaws.{moves_part}
 use Rattle.fields.proofs.moves.Goals as goal
 

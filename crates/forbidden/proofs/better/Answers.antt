@@ -2,7 +2,6 @@
 use mathlib.Core.Path.{refl}
 use native.Mathlib.Omega.{arith}
 use Rattle.forbidden.specs.Pass.{nearer, nowhere, longer}
-use borrow.Author.Rules.{rules}
 use Rattle.forbidden.proofs.better.Goals as goal
 
 pub returns-then-never-last : goal.returns-then-never-last

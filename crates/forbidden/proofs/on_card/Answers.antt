@@ -1,5 +1,4 @@
 -- `on_card` meets its contract: all letters are known where the pass is made.
-use borrow.Author.Rules.{rules}
 use Rattle.forbidden.proofs.EntryLaws.{refused_letter, searchable, room, searched_reply}
 use Rattle.forbidden.proofs.on_card.Goals as goal
 

@@ -1,9 +1,8 @@
 -- `pass` meets its contract.
-use borrow.Author.Rules.{rules}
 use mathlib.Core.Path.{◌∙◌}
 use Prim.Native.Nat.{◌-◌}
 use lib.ListN.{length}
-use Rattle.forbidden.proofs.PassLaws.{searched_counted, dead_most, pass_nothing, Under, under_start, half_most, byte_wide, one_less, row_fits, under_rows, under_before, under_wide, under_stepping, under_last, under_next, under_none, under_at}
+use Rattle.forbidden.proofs.PassLaws.{searched_counted, dead_most, pass_nothing, under_start, half_most, byte_wide, one_less, row_fits, under_rows, under_before, under_wide, under_stepping, under_last, under_next, under_none, under_at}
 use Rattle.forbidden.proofs.pass.Goals as goal
 
 pub moves-moves-requires : goal.moves-moves-requires

@@ -1,6 +1,5 @@
 -- `handing::hand_over` meets its contract: the board has just the card's bytes.
 use Rattle.handing.proofs.HandingLaws.{within, taken, hands_card, hands_refusal}
-use borrow.Author.Rules.{rules}
 use Rattle.handing.proofs.hand_over.Goals as goal
 
 pub slice_bounds-load_and_judge-end : goal.slice_bounds-load_and_judge-end

@@ -1,6 +1,5 @@
 -- `handing::load_and_judge` meets its contract.
 use Rattle.handing.proofs.HandingLaws.{board_judges, board_refuses}
-use borrow.Author.Rules.{rules}
 use Rattle.handing.proofs.load_and_judge.Goals as goal
 
 pub returns-in-Accepted : goal.returns-in-Accepted

@@ -2,9 +2,8 @@
 use mathlib.Core.Path.{◌≡◌, ◌∙◌}
 use Prim.Native.Nat.{◌-◌}
 use native.Mathlib.Omega.{arith}
-use lib.ListN.{length}
 use borrow.Author.Rules.{rules}
-use Rattle.judging.proofs.LinesLaws.{Upto, upto_none, upto_fits, upto_tests, upto_line, feeds_last, feeds_full, feeds_all}
+use Rattle.judging.proofs.LinesLaws.{upto_none, upto_fits, upto_tests, upto_line, feeds_last, feeds_full, feeds_all}
 use Rattle.judging.proofs.feed.Goals as goal
 
 pub loop-from-init : goal.loop-from-init

@@ -1,10 +1,8 @@
 -- `feed` meets its contract: the bytes so far are taken in.
 use mathlib.Core.Path.{◌≡◌, ◌∙◌}
 use Prim.Native.Nat.{◌-◌}
-use native.Mathlib.Omega.{arith}
 use lib.ListN.{length}
-use borrow.Author.Rules.{rules}
-use Rattle.judging.proofs.LinesLaws.{Upto, upto_none, upto_fits, upto_tests, upto_line, feeds_last, feeds_full, feeds_all}
+use Rattle.judging.proofs.LinesLaws.{Upto}
 use Rattle.judging.proofs.feed.Given as goal
 
 abbrev pub invariant-loop-from : goal.invariant-loop-from

@@ -1,6 +1,5 @@
 -- `finish` meets its contract.
 use native.Mathlib.Omega.{arith}
-use borrow.Author.Rules.{rules}
 use Rattle.judging.proofs.LinesLaws.{finishes_open, finishes_closed}
 use Rattle.judging.proofs.finish.Goals as goal
 

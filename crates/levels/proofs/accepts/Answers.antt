@@ -3,7 +3,6 @@ use mathlib.Core.Bool.{false}
 use Prim.Native.Nat.{◌+◌, ◌≤◌, ◌-◌}
 use native.Mathlib.Omega.{arith}
 use borrow.Author.Rules.{rules}
-use Rattle.levels.specs.Levels.{Accepts}
 use Rattle.levels.proofs.LevelsLaws.{accepts_start, accepts_next, accepts_yes, accepts_no}
 use Rattle.levels.proofs.accepts.Goals as goal
 

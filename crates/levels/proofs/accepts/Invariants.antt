@@ -1,10 +1,7 @@
 -- `accepts` meets its contract: none of the moves passed leads to an accepting state.
 use mathlib.Core.Bool.{false}
 use Prim.Native.Nat.{◌+◌, ◌≤◌, ◌-◌}
-use native.Mathlib.Omega.{arith}
-use borrow.Author.Rules.{rules}
 use Rattle.levels.specs.Levels.{Accepts}
-use Rattle.levels.proofs.LevelsLaws.{accepts_start, accepts_next, accepts_yes, accepts_no}
 use Rattle.levels.proofs.accepts.Given as goal
 
 abbrev pub invariant-loop-i : goal.invariant-loop-i

@@ -1,7 +1,6 @@
 -- `distance` meets its contract.
 use mathlib.Core.Path.{sym}
 use native.Mathlib.Omega.{arith}
-use borrow.Author.Rules.{rules}
 use Rattle.levels.specs.Levels.{most_levels}
 use Rattle.levels.proofs.LevelsLaws.{unseen, blank, table_more}
 use Rattle.levels.proofs.distance.Goals as goal

@@ -2,9 +2,8 @@
 use mathlib.Core.Path.{refl}
 use Prim.Native.Nat.{◌≤◌, ◌-◌}
 use native.Mathlib.Omega.{arith}
-use lib.ListN.{length}
 use borrow.Author.Rules.{rules}
-use Rattle.levels.proofs.LevelsLaws.{DistancesTo, numbers_start, numbers_other, numbers_set, numbers_done}
+use Rattle.levels.proofs.LevelsLaws.{numbers_start, numbers_other, numbers_set, numbers_done}
 use Rattle.levels.proofs.distances.Goals as goal
 use Rattle.levels.proofs.distances.Goals.{then-marks-p-eq-UNFINISHED, else-marks-p-eq-UNFINISHED}
 

@@ -1,11 +1,8 @@
 -- `distances` meets its contract: the states below p have their numbers.
-use mathlib.Core.Path.{refl}
 use mathlib.Core.Logic.{⊎_elim}
 use Prim.Native.Nat.{◌≤◌, ◌-◌}
-use native.Mathlib.Omega.{arith}
 use lib.ListN.{length}
-use borrow.Author.Rules.{rules}
-use Rattle.levels.proofs.LevelsLaws.{DistancesTo, numbers_start, numbers_other, numbers_set, numbers_done}
+use Rattle.levels.proofs.LevelsLaws.{DistancesTo}
 use Rattle.levels.proofs.distances.Given as goal
 
 abbrev pub invariant-loop-p : goal.invariant-loop-p

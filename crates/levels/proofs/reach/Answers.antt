@@ -1,6 +1,5 @@
 -- `reach` meets its contract: the state has a level, or gets this one and the next place.
 use native.Mathlib.Omega.{arith}
-use borrow.Author.Rules.{rules}
 use Rattle.levels.proofs.LevelsLaws.{reached_same, reached_room, reached_new}
 use Rattle.levels.proofs.reach.Goals as goal
 

@@ -2,9 +2,7 @@
 use mathlib.Core.Path.{refl, sym, ◌∙◌}
 use Prim.Native.Nat.{◌≤◌, ◌-◌}
 use native.Mathlib.Omega.{arith}
-use lib.ListN.{length}
 use Rattle.moves.specs.TableLaws.{row_room}
-use Rattle.levels.specs.Levels.{Search}
 use Rattle.levels.proofs.LevelsLaws.{order_room, head_inside, head_low, head_front, search_start, search_pass, search_found, search_none}
 use Rattle.levels.proofs.search.Goals as goal
 

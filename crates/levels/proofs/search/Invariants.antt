@@ -1,11 +1,8 @@
 -- `search` meets its contract: the states in the places below i are passed.
-use mathlib.Core.Path.{refl, sym, ◌∙◌}
+use mathlib.Core.Path.{◌∙◌}
 use Prim.Native.Nat.{◌≤◌, ◌-◌}
-use native.Mathlib.Omega.{arith}
 use lib.ListN.{length}
-use Rattle.moves.specs.TableLaws.{row_room}
 use Rattle.levels.specs.Levels.{Search}
-use Rattle.levels.proofs.LevelsLaws.{order_room, head_inside, head_low, head_front, search_start, search_pass, search_found, search_none}
 use Rattle.levels.proofs.search.Given as goal
 
 abbrev pub invariant-loop-i : goal.invariant-loop-i

@@ -2,9 +2,7 @@
 use mathlib.Core.Path.{◌∙◌, sym}
 use Prim.Native.Nat.{◌+◌, ◌≤◌, ◌-◌}
 use native.Mathlib.Omega.{arith}
-use lib.ListN.{length}
 use borrow.Author.Rules.{rules}
-use Rattle.levels.specs.Levels.{Spread}
 use Rattle.levels.proofs.LevelsLaws.{spread_start, spread_next, spread_done}
 use Rattle.levels.proofs.spread.Goals as goal
 

@@ -1,11 +1,8 @@
 -- `spread` meets its contract: the targets of the moves passed have levels.
-use mathlib.Core.Path.{◌∙◌, sym}
+use mathlib.Core.Path.{◌∙◌}
 use Prim.Native.Nat.{◌+◌, ◌≤◌, ◌-◌}
-use native.Mathlib.Omega.{arith}
 use lib.ListN.{length}
-use borrow.Author.Rules.{rules}
 use Rattle.levels.specs.Levels.{Spread}
-use Rattle.levels.proofs.LevelsLaws.{spread_start, spread_next, spread_done}
 use Rattle.levels.proofs.spread.Given as goal
 
 abbrev pub invariant-loop-i : goal.invariant-loop-i

@@ -1,6 +1,5 @@
 -- `target` meets its contract.
 use native.Mathlib.Omega.{arith}
-use borrow.Author.Rules.{rules}
 use Rattle.levels.proofs.target.Goals as goal
 
 pub overflow_cast-result : goal.overflow_cast-result

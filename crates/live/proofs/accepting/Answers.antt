@@ -1,9 +1,8 @@
 -- `accepting` meets its contract.
 use Prim.Native.Nat.{◌≤◌, ◌-◌}
 use native.Mathlib.Omega.{arith}
-use lib.ListN.{length}
 use borrow.Author.Rules.{rules}
-use Rattle.live.proofs.LiveLaws.{FlagsUpto, flags_start, flags_next, flags_done}
+use Rattle.live.proofs.LiveLaws.{flags_start, flags_next, flags_done}
 use Rattle.live.proofs.accepting.Goals as goal
 
 pub loop-p-init : goal.loop-p-init

@@ -1,9 +1,7 @@
 -- `accepting` meets its contract.
 use Prim.Native.Nat.{◌≤◌, ◌-◌}
-use native.Mathlib.Omega.{arith}
 use lib.ListN.{length}
-use borrow.Author.Rules.{rules}
-use Rattle.live.proofs.LiveLaws.{FlagsUpto, flags_start, flags_next, flags_done}
+use Rattle.live.proofs.LiveLaws.{FlagsUpto}
 use Rattle.live.proofs.accepting.Given as goal
 
 abbrev pub invariant-loop-p : goal.invariant-loop-p

@@ -1,12 +1,8 @@
 -- `ascend` meets its contract: the states below p are visited.
 use mathlib.Core.Path.{◌≡◌}
 use Prim.Native.Nat.{◌*◌, ◌≤◌, ◌-◌}
-use native.Mathlib.Nat.{zero-mul, le_refl}
-use native.Mathlib.Omega.{arith}
 use lib.ListN.{length}
-use borrow.Author.Rules.{rules}
-use Rattle.moves.specs.TableLaws.{row_on, row_room, below_most}
-use Rattle.live.proofs.LiveLaws.{SweepUpto, sweep_start, sweep_same, sweep_new, sweep_done, one_above}
+use Rattle.live.proofs.LiveLaws.{SweepUpto}
 use Rattle.live.proofs.ascend.Given as goal
 
 abbrev pub invariant-loop-p : goal.invariant-loop-p

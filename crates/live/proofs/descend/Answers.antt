@@ -3,10 +3,9 @@ use mathlib.Core.Path.{◌≡◌}
 use Prim.Native.Nat.{◌*◌, ◌≤◌}
 use native.Mathlib.Nat.{le_refl}
 use native.Mathlib.Omega.{arith}
-use lib.ListN.{length}
 use borrow.Author.Rules.{rules}
 use Rattle.moves.specs.TableLaws.{row_back, row_room_back, below_most}
-use Rattle.live.proofs.LiveLaws.{SweepUpto, sweep_start, sweep_same, sweep_new, sweep_done, one_below}
+use Rattle.live.proofs.LiveLaws.{sweep_start, sweep_same, sweep_new, sweep_done, one_below}
 use Rattle.live.proofs.descend.Goals as goal
 
 pub loop-p-init : goal.loop-p-init

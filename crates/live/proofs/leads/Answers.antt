@@ -2,7 +2,7 @@
 use Prim.Native.Nat.{◌+◌, ◌≤◌, ◌-◌}
 use native.Mathlib.Omega.{arith}
 use borrow.Author.Rules.{rules}
-use Rattle.live.proofs.LiveLaws.{NoneUpto, none_start, none_next, leads_yes, leads_no}
+use Rattle.live.proofs.LiveLaws.{none_start, none_next, leads_yes, leads_no}
 use Rattle.live.proofs.leads.Goals as goal
 
 pub loop-i-init : goal.loop-i-init

@@ -1,8 +1,6 @@
 -- `leads` meets its contract: none of the moves passed leads to a flag.
 use Prim.Native.Nat.{◌+◌, ◌≤◌, ◌-◌}
-use native.Mathlib.Omega.{arith}
-use borrow.Author.Rules.{rules}
-use Rattle.live.proofs.LiveLaws.{NoneUpto, none_start, none_next, leads_yes, leads_no}
+use Rattle.live.proofs.LiveLaws.{NoneUpto}
 use Rattle.live.proofs.leads.Given as goal
 
 abbrev pub invariant-loop-i : goal.invariant-loop-i

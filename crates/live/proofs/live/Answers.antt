@@ -3,9 +3,8 @@ use mathlib.Core.Path.{◌≡◌, ap}
 use mathlib.Core.Bool.{not}
 use Prim.Native.Nat.{◌≤◌, ◌+◌, ◌-◌}
 use native.Mathlib.Omega.{arith}
-use lib.ListN.{length}
 use borrow.Author.Rules.{rules}
-use Rattle.live.proofs.LiveLaws.{LiveUpto, live_start, live_next_lem, live_full, live_still}
+use Rattle.live.proofs.LiveLaws.{live_start, live_next_lem, live_full, live_still}
 use Rattle.live.proofs.live.Goals as goal
 
 pub accepting-requires : goal.accepting-requires

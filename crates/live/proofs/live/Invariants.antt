@@ -1,10 +1,8 @@
 -- `live` meets its contract.
 use mathlib.Core.Path.{◌≡◌}
 use Prim.Native.Nat.{◌≤◌, ◌+◌, ◌-◌}
-use native.Mathlib.Omega.{arith}
 use lib.ListN.{length}
-use borrow.Author.Rules.{rules}
-use Rattle.live.proofs.LiveLaws.{LiveUpto, live_start, live_next_lem, live_full, live_still}
+use Rattle.live.proofs.LiveLaws.{LiveUpto}
 use Rattle.live.proofs.live.Given as goal
 
 abbrev pub invariant-loop-j : goal.invariant-loop-j

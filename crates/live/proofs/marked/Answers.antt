@@ -3,9 +3,8 @@ use mathlib.Core.Path.{ap}
 use mathlib.Core.Bool.{not}
 use Prim.Native.Nat.{◌≤◌, ◌-◌}
 use native.Mathlib.Omega.{arith}
-use lib.ListN.{length}
 use borrow.Author.Rules.{rules}
-use Rattle.live.proofs.LiveLaws.{MarksUpto, marks_start, marks_done, marks_accepting, marks_dead, marks_live, not_dead, not_live, no_mark}
+use Rattle.live.proofs.LiveLaws.{marks_start, marks_done, marks_accepting, marks_dead, marks_live, not_dead, not_live, no_mark}
 use Rattle.live.proofs.marked.Goals as goal
 use Rattle.live.proofs.marked.Goals.{in-0+else-not-lives, in-1, in-2+else-lives}
 

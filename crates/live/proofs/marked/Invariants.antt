@@ -1,10 +1,8 @@
 -- `marked` meets its contract: the marks bytes below p are right.
 use mathlib.Core.Logic.{⊎_elim}
 use Prim.Native.Nat.{◌≤◌, ◌-◌}
-use native.Mathlib.Omega.{arith}
 use lib.ListN.{length}
-use borrow.Author.Rules.{rules}
-use Rattle.live.proofs.LiveLaws.{MarksUpto, marks_start, marks_done, marks_accepting, marks_dead, marks_live, not_dead, not_live, no_mark}
+use Rattle.live.proofs.LiveLaws.{MarksUpto}
 use Rattle.live.proofs.marked.Given as goal
 
 abbrev pub invariant-loop-p : goal.invariant-loop-p

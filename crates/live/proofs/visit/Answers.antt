@@ -1,5 +1,4 @@
 -- `visit` meets its contract.
-use borrow.Author.Rules.{rules}
 use Rattle.live.proofs.LiveLaws.{visit_live, visit_new, visit_none}
 use Rattle.live.proofs.visit.Goals as goal
 

@@ -2,9 +2,6 @@
 use mathlib.Core.Path.{◌≡◌, sym, ◌∙◌}
 use Prim.Native.Nat.{◌≤◌, ◌-◌}
 use native.Mathlib.Omega.{arith}
-use lib.ListN.{length, drop}
-use borrow.Author.Rules.{rules}
-use Rattle.card.specs.Alphabet.{rising_from}
 use Rattle.loading.proofs.LoadLaws.{rising_low, rising_past, rising_on, rising_end, alphabet_from}
 use Rattle.loading.proofs.alphabet.Goals as goal
 

@@ -1,11 +1,8 @@
 -- `alphabet` meets its contract: what is left says the same as the whole.
-use mathlib.Core.Path.{◌≡◌, sym, ◌∙◌}
+use mathlib.Core.Path.{◌≡◌, ◌∙◌}
 use Prim.Native.Nat.{◌≤◌, ◌-◌}
-use native.Mathlib.Omega.{arith}
 use lib.ListN.{length, drop}
-use borrow.Author.Rules.{rules}
 use Rattle.card.specs.Alphabet.{rising_from}
-use Rattle.loading.proofs.LoadLaws.{rising_low, rising_past, rising_on, rising_end, alphabet_from}
 use Rattle.loading.proofs.alphabet.Given as goal
 
 abbrev pub invariant-loop-i : goal.invariant-loop-i

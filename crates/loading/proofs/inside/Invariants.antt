@@ -1,9 +1,7 @@
 -- `inside` meets its contract: the moves passed are to states.
 use Prim.Native.Nat.{◌≤◌, ◌-◌}
-use native.Mathlib.Omega.{arith}
 use lib.ListN.{length}
-use borrow.Author.Rules.{rules}
-use Rattle.loading.proofs.LoadLaws.{InsideUpto, inside_start, inside_next, inside_yes, inside_no}
+use Rattle.loading.proofs.LoadLaws.{InsideUpto}
 use Rattle.loading.proofs.inside.Given as goal
 
 abbrev pub invariant-loop-q : goal.invariant-loop-q

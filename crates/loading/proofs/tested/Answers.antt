@@ -1,7 +1,6 @@
 -- `tested` meets its contract, test by test.
 use mathlib.Core.Path.{ap}
 use mathlib.Core.Bool.{not}
-use borrow.Author.Rules.{rules}
 use Rattle.loading.proofs.LoadLaws.{load_22, alphabet_right, load_23, inside_right, table_right, letters_most, load_24, numbered_right, marked_right, load_25, load_26, load_0}
 use Rattle.loading.proofs.tested.Goals as goal
 

@@ -1,7 +1,6 @@
 -- `arrive` meets its contract.
 use mathlib.Core.Path.{sym, ◌∙◌}
 use native.Mathlib.Omega.{arith}
-use borrow.Author.Rules.{rules}
 use Rattle.numbering.proofs.ArrivalLaws.{arrive_old, arrive_new, arrive_room}
 use Rattle.numbering.proofs.arrive.Goals as goal
 use Rattle.numbering.proofs.arrive.Goals.{then-x-count+else-wide-s, else-x-count}

@@ -1,8 +1,7 @@
 -- `number` meets its contract: after i turns the order is the listing of i turns.
 use Prim.Native.Nat.{◌-◌}
 use native.Mathlib.Omega.{arith}
-use borrow.Author.Rules.{rules}
-use Rattle.numbering.proofs.NumberLaws.{Turns, turns_start, turn_state, turns_next, turns_end, row_of}
+use Rattle.numbering.proofs.NumberLaws.{turns_start, turn_state, turns_next, turns_end, row_of}
 use Rattle.numbering.proofs.number.Goals as goal
 
 pub loop-i-init : goal.loop-i-init

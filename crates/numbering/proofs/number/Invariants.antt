@@ -1,8 +1,6 @@
 -- `number` meets its contract: after i turns the order is the listing of i turns.
 use Prim.Native.Nat.{◌-◌}
-use native.Mathlib.Omega.{arith}
-use borrow.Author.Rules.{rules}
-use Rattle.numbering.proofs.NumberLaws.{Turns, turns_start, turn_state, turns_next, turns_end, row_of}
+use Rattle.numbering.proofs.NumberLaws.{Turns}
 use Rattle.numbering.proofs.number.Given as goal
 
 abbrev pub invariant-loop-i : goal.invariant-loop-i

@@ -2,8 +2,6 @@
 use mathlib.Core.Path.{◌≡◌}
 use Prim.Native.Nat.{◌≤◌, ◌-◌}
 use native.Mathlib.Omega.{arith}
-use borrow.Author.Rules.{rules}
-use Rattle.numbering.specs.Arrival.{Rowed}
 use Rattle.numbering.proofs.ArrivalLaws.{rowed_start, rowed_next}
 use Rattle.numbering.proofs.row.Goals as goal
 

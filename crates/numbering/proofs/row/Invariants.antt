@@ -1,10 +1,7 @@
 -- `row` meets its contract: what the letters below c lead to has numbers.
 use mathlib.Core.Path.{◌≡◌}
 use Prim.Native.Nat.{◌≤◌, ◌-◌}
-use native.Mathlib.Omega.{arith}
-use borrow.Author.Rules.{rules}
 use Rattle.numbering.specs.Arrival.{Rowed}
-use Rattle.numbering.proofs.ArrivalLaws.{rowed_start, rowed_next}
 use Rattle.numbering.proofs.row.Given as goal
 
 abbrev pub invariant-loop-c : goal.invariant-loop-c

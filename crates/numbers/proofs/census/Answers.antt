@@ -3,7 +3,6 @@ use mathlib.Core.Path.{sym}
 use Rattle.counting.specs.Reading.{answer_of}
 use Rattle.numbers.specs.HandedLaws.{handed_as}
 use Rattle.numbers.specs.Handed.{census_numbers}
-use borrow.Author.Rules.{rules}
 use Rattle.numbers.proofs.census.Goals as goal
 
 pub returns-in-Refused : goal.returns-in-Refused

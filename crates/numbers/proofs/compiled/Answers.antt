@@ -3,7 +3,6 @@ use mathlib.Core.Path.{sym}
 use Rattle.numbers.specs.HandedLaws.{handed_as}
 use Rattle.numbers.specs.Handed.{answer_numbers}
 use Rattle.compiler.specs.Reading.{reading}
-use borrow.Author.Rules.{rules}
 use Rattle.numbers.proofs.compiled.Goals as goal
 
 pub returns-in-Card : goal.returns-in-Card

@@ -3,7 +3,6 @@ use mathlib.Core.Path.{sym}
 use Rattle.numbers.specs.HandedLaws.{handed_as}
 use Rattle.numbers.specs.Handed.{numbers}
 use Rattle.plans.specs.Many.{many_of}
-use borrow.Author.Rules.{rules}
 use Rattle.numbers.proofs.counted.Goals as goal
 
 pub returns-in-Judged : goal.returns-in-Judged

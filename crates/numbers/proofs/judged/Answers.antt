@@ -5,7 +5,6 @@ use Rattle.numbers.specs.Handed.{numbers}
 use Rattle.card.specs.Answer.{reply_numbers}
 use Rattle.run.specs.Reading.{reply_of}
 use Rattle.run.specs.declared.Answer.TheVariants.{Judged}
-use borrow.Author.Rules.{rules}
 use Rattle.numbers.proofs.judged.Goals as goal
 
 pub returns-in-Refused : goal.returns-in-Refused

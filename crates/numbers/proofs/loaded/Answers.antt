@@ -4,7 +4,6 @@ use Rattle.numbers.specs.HandedLaws.{handed_as}
 use Rattle.numbers.specs.Handed.{numbers}
 use Rattle.card.specs.Answer.{load_numbers}
 use Rattle.board.specs.Answers.{loading}
-use borrow.Author.Rules.{rules}
 use Rattle.numbers.proofs.loaded.Goals as goal
 
 pub returns-in-Accepted : goal.returns-in-Accepted

@@ -4,7 +4,6 @@ use Rattle.numbers.specs.HandedLaws.{handed_as}
 use Rattle.numbers.specs.Handed.{step_handed}
 use Rattle.card.specs.Answer.{step_numbers}
 use Rattle.board.specs.Answers.{stepping}
-use borrow.Author.Rules.{rules}
 use Rattle.numbers.proofs.stepped.Goals as goal
 
 pub returns-in-Moved : goal.returns-in-Moved

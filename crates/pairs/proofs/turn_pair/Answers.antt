@@ -3,7 +3,6 @@ use mathlib.Core.Path.{refl}
 use Prim.Native.Nat.{◌*◌, ◌≤◌}
 use native.Mathlib.Omega.{arith}
 use lib.ListN.{length}
-use borrow.Author.Rules.{rules}
 use Rattle.rows.specs.Rows.{pair_row}
 use Rattle.rows.proofs.SumLaws.{hash_is}
 use Rattle.turns.proofs.TurnLaws.{turn_rows, turn_links, turn_append, turn_cell, turn_found, turn_new, turn_full, two_width, two_room, two_left, two_right, two_small, two_next, two_chained, two_looked, two_appended}

@@ -1,8 +1,7 @@
 -- `judge_each` meets its contract: the plans so far are judged.
 use Prim.Native.Nat.{◌-◌}
 use native.Mathlib.Omega.{arith}
-use lib.ListN.{length}
-use Rattle.plans.proofs.ManyLaws.{line_less, end_less, Upto, upto_none, upto_length, upto_within, upto_full, upto_fits, upto_more, upto_count, upto_line, upto_end, judges_all, judges_full}
+use Rattle.plans.proofs.ManyLaws.{line_less, end_less, upto_none, upto_length, upto_within, upto_full, upto_fits, upto_more, upto_count, upto_line, upto_end, judges_all, judges_full}
 use Rattle.plans.proofs.judge_each.Goals as goal
 
 pub loop-from-init : goal.loop-from-init

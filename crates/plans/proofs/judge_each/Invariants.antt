@@ -1,8 +1,7 @@
 -- `judge_each` meets its contract: the plans so far are judged.
 use Prim.Native.Nat.{◌-◌}
-use native.Mathlib.Omega.{arith}
 use lib.ListN.{length}
-use Rattle.plans.proofs.ManyLaws.{line_less, end_less, Upto, upto_none, upto_length, upto_within, upto_full, upto_fits, upto_more, upto_count, upto_line, upto_end, judges_all, judges_full}
+use Rattle.plans.proofs.ManyLaws.{Upto}
 use Rattle.plans.proofs.judge_each.Given as goal
 
 abbrev pub invariant-loop-from : goal.invariant-loop-from

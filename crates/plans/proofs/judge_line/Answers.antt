@@ -1,6 +1,5 @@
 -- `judge_line` meets its contract: the line is one piece.
 use native.Mathlib.Omega.{arith}
-use borrow.Author.Rules.{rules}
 use Rattle.run.specs.Pieces.{after_start, after_reply}
 use Rattle.board.proofs.EntryLaws.{start_fits}
 use Rattle.plans.specs.Plans.{line_of}

@@ -1,6 +1,5 @@
 -- `judge_lines` meets its contract: the card is tested once.
 use mathlib.Core.Path.{sym, ap, ◌∙◌}
-use borrow.Author.Rules.{rules}
 use Rattle.board.specs.Answers.{loading}
 use Rattle.board.proofs.EntryLaws.{loaded_ready}
 use Rattle.plans.proofs.ManyLaws.{judges_refused}

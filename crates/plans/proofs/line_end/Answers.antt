@@ -2,10 +2,8 @@
 use mathlib.Core.Logic.{◌≢◌}
 use Prim.Native.Nat.{ℕ, ◌≤◌, ◌<◌, ◌-◌}
 use native.Mathlib.Omega.{arith}
-use lib.ListN.{length, get_or}
 use borrow.Author.Rules.{rules}
-use Rattle.plans.specs.Plans.{line_end}
-use Rattle.plans.proofs.EndLaws.{Passed, passed_none, passed_next, ends_here, ends_last}
+use Rattle.plans.proofs.EndLaws.{passed_none, passed_next, ends_here, ends_last}
 use Rattle.plans.proofs.line_end.Goals as goal
 
 pub loop-i-init : goal.loop-i-init

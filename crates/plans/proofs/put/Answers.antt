@@ -2,7 +2,6 @@
 use native.Mathlib.Omega.{arith}
 use Prim.Native.Nat.{◌+◌}
 use lib.ListN.{set, length-set}
-use borrow.Author.Rules.{rules}
 use Rattle.plans.proofs.ManyLaws.{three_sets}
 use Rattle.plans.proofs.put.Goals as goal
 

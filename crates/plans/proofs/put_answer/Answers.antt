@@ -1,6 +1,5 @@
 -- `put_answer` meets its contract, answer by answer.
 use mathlib.Core.Path.{sym, ap, ◌∙◌}
-use borrow.Author.Rules.{rules}
 use Rattle.card.specs.Reply.{answered}
 use Rattle.run.specs.Reading.{verdict_of, reply_of}
 use Rattle.plans.proofs.ManyLaws.{sets_as}

@@ -1,6 +1,5 @@
 -- `accepts` of a pair meets its contract.
 use Rattle.sets.proofs.PairLaws.{pair_long, left_flag, right_flag, pair_accepts}
-use borrow.Author.Rules.{rules}
 use native.Mathlib.Omega.{arith}
 use Rattle.product.proofs.accepts.Goals as goal
 

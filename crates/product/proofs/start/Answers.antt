@@ -1,6 +1,5 @@
 -- `start` of a pair meets its contract.
 use native.Mathlib.Omega.{arith}
-use borrow.Author.Rules.{rules}
 use Rattle.sets.proofs.PairLaws.{pair_room, pair_start}
 use Rattle.product.proofs.start.Goals as goal
 

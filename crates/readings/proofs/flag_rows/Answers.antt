@@ -2,9 +2,7 @@
 use Prim.Native.Nat.{◌-◌, ◌<◌, ◌≤◌}
 use Rattle.sets.specs.Fits.{rows_for}
 use Rattle.sets.proofs.FitLaws.{row_source}
-use Rattle.readings.specs.Flagged.{Flagged}
 use Rattle.readings.proofs.FlaggedLaws.{flagged_none, flagged_more, flagging_row}
-use borrow.Author.Rules.{rules}
 use lib.ListN.{length, length-set}
 use mathlib.Core.Path.{◌≡◌, refl}
 use native.Mathlib.Omega.{arith}

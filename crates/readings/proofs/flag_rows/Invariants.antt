@@ -1,13 +1,9 @@
 -- `flag_rows` meets its contract: the flags before p are laid out.
 use Prim.Native.Nat.{◌-◌, ◌<◌, ◌≤◌}
 use Rattle.sets.specs.Fits.{rows_for}
-use Rattle.sets.proofs.FitLaws.{row_source}
 use Rattle.readings.specs.Flagged.{Flagged}
-use Rattle.readings.proofs.FlaggedLaws.{flagged_none, flagged_more, flagging_row}
-use borrow.Author.Rules.{rules}
-use lib.ListN.{length, length-set}
-use mathlib.Core.Path.{◌≡◌, refl}
-use native.Mathlib.Omega.{arith}
+use lib.ListN.{length}
+use mathlib.Core.Path.{◌≡◌}
 use Rattle.readings.proofs.flag_rows.Given as goal
 
 abbrev pub invariant-loop-p : goal.invariant-loop-p

@@ -1,5 +1,4 @@
 -- `list` meets its contract.
-use borrow.Author.Rules.{rules}
 use Rattle.rows.proofs.RowLaws.{row_part}
 use Rattle.sets.proofs.FitLaws.{row_source}
 use Rattle.readings.proofs.list.Goals as goal

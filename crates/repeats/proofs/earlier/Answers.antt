@@ -1,6 +1,5 @@
 -- `earlier` meets its contract: a case for each reason.
 use native.Mathlib.Omega.{arith}
-use borrow.Author.Rules.{rules}
 use Rattle.repeats.proofs.BeforeLaws.{earlier_twin, earlier_mark, earlier_looks, earlier_listed, earlier_before}
 use Rattle.repeats.proofs.earlier.Goals as goal
 

@@ -3,7 +3,6 @@ use Rattle.sets.proofs.FitLaws.{is_erase}
 use borrow.Author.Tests.{ltb-true}
 use mathlib.Core.Bool.{false≢true}
 use native.Mathlib.Omega.{arith}
-use borrow.Author.Rules.{rules}
 use Rattle.repeats.proofs.erases.Reads as reads
 use Rattle.repeats.proofs.erases.Lts as lts
 use Rattle.repeats.proofs.erases.Goals as goal

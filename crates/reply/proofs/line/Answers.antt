@@ -1,5 +1,4 @@
 -- `line` meets its contract, answer by answer.
-use borrow.Author.Rules.{rules}
 use Rattle.reply.proofs.TextLaws.{line_allowed, line_unfinished, line_hopeless, line_refused}
 use Rattle.reply.proofs.line.Goals as goal
 

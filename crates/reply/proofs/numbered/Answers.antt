@@ -1,5 +1,4 @@
 -- `numbered` meets its contract: the word, the number, the line's end.
-use borrow.Author.Rules.{rules}
 use Rattle.reply.proofs.TextLaws.{numbered_line}
 use Rattle.reply.proofs.numbered.Goals as goal
 

@@ -1,5 +1,4 @@
 -- `report::show` meets its contract.
-use native.Mathlib.Omega.{arith}
 use Rattle.report.proofs.ShowLaws.{shows_card, shows_all, shows_refused}
 use borrow.Author.Rules.{rules}
 use Rattle.report.proofs.show.Goals as goal

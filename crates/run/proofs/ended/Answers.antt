@@ -1,6 +1,5 @@
 -- `ended` meets its contract.
 use mathlib.Core.Path.{sym, ◌∙◌}
-use borrow.Author.Rules.{rules}
 use Rattle.run.proofs.WalkLaws.{ready_counted, mark_room, mark_is}
 use Rattle.run.proofs.PieceLaws.{reply_unknown, reply_dead, reply_allowed, reply_owing}
 use Rattle.run.proofs.ended.Goals as goal

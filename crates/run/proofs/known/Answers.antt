@@ -1,11 +1,7 @@
 -- `known` meets its contract: the letters passed are on the card.
 use Prim.Native.Nat.{◌≤◌, ◌-◌}
 use native.Mathlib.Omega.{arith}
-use lib.ListN.{length}
-use borrow.Author.Rules.{rules}
-use Rattle.automata.specs.Format.{narrow}
-use Rattle.card.specs.Layout.{letters_of}
-use Rattle.run.proofs.WalkLaws.{KnownUpto, known_start, known_next, known_stop, known_end, byte_wide, column_wide, column_unknown, column_known, turn_most}
+use Rattle.run.proofs.WalkLaws.{known_start, known_next, known_stop, known_end, byte_wide, column_wide, column_unknown, column_known, turn_most}
 use Rattle.run.proofs.known.Goals as goal
 
 pub loop-k-init : goal.loop-k-init

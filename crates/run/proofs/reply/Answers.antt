@@ -1,6 +1,5 @@
 -- `reply` meets its contract: the answer that is told, or the number that is searched for.
 use mathlib.Core.Path.{sym, ap, ◌∙◌}
-use borrow.Author.Rules.{rules}
 use Rattle.card.specs.Verdict.{unfinished}
 use Rattle.card.specs.Reply.{answered}
 use Rattle.run.proofs.PieceLaws.{end_told, end_owing}

@@ -1,7 +1,6 @@
 -- `reply_by` meets its contract: the answer that is told, or the number that the table has.
 use mathlib.Core.Path.{sym, ap, ◌∙◌}
 use native.Mathlib.Omega.{arith}
-use borrow.Author.Rules.{rules}
 use Rattle.card.specs.Verdict.{unfinished}
 use Rattle.card.specs.Reply.{answered}
 use Rattle.run.proofs.WalkLaws.{states_few}

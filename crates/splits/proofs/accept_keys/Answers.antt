@@ -1,9 +1,8 @@
 -- `accept_keys` meets its contract.
 use Prim.Native.Nat.{◌≤◌, ◌-◌}
 use native.Mathlib.Omega.{arith}
-use lib.ListN.{length}
 use borrow.Author.Rules.{rules}
-use Rattle.splits.proofs.KeyLaws.{KeysUpto, keys_start, keys_set, accept_key, accept_yes, accept_no, accept_done}
+use Rattle.splits.proofs.KeyLaws.{keys_start, keys_set, accept_yes, accept_no, accept_done}
 use Rattle.splits.proofs.accept_keys.Goals as goal
 
 pub loop-p-init : goal.loop-p-init

@@ -3,7 +3,7 @@ use mathlib.Core.Path.{◌≡◌}
 use Prim.Native.Nat.{◌+◌, ◌*◌, ◌≤◌, ◌-◌}
 use native.Mathlib.Omega.{arith}
 use borrow.Author.Rules.{rules}
-use Rattle.splits.proofs.KeyLaws.{KeysUpto, keys_start, keys_set, column_key, column_place, column_start, column_room, column_done}
+use Rattle.splits.proofs.KeyLaws.{keys_start, keys_set, column_place, column_start, column_room, column_done}
 use Rattle.splits.proofs.column_keys.Goals as goal
 
 pub loop-p-init : goal.loop-p-init

@@ -1,9 +1,7 @@
 -- `column_keys` meets its contract.
 use mathlib.Core.Path.{◌≡◌}
 use Prim.Native.Nat.{◌+◌, ◌*◌, ◌≤◌, ◌-◌}
-use native.Mathlib.Omega.{arith}
-use borrow.Author.Rules.{rules}
-use Rattle.splits.proofs.KeyLaws.{KeysUpto, keys_start, keys_set, column_key, column_place, column_start, column_room, column_done}
+use Rattle.splits.proofs.KeyLaws.{KeysUpto, column_key}
 use Rattle.splits.proofs.column_keys.Given as goal
 
 abbrev pub invariant-loop-p : goal.invariant-loop-p

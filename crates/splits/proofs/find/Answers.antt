@@ -1,7 +1,7 @@
 -- `find` meets its contract: each state with the key is still ahead.
 use Prim.Native.Nat.{◌-◌}
 use native.Mathlib.Omega.{arith}
-use Rattle.splits.proofs.ClassLaws.{FindUpto, find_start, find_key, find_end, link_on, link_low, find_next}
+use Rattle.splits.proofs.ClassLaws.{find_start, find_key, find_end, link_on, link_low, find_next}
 use Rattle.splits.proofs.find.Goals as goal
 
 pub loop-r-init : goal.loop-r-init

@@ -1,7 +1,6 @@
 -- `find` meets its contract: each state with the key is still ahead.
 use Prim.Native.Nat.{◌-◌}
-use native.Mathlib.Omega.{arith}
-use Rattle.splits.proofs.ClassLaws.{FindUpto, find_start, find_key, find_end, link_on, link_low, find_next}
+use Rattle.splits.proofs.ClassLaws.{FindUpto}
 use Rattle.splits.proofs.find.Given as goal
 
 abbrev pub invariant-loop-r : goal.invariant-loop-r

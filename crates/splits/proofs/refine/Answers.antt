@@ -1,5 +1,4 @@
 -- `refine` meets its contract.
-use borrow.Author.Rules.{rules}
 use Rattle.splits.proofs.KeyLaws.{refined}
 use Rattle.splits.proofs.refine.Goals as goal
 

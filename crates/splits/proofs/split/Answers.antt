@@ -4,7 +4,7 @@ use native.Mathlib.Nat.{le_refl}
 use native.Mathlib.Omega.{arith}
 use borrow.Author.Rules.{rules}
 use Rattle.splits.proofs.ClassLaws.{owned_le, none_linked}
-use Rattle.splits.proofs.SplitLaws.{SplitUpto, split_start, split_links, split_least, split_joins, split_new, split_done}
+use Rattle.splits.proofs.SplitLaws.{split_start, split_links, split_least, split_joins, split_new, split_done}
 use Rattle.splits.proofs.split.Goals as goal
 
 pub loop-p-init : goal.loop-p-init

@@ -1,10 +1,6 @@
 -- `split` meets its contract: the states below p are split, and the classes from p on are the old ones.
 use Prim.Native.Nat.{◌≤◌, ◌-◌}
-use native.Mathlib.Nat.{le_refl}
-use native.Mathlib.Omega.{arith}
-use borrow.Author.Rules.{rules}
-use Rattle.splits.proofs.ClassLaws.{owned_le, none_linked}
-use Rattle.splits.proofs.SplitLaws.{SplitUpto, split_start, split_links, split_least, split_joins, split_new, split_done}
+use Rattle.splits.proofs.SplitLaws.{SplitUpto}
 use Rattle.splits.proofs.split.Given as goal
 
 abbrev pub invariant-loop-p : goal.invariant-loop-p

@@ -4,7 +4,6 @@ use mathlib.Core.Path.{sym, ap, ◌∙◌}
 use Prim.Native.Nat.{ℕ}
 use native.Mathlib.Omega.{arith}
 use lib.ListN.{length, set}
-use borrow.Author.Rules.{rules}
 use Rattle.sets.proofs.StarLaws.{star_width, star_asks, star_gains, star_stays}
 use Rattle.star.proofs.next.Goals as goal
 

@@ -4,7 +4,6 @@ use mathlib.Core.Path.{ap, ◌∙◌}
 use Prim.Native.Nat.{ℕ}
 use native.Mathlib.Omega.{arith}
 use lib.ListN.{length, set}
-use borrow.Author.Rules.{rules}
 use Rattle.rows.proofs.SumLaws.{summed_none}
 use Rattle.sets.proofs.StarLaws.{star_width, star_start}
 use Rattle.star.proofs.start.Goals as goal

@@ -1,7 +1,6 @@
 -- `turn` meets its contract: the row is made, looked up, and put behind the others where it is new.
 use mathlib.Core.Path.{refl, ◌∙◌}
 use native.Mathlib.Omega.{arith}
-use borrow.Author.Rules.{rules}
 use Rattle.rows.proofs.RowLaws.{row_part}
 use Rattle.rows.proofs.SumLaws.{hash_is}
 use Rattle.turns.proofs.TurnLaws.{turn_row, turn_rows, turn_links, turn_append, turn_cell, turn_step, turn_found, turn_new, turn_full}

@@ -1,13 +1,8 @@
 -- `ascend` meets its contract.
 use mathlib.Core.Path.{◌≡◌}
 use Prim.Native.Nat.{◌*◌, ◌≤◌, ◌-◌}
-use native.Mathlib.Nat.{zero-mul}
-use native.Mathlib.Omega.{arith}
 use lib.ListN.{length}
-use borrow.Author.Rules.{rules}
 use Rattle.sweeps.specs.Change.{Swept}
-use Rattle.sweeps.proofs.ChangeLaws.{ascend_start, ascend_yes, ascend_no, ascend_done, lowered_room}
-use Rattle.moves.specs.TableLaws.{row_on, row_room, below_most}
 use Rattle.sweeps.proofs.ascend.Given as goal
 
 abbrev pub invariant-loop-p : goal.invariant-loop-p

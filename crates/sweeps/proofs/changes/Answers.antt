@@ -3,9 +3,7 @@ use mathlib.Core.Path.{ap}
 use mathlib.Core.Bool.{not, false≢true}
 use Prim.Native.Nat.{◌≤◌, ◌-◌}
 use native.Mathlib.Omega.{arith}
-use lib.ListN.{length}
 use borrow.Author.Rules.{rules}
-use Rattle.sweeps.specs.Change.{Backed}
 use Rattle.sweeps.proofs.ChangeLaws.{backed_start, changes_alike}
 use Rattle.sweeps.proofs.changes.Goals as goal
 

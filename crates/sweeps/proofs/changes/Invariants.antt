@@ -1,11 +1,8 @@
 -- `changes` meets its contract.
 use mathlib.Core.Bool.{false≢true}
 use Prim.Native.Nat.{◌≤◌, ◌-◌}
-use native.Mathlib.Omega.{arith}
 use lib.ListN.{length}
-use borrow.Author.Rules.{rules}
 use Rattle.sweeps.specs.Change.{Backed}
-use Rattle.sweeps.proofs.ChangeLaws.{backed_start, changes_alike}
 use Rattle.sweeps.proofs.changes.Given as goal
 
 abbrev pub invariant-loop-j : goal.invariant-loop-j

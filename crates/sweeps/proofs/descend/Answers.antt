@@ -2,9 +2,7 @@
 use mathlib.Core.Path.{◌≡◌}
 use Prim.Native.Nat.{◌*◌, ◌≤◌, ◌-◌}
 use native.Mathlib.Omega.{arith}
-use lib.ListN.{length}
 use borrow.Author.Rules.{rules}
-use Rattle.sweeps.specs.Change.{Backed}
 use Rattle.sweeps.proofs.ChangeLaws.{lowered_room, lowered_backed}
 use Rattle.moves.specs.TableLaws.{row_back, row_room_back, below_most}
 use Rattle.sweeps.proofs.descend.Goals as goal

@@ -1,12 +1,8 @@
 -- `descend` meets its contract.
 use mathlib.Core.Path.{◌≡◌}
 use Prim.Native.Nat.{◌*◌, ◌≤◌, ◌-◌}
-use native.Mathlib.Omega.{arith}
 use lib.ListN.{length}
-use borrow.Author.Rules.{rules}
 use Rattle.sweeps.specs.Change.{Backed}
-use Rattle.sweeps.proofs.ChangeLaws.{lowered_room, lowered_backed}
-use Rattle.moves.specs.TableLaws.{row_back, row_room_back, below_most}
 use Rattle.sweeps.proofs.descend.Given as goal
 
 abbrev pub invariant-loop-p : goal.invariant-loop-p

@@ -1,6 +1,5 @@
 -- `lower` meets its contract.
 use native.Mathlib.Omega.{arith}
-use borrow.Author.Rules.{rules}
 use Rattle.sweeps.proofs.ChangeLaws.{lowered_yes, lowered_no}
 use Rattle.sweeps.proofs.lower.Goals as goal
 

@@ -2,7 +2,6 @@
 use Prim.Native.Nat.{◌+◌, ◌≤◌, ◌-◌}
 use native.Mathlib.Omega.{arith}
 use borrow.Author.Rules.{rules}
-use Rattle.sweeps.specs.Change.{Nearest}
 use Rattle.sweeps.proofs.ChangeLaws.{near_start, near_next, near_done}
 use Rattle.sweeps.proofs.nearest.Goals as goal
 

@@ -1,9 +1,6 @@
 -- `nearest` meets its contract.
 use Prim.Native.Nat.{◌+◌, ◌≤◌, ◌-◌}
-use native.Mathlib.Omega.{arith}
-use borrow.Author.Rules.{rules}
 use Rattle.sweeps.specs.Change.{Nearest}
-use Rattle.sweeps.proofs.ChangeLaws.{near_start, near_next, near_done}
 use Rattle.sweeps.proofs.nearest.Given as goal
 
 abbrev pub invariant-loop-i : goal.invariant-loop-i

@@ -3,7 +3,7 @@ use native.Mathlib.Omega.{arith}
 use Prim.Native.Nat.{◌-◌}
 use mathlib.Core.Path.{refl, ◌∙◌}
 use Rattle.evaluate.specs.Evaluated.{run_made, run_refused, run_stuck}
-use Rattle.evaluate.specs.Run.{Going, going_start, going_step, going_next, going_refused, going_stuck, going_end}
+use Rattle.evaluate.specs.Run.{going_start, going_step, going_next, going_refused, going_stuck, going_end}
 use Rattle.evaluate.proofs.run.run.Goals as goal
 
 pub loop-i-init : goal.loop-i-init

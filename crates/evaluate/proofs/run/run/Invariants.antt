@@ -1,9 +1,7 @@
 -- `evaluate::run::run` meets its contract. The loop's invariant: the rest of the codes, on the machines that the slots hold, gives what all the codes give.
-use native.Mathlib.Omega.{arith}
 use Prim.Native.Nat.{◌-◌}
-use mathlib.Core.Path.{refl, ◌∙◌}
-use Rattle.evaluate.specs.Evaluated.{run_made, run_refused, run_stuck}
-use Rattle.evaluate.specs.Run.{Going, going_start, going_step, going_next, going_refused, going_stuck, going_end}
+use mathlib.Core.Path.{◌∙◌}
+use Rattle.evaluate.specs.Run.{Going}
 use Rattle.evaluate.proofs.run.run.Given as goal
 
 abbrev pub invariant-loop-i : goal.invariant-loop-i

@@ -1,12 +1,8 @@
 -- `clear` meets its contract: the first i flags are 0.
 use Prim.Native.Nat.{◌-◌, ◌<◌, ◌≤◌}
-use borrow.Author.Fill.{fill_more}
-use borrow.Author.Rules.{rules}
-use lib.ListN.{length, drop, replicate, length-set}
-use lib.Seq.{drop-length}
-use mathlib.Core.List.{◌++◌, append-nil}
+use lib.ListN.{length, drop, replicate}
+use mathlib.Core.List.{◌++◌}
 use mathlib.Core.Path.{◌≡◌, ◌∙◌}
-use native.Mathlib.Omega.{arith}
 use Rattle.flags.proofs.bits.clear.Given as goal
 
 abbrev pub invariant-loop-i : goal.invariant-loop-i

@@ -2,10 +2,7 @@
 use mathlib.Core.Path.{◌≡◌, refl, ◌∙◌}
 use Prim.Native.Nat.{◌-◌, ◌≤◌}
 use native.Mathlib.Omega.{arith}
-use lib.ListN.{length, length-set}
-use borrow.Author.Rules.{rules}
-use Rattle.rows.specs.Rows.{flag_at}
-use Rattle.flags.specs.Members.{Lists}
+use lib.ListN.{length-set}
 use Rattle.flags.proofs.FlagLaws.{flag_set, flag_clear}
 use Rattle.flags.proofs.MemberLaws.{lists_none, lists_out, lists_in, lists_keep}
 use Rattle.flags.proofs.bits.gather_long.Goals as goal

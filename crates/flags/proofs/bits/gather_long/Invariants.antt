@@ -1,14 +1,10 @@
 -- `gather_long` meets its contract: the members before q are listed; what stands behind them is free.
 use mathlib.Core.Logic.{⊎_elim}
-use mathlib.Core.Path.{◌≡◌, refl, ◌∙◌}
+use mathlib.Core.Path.{◌≡◌, ◌∙◌}
 use Prim.Native.Nat.{◌-◌, ◌≤◌}
-use native.Mathlib.Omega.{arith}
-use lib.ListN.{length, length-set}
-use borrow.Author.Rules.{rules}
+use lib.ListN.{length}
 use Rattle.rows.specs.Rows.{flag_at}
 use Rattle.flags.specs.Members.{Lists}
-use Rattle.flags.proofs.FlagLaws.{flag_set, flag_clear}
-use Rattle.flags.proofs.MemberLaws.{lists_none, lists_out, lists_in, lists_keep}
 use Rattle.flags.proofs.bits.gather_long.Given as goal
 
 abbrev pub invariant-loop-q : goal.invariant-loop-q

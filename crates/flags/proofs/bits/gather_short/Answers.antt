@@ -3,9 +3,6 @@ use mathlib.Core.Path.{◌≡◌, refl, ap, ◌∙◌}
 use Prim.Native.Nat.{◌-◌, ◌≤◌}
 use native.Mathlib.Omega.{arith}
 use lib.ListN.{length-set, length}
-use borrow.Author.Rules.{rules}
-use Rattle.rows.specs.Rows.{flag_at}
-use Rattle.flags.specs.Members.{Lists}
 use Rattle.flags.proofs.FlagLaws.{flag_set, flag_clear}
 use Rattle.flags.proofs.MemberLaws.{lists_none, lists_out, lists_in}
 use Rattle.flags.proofs.bits.gather_short.Goals as goal

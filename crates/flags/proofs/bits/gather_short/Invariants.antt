@@ -1,14 +1,10 @@
 -- `gather_short` meets its contract: the members before q are listed.
 use mathlib.Core.Logic.{⊎_elim}
-use mathlib.Core.Path.{◌≡◌, refl, ap, ◌∙◌}
+use mathlib.Core.Path.{◌≡◌, ◌∙◌}
 use Prim.Native.Nat.{◌-◌, ◌≤◌}
-use native.Mathlib.Omega.{arith}
-use lib.ListN.{length-set, length}
-use borrow.Author.Rules.{rules}
+use lib.ListN.{length}
 use Rattle.rows.specs.Rows.{flag_at}
 use Rattle.flags.specs.Members.{Lists}
-use Rattle.flags.proofs.FlagLaws.{flag_set, flag_clear}
-use Rattle.flags.proofs.MemberLaws.{lists_none, lists_out, lists_in}
 use Rattle.flags.proofs.bits.gather_short.Given as goal
 
 abbrev pub invariant-loop-q : goal.invariant-loop-q

@@ -4,11 +4,8 @@ use mathlib.Core.Path.{◌≡◌, refl, sym, ◌∙◌}
 use Prim.Native.Nat.{◌+◌, ◌-◌, ◌≤◌, ◌<◌}
 use native.Mathlib.Omega.{arith}
 use lib.ListN.{get_or, length}
-use borrow.Author.Rules.{rules}
-use Rattle.rows.specs.Rows.{flag_at}
-use Rattle.rows.specs.Sums.{Summed}
 use Rattle.rows.proofs.SumLaws.{summed_none}
-use Rattle.flags.specs.Flags.{some_accepting, cell}
+use Rattle.flags.specs.Flags.{cell}
 use Rattle.flags.specs.Members.{led_by}
 use Rattle.flags.proofs.FlagLaws.{Flags, flags_none, flags_row, lead_in}
 use Rattle.flags.proofs.MemberLaws.{some_none, some_yes, some_no}

@@ -1,19 +1,13 @@
 -- `pour` meets its contract: the flags set so far are those that the members before i lead to.
-use mathlib.Core.Bool.{true}
 use mathlib.Core.Logic.{⊎_elim}
-use mathlib.Core.Path.{◌≡◌, refl, sym, ◌∙◌}
+use mathlib.Core.Path.{◌≡◌, ◌∙◌}
 use Prim.Native.Nat.{◌+◌, ◌-◌, ◌≤◌, ◌<◌}
-use native.Mathlib.Omega.{arith}
-use lib.ListN.{get_or, length}
-use borrow.Author.Rules.{rules}
+use lib.ListN.{length}
 use Rattle.rows.specs.Rows.{flag_at}
 use Rattle.rows.specs.Sums.{Summed}
-use Rattle.rows.proofs.SumLaws.{summed_none}
 use Rattle.flags.specs.Flags.{some_accepting, cell}
 use Rattle.flags.specs.Members.{led_by}
-use Rattle.flags.proofs.FlagLaws.{Flags, flags_none, flags_row, lead_in}
-use Rattle.flags.proofs.MemberLaws.{some_none, some_yes, some_no}
-use Rattle.flags.proofs.TableLaws.{cell_in, flag_in}
+use Rattle.flags.proofs.FlagLaws.{Flags}
 use Rattle.flags.proofs.bits.pour.Given as goal
 
 abbrev pub invariant-loop-i : goal.invariant-loop-i

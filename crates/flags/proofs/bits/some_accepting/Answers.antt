@@ -1,8 +1,7 @@
 -- `some_accepting` meets its contract: no state before q is both in the row and accepting.
 use Prim.Native.Nat.{◌-◌, ◌≤◌}
-use Rattle.flags.proofs.FlagLaws.{accepting_here, NoneYet, none_out, none_no, accepting_none}
+use Rattle.flags.proofs.FlagLaws.{accepting_here, none_out, none_no, accepting_none}
 use borrow.Author.Count.{below_more, below_none}
-use borrow.Author.Rules.{rules}
 use native.Mathlib.Omega.{arith}
 use Rattle.flags.proofs.bits.some_accepting.Goals as goal
 use Rattle.flags.proofs.bits.some_accepting.Goals.{then-t-q-ne0+else-row-q-ne0, else-t-q-ne0}

@@ -1,13 +1,9 @@
 -- `chase` meets its contract: each turn sets one flag more.
 use Prim.Native.Nat.{◌-◌, ◌<◌}
-use native.Mathlib.Omega.{arith}
-use borrow.Author.Rules.{rules}
 use Rattle.rows.specs.Sums.{Summed}
 use Rattle.flags.specs.Closure.{unset}
 use Rattle.flags.specs.Flags.{cell}
-use Rattle.flags.proofs.ClosureLaws.{unset_less, Chasing, chase_start, chase_more, chase_end}
-use Rattle.flags.proofs.FlagLaws.{flag_set}
-use Rattle.flags.proofs.TableLaws.{cell_in}
+use Rattle.flags.proofs.ClosureLaws.{Chasing}
 use Rattle.flags.proofs.closure.chase.Given as goal
 
 abbrev pub invariant-loop-row : goal.invariant-loop-row

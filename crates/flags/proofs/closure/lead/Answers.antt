@@ -4,12 +4,8 @@ use mathlib.Core.Path.{◌≡◌, refl}
 use Prim.Native.Nat.{ℕ, ◌-◌, ◌≤◌}
 use native.Mathlib.Omega.{arith}
 use lib.ListN.{get_or}
-use borrow.Author.Rules.{rules}
-use Rattle.rows.specs.Sums.{Summed}
 use Rattle.rows.proofs.SumLaws.{summed_none}
-use Rattle.flags.specs.Closure.{Gains}
 use Rattle.flags.specs.Flags.{cell}
-use Rattle.flags.specs.Members.{led_by}
 use Rattle.flags.proofs.ClosureLaws.{gain_none, gain_in}
 use Rattle.flags.proofs.TableLaws.{cell_in}
 use Rattle.flags.proofs.closure.lead.Goals as goal

@@ -1,17 +1,10 @@
 -- `lead` meets its contract: the flags set so far are those that the members before i lead to.
-use mathlib.Core.Bool.{true}
-use mathlib.Core.Path.{◌≡◌, refl}
+use mathlib.Core.Path.{◌≡◌}
 use Prim.Native.Nat.{ℕ, ◌-◌, ◌≤◌}
-use native.Mathlib.Omega.{arith}
-use lib.ListN.{get_or}
-use borrow.Author.Rules.{rules}
 use Rattle.rows.specs.Sums.{Summed}
-use Rattle.rows.proofs.SumLaws.{summed_none}
 use Rattle.flags.specs.Closure.{Gains}
 use Rattle.flags.specs.Flags.{cell}
 use Rattle.flags.specs.Members.{led_by}
-use Rattle.flags.proofs.ClosureLaws.{gain_none, gain_in}
-use Rattle.flags.proofs.TableLaws.{cell_in}
 use Rattle.flags.proofs.closure.lead.Given as goal
 
 abbrev pub invariant-loop-i : goal.invariant-loop-i

@@ -1,6 +1,5 @@
 -- `step` meets its contract: a u16 fits.
 use Prim.Native.Nat.{◌+◌, ◌*◌}
-use borrow.Author.Rules.{rules}
 use native.Mathlib.Omega.{arith}
 use Rattle.flags.proofs.table.step.Goals as goal
 

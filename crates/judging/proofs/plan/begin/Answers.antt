@@ -1,6 +1,5 @@
 -- `begin` meets its contract.
 use mathlib.Core.Path.{sym, ap, ◌∙◌}
-use borrow.Author.Rules.{rules}
 use Rattle.board.specs.Answers.{loading}
 use Rattle.board.proofs.EntryLaws.{loaded_ready}
 use Rattle.judging.proofs.PlanLaws.{begins_ready, begins_refused}

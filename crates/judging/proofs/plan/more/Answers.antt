@@ -1,5 +1,4 @@
 -- `more` meets its contract.
-use borrow.Author.Rules.{rules}
 use Rattle.judging.proofs.PlanLaws.{more_ready, more_refused}
 use Rattle.judging.proofs.plan.more.Goals as goal
 

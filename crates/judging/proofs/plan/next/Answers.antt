@@ -1,5 +1,4 @@
 -- `next` meets its contract.
-use borrow.Author.Rules.{rules}
 use Rattle.judging.proofs.PlanLaws.{begins_ready, still_refused}
 use Rattle.judging.proofs.plan.next.Goals as goal
 

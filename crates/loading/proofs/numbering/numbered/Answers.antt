@@ -2,9 +2,8 @@
 use Prim.Native.Nat.{◌≤◌, ◌-◌}
 use native.Mathlib.Omega.{arith}
 use mathlib.Core.Path.{◌≡◌}
-use lib.ListN.{length}
 use borrow.Author.Rules.{rules}
-use Rattle.loading.proofs.RowLaws.{RowsUpto, rows_start, rows_next, rows_room, numbered_yes, numbered_late, numbered_skips, numbered_short}
+use Rattle.loading.proofs.RowLaws.{rows_start, rows_next, rows_room, numbered_yes, numbered_late, numbered_skips, numbered_short}
 use Rattle.loading.proofs.numbering.numbered.Goals as goal
 
 pub loop-p-init : goal.loop-p-init

@@ -1,10 +1,8 @@
 -- `numbered` meets its contract: the invariant says that the rows below p are in order, and how many states are seen.
 use Prim.Native.Nat.{◌≤◌, ◌-◌}
-use native.Mathlib.Omega.{arith}
 use mathlib.Core.Path.{◌≡◌}
 use lib.ListN.{length}
-use borrow.Author.Rules.{rules}
-use Rattle.loading.proofs.RowLaws.{RowsUpto, rows_start, rows_next, rows_room, numbered_yes, numbered_late, numbered_skips, numbered_short}
+use Rattle.loading.proofs.RowLaws.{RowsUpto}
 use Rattle.loading.proofs.numbering.numbered.Given as goal
 
 abbrev pub invariant-loop-p : goal.invariant-loop-p

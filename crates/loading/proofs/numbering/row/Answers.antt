@@ -2,7 +2,7 @@
 use Prim.Native.Nat.{◌+◌, ◌≤◌, ◌-◌}
 use native.Mathlib.Omega.{arith}
 use borrow.Author.Rules.{rules}
-use Rattle.loading.proofs.RowLaws.{RowUpto, row_start, row_next, row_skips, row_done}
+use Rattle.loading.proofs.RowLaws.{row_start, row_next, row_skips, row_done}
 use Rattle.loading.proofs.numbering.row.Goals as goal
 use Rattle.loading.proofs.numbering.row.Goals.{then-t-s, else-t-s}
 

@@ -1,9 +1,7 @@
 -- `row` meets its contract: the invariant says how many states are seen after the first i moves.
 use mathlib.Core.Logic.{⊎_elim}
 use Prim.Native.Nat.{◌+◌, ◌≤◌, ◌-◌}
-use native.Mathlib.Omega.{arith}
-use borrow.Author.Rules.{rules}
-use Rattle.loading.proofs.RowLaws.{RowUpto, row_start, row_next, row_skips, row_done}
+use Rattle.loading.proofs.RowLaws.{RowUpto}
 use Rattle.loading.proofs.numbering.row.Given as goal
 
 abbrev pub invariant-loop-i : goal.invariant-loop-i

@@ -1,11 +1,10 @@
 -- `operands::copies::raise` meets its contract. The loop's invariant: the length is that of the slot's machine, and the bytes before i are copied.
-use borrow.Author.Rules.{rules}
 use mathlib.Core.Path.{◌≡◌, refl}
 use mathlib.Core.Logic.{inl}
 use Prim.Native.Nat.{◌+◌, ◌-◌, ◌≤◌}
 use native.Mathlib.Omega.{arith}
-use lib.ListN.{length, get_or, drop}
-use Rattle.slots.specs.Slot.{Written, written_none, written_more}
+use lib.ListN.{get_or, drop}
+use Rattle.slots.specs.Slot.{written_none, written_more}
 use Rattle.operands.specs.Stack.{fills, counted}
 use Rattle.operands.proofs.copies.raise.Goals as goal
 

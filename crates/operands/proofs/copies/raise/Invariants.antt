@@ -1,12 +1,9 @@
 -- `operands::copies::raise` meets its contract. The loop's invariant: the length is that of the slot's machine, and the bytes before i are copied.
-use borrow.Author.Rules.{rules}
-use mathlib.Core.Path.{◌≡◌, refl}
-use mathlib.Core.Logic.{inl}
+use mathlib.Core.Path.{◌≡◌}
 use Prim.Native.Nat.{◌+◌, ◌-◌, ◌≤◌}
-use native.Mathlib.Omega.{arith}
 use lib.ListN.{length, get_or, drop}
-use Rattle.slots.specs.Slot.{Written, written_none, written_more}
-use Rattle.operands.specs.Stack.{fills, counted}
+use Rattle.slots.specs.Slot.{Written}
+use Rattle.operands.specs.Stack.{fills}
 use Rattle.operands.proofs.copies.raise.Given as goal
 
 abbrev pub invariant-loop-i : goal.invariant-loop-i

@@ -1,6 +1,5 @@
 use native.Mathlib.Omega.{arith}
 use Rattle.operands.specs.Operand.{part_long, part_writable, column_most, brought_letter, brought_given, brought_low, brought_high, brought_register, low_room, high_room, register_room, columns_fit, low_asks, high_asks, register_asks}
-use borrow.Author.Rules.{rules}
 use Rattle.operands.proofs.operand.bring.Goals as goal
 
 pub overflow_mul-at : goal.overflow_mul-at

@@ -1,8 +1,6 @@
-use borrow.Author.Rules.{rules}
 use Prim.Native.Nat.{◌-◌}
 use native.Mathlib.Omega.{arith}
-use lib.ListN.{length}
-use Rattle.operands.specs.Operand.{Passed, passed_none, passed_here, passed_more, passed_all}
+use Rattle.operands.specs.Operand.{passed_none, passed_here, passed_more, passed_all}
 use Rattle.operands.proofs.operand.column_of.Goals as goal
 
 pub loop-i-init : goal.loop-i-init

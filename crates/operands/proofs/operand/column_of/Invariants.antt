@@ -1,8 +1,6 @@
-use borrow.Author.Rules.{rules}
 use Prim.Native.Nat.{◌-◌}
-use native.Mathlib.Omega.{arith}
 use lib.ListN.{length}
-use Rattle.operands.specs.Operand.{Passed, passed_none, passed_here, passed_more, passed_all}
+use Rattle.operands.specs.Operand.{Passed}
 use Rattle.operands.proofs.operand.column_of.Given as goal
 
 abbrev pub invariant-loop-i : goal.invariant-loop-i

@@ -1,5 +1,4 @@
 use Rattle.operands.specs.Operand.{given_empty, given_all, given_dot, given_mark}
-use borrow.Author.Rules.{rules}
 use Rattle.operands.proofs.operand.given.Goals as goal
 
 pub shape_of-slot-then-g-eq0 : goal.shape_of-slot-then-g-eq0

@@ -1,7 +1,6 @@
 -- `operations::apply::behind` meets its contract.
 use mathlib.Core.Path.{ap}
 use Rattle.operations.specs.declared.apply.Stepped.TheVariants.{Next}
-use borrow.Author.Rules.{rules}
 use Rattle.operations.proofs.apply.behind.Goals as goal
 
 pub returns-in-Next : goal.returns-in-Next

@@ -1,5 +1,4 @@
 -- `operations::apply::told` meets its contract.
-use borrow.Author.Rules.{rules}
 use Rattle.operations.proofs.apply.told.Goals as goal
 
 pub returns-in-Made : goal.returns-in-Made

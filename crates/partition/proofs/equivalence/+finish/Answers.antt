@@ -1,7 +1,5 @@
 -- `finish` meets its contract: each stretch but the last leaves more classes.
 use native.Mathlib.Omega.{arith}
-use lib.ListN.{length}
-use borrow.Author.Rules.{rules}
 use Rattle.partition.proofs.ReducedLaws.{classed_low, classed_alone}
 use Rattle.partition.proofs.equivalence.+finish.Goals as goal
 

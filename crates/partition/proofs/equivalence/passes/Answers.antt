@@ -3,9 +3,8 @@ use mathlib.Core.Path.{◌≡◌}
 use Prim.Native.Nat.{◌+◌, ◌*◌, ◌≤◌, ◌-◌}
 use native.Mathlib.Nat.{le_refl}
 use native.Mathlib.Omega.{arith}
-use lib.ListN.{length}
 use borrow.Author.Rules.{rules}
-use Rattle.partition.proofs.ReducedLaws.{ClassesUpto, upto_start, columns_of, refined_low, refined_grows, classes_on, classes_stay, classes_again, stretch_alone, stretch_settled, stretch_late}
+use Rattle.partition.proofs.ReducedLaws.{upto_start, columns_of, refined_low, refined_grows, classes_on, classes_stay, classes_again, stretch_alone, stretch_settled, stretch_late}
 use Rattle.partition.proofs.equivalence.passes.Goals as goal
 
 pub loop-count-init : goal.loop-count-init

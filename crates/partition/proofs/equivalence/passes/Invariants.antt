@@ -1,11 +1,8 @@
 -- `passes` meets its contract. The measure: each pass but the last leaves more classes, and a pass has at most 26 columns.
 use mathlib.Core.Path.{◌≡◌}
 use Prim.Native.Nat.{◌+◌, ◌*◌, ◌≤◌, ◌-◌}
-use native.Mathlib.Nat.{le_refl}
-use native.Mathlib.Omega.{arith}
 use lib.ListN.{length}
-use borrow.Author.Rules.{rules}
-use Rattle.partition.proofs.ReducedLaws.{ClassesUpto, upto_start, columns_of, refined_low, refined_grows, classes_on, classes_stay, classes_again, stretch_alone, stretch_settled, stretch_late}
+use Rattle.partition.proofs.ReducedLaws.{ClassesUpto}
 use Rattle.partition.proofs.equivalence.passes.Given as goal
 
 abbrev pub invariant-loop-count : goal.invariant-loop-count

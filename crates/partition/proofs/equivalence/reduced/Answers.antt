@@ -1,5 +1,4 @@
 -- `reduced` meets its contract.
-use borrow.Author.Rules.{rules}
 use Rattle.partition.proofs.ReducedLaws.{reduced_yes, reduced_no}
 use Rattle.partition.proofs.equivalence.reduced.Goals as goal
 

@@ -3,10 +3,7 @@ use mathlib.Core.Bool.{false≢true}
 use mathlib.Core.Path.{◌≡◌}
 use Prim.Native.Nat.{ℕ, ◌-◌, ◌<◌, ◌≤◌}
 use native.Mathlib.Omega.{arith}
-use lib.ListN.{get_or}
 use borrow.Author.Count.{below_more}
-use borrow.Author.Rules.{rules}
-use Rattle.flags.specs.Flags.{cell}
 use Rattle.flags.proofs.TableLaws.{cell_in}
 use Rattle.repeats.proofs.before.listed.Goals as goal
 

@@ -1,6 +1,5 @@
 -- `same` meets its contract: a case for each kind of row.
 use mathlib.Core.Bool.{false≢true}
-use borrow.Author.Rules.{rules}
 use Rattle.sets.proofs.FitLaws.{is_concatenation}
 use Rattle.repeats.proofs.BeforeLaws.{flags_listed, before_flags}
 use Rattle.repeats.proofs.before.same.Goals as goal

@@ -1,6 +1,5 @@
 -- `state` meets its contract.
 use mathlib.Core.Bool.{false≢true}
-use borrow.Author.Rules.{rules}
 use Rattle.repeats.proofs.BeforeLaws.{state_alike}
 use Rattle.repeats.proofs.before.state.Goals as goal
 

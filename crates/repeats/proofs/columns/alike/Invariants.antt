@@ -1,12 +1,8 @@
 -- `alike` meets its contract: the states before q lead to the same place by both columns.
 use Prim.Native.Nat.{ℕ, ◌-◌, ◌<◌, ◌≤◌}
-use Rattle.rows.proofs.RowLaws.{cell_within}
 use Rattle.flags.specs.Flags.{cell}
-use borrow.Author.Count.{below_more}
-use borrow.Author.Rules.{rules}
 use mathlib.Core.Bool.{false≢true}
 use mathlib.Core.Path.{◌≡◌}
-use native.Mathlib.Omega.{arith}
 use Rattle.repeats.proofs.columns.alike.Reads as reads
 use Rattle.repeats.proofs.columns.alike.Lts as lts
 use Rattle.repeats.proofs.columns.alike.Given as goal

@@ -1,7 +1,5 @@
 -- `first` meets its contract: a column that is as c in both operands is its twin.
 use Prim.Native.Nat.{◌-◌, ◌≤◌}
-use borrow.Author.Rules.{rules}
-use native.Mathlib.Omega.{arith}
 use Rattle.repeats.proofs.columns.first.Reads as reads
 use Rattle.repeats.proofs.columns.first.Lts as lts
 use Rattle.repeats.proofs.columns.alike.Reads as alike-reads

@@ -1,5 +1,4 @@
 -- `twin` meets its contract.
-use borrow.Author.Rules.{rules}
 use native.Mathlib.Omega.{arith}
 use Rattle.repeats.proofs.columns.twin.Reads as reads
 use Rattle.repeats.proofs.columns.twin.Lts as lts

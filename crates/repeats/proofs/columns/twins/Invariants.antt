@@ -1,7 +1,6 @@
 -- `twins` meets its contract: the columns before c have their twins, the others none.
 use Prim.Native.Nat.{◌-◌}
-use borrow.Author.Rules.{rules}
-use Rattle.repeats.proofs.TwinLaws.{TwinsTo, twins_none, twins_more, twins_all}
+use Rattle.repeats.proofs.TwinLaws.{TwinsTo}
 use Rattle.repeats.proofs.columns.twins.Given as goal
 
 abbrev pub invariant-loop-c : goal.invariant-loop-c

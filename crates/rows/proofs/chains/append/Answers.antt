@@ -1,6 +1,5 @@
 -- `append` meets its contract: the copied part is the row at its place.
 use Rattle.rows.proofs.RowLaws.{appended, copied}
-use borrow.Author.Rules.{rules}
 use Rattle.rows.proofs.chains.append.Goals as goal
 
 pub returns : goal.returns

@@ -1,8 +1,7 @@
 -- `find` meets its contract: from `next` on no row is the one looked for; a row of another chain has another hash.
 use Prim.Native.Nat.{◌-◌}
-use Rattle.rows.proofs.HashLaws.{Seeking, pred_suc, seek_first, seek_next}
+use Rattle.rows.proofs.HashLaws.{pred_suc, seek_first, seek_next}
 use Rattle.rows.proofs.RowLaws.{row_within, row_part}
-use borrow.Author.Rules.{rules}
 use mathlib.Core.Bool.{false≢true}
 use mathlib.Core.Path.{sym, ◌∙◌}
 use native.Mathlib.Omega.{arith}

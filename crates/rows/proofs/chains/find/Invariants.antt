@@ -1,11 +1,8 @@
 -- `find` meets its contract: from `next` on no row is the one looked for; a row of another chain has another hash.
 use Prim.Native.Nat.{◌-◌}
-use Rattle.rows.proofs.HashLaws.{Seeking, pred_suc, seek_first, seek_next}
-use Rattle.rows.proofs.RowLaws.{row_within, row_part}
-use borrow.Author.Rules.{rules}
+use Rattle.rows.proofs.HashLaws.{Seeking}
 use mathlib.Core.Bool.{false≢true}
-use mathlib.Core.Path.{sym, ◌∙◌}
-use native.Mathlib.Omega.{arith}
+use mathlib.Core.Path.{◌∙◌}
 use Rattle.rows.proofs.chains.find.Reads as reads
 use Rattle.rows.proofs.chains.find.Lts as lts
 use Rattle.rows.proofs.chains.same.Reads as same_Reads

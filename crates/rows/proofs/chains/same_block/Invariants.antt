@@ -1,13 +1,9 @@
 -- `same_block` meets its contract: the bytes of the block before i are equal, or `same` is false.
 use mathlib.Core.Bool.{true, false≢true}
-use mathlib.Core.List.{List}
 use mathlib.Core.Logic.{⊎_elim}
-use mathlib.Core.Path.{◌≡◌, sym, ap, ◌∙◌}
+use mathlib.Core.Path.{◌≡◌, ◌∙◌}
 use Prim.Native.Nat.{ℕ, ◌+◌, ◌-◌, ◌<◌, ◌≤◌}
-use native.Mathlib.Omega.{arith}
-use lib.ListN.{length, get_or}
-use borrow.Author.Count.{below_more}
-use borrow.Author.Rules.{rules}
+use lib.ListN.{get_or}
 use Rattle.rows.proofs.chains.same_block.Given as goal
 
 abbrev pub invariant-loop-i : goal.invariant-loop-i

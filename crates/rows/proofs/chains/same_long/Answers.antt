@@ -1,5 +1,5 @@
 -- `same_long` meets its contract: behind the block that is looked at next the bytes are equal.
-use mathlib.Core.Bool.{Bool, true, false, not, false≢true}
+use mathlib.Core.Bool.{true, false, false≢true}
 use mathlib.Core.List.{List}
 use mathlib.Core.Logic.{inl, inr}
 use mathlib.Core.Path.{subst, ◌≡◌, refl, sym, ◌∙◌}
@@ -7,7 +7,6 @@ use Prim.Native.Nat.{ℕ, ◌+◌, ◌-◌, ◌<◌, ◌≤◌}
 use native.Mathlib.Omega.{arith}
 use lib.ListN.{length, get_or}
 use lib.Seq.{ext_get_or}
-use borrow.Author.Rules.{rules}
 use Rattle.automata.specs.Basics.{LtCases, lt_cases}
 use Rattle.rows.proofs.chains.same_long.Reads as reads
 use Rattle.rows.proofs.chains.same_long.Lts as lts

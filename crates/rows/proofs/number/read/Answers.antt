@@ -1,6 +1,5 @@
 -- `read` meets its contract: both bytes are below 256, so the sum fits.
 use Prim.Native.Nat.{◌+◌}
-use borrow.Author.Rules.{rules}
 use native.Mathlib.Omega.{arith}
 use Rattle.rows.proofs.number.read.Goals as goal
 

@@ -1,5 +1,4 @@
 -- `append` of a pair meets its contract.
-use borrow.Author.Rules.{rules}
 use Rattle.rows.proofs.PairRowLaws.{pair_appended}
 use Rattle.rows.proofs.pair.append.Goals as goal
 

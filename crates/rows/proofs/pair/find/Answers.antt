@@ -3,9 +3,7 @@ use mathlib.Core.Bool.{false≢true}
 use mathlib.Core.Path.{sym, ◌∙◌}
 use Prim.Native.Nat.{◌-◌}
 use native.Mathlib.Omega.{arith}
-use borrow.Author.Rules.{rules}
-use Rattle.rows.specs.Rows.{pair_row}
-use Rattle.rows.proofs.HashLaws.{Seeking, pred_suc, seek_first, seek_next}
+use Rattle.rows.proofs.HashLaws.{pred_suc, seek_first, seek_next}
 use Rattle.rows.proofs.pair.find.Goals as goal
 
 pub overflow_cast-next : goal.overflow_cast-next

@@ -1,11 +1,9 @@
 -- `find` of a pair meets its contract: from `next` on no row is the one looked for.
 use mathlib.Core.Bool.{false≢true}
-use mathlib.Core.Path.{sym, ◌∙◌}
+use mathlib.Core.Path.{◌∙◌}
 use Prim.Native.Nat.{◌-◌}
-use native.Mathlib.Omega.{arith}
-use borrow.Author.Rules.{rules}
 use Rattle.rows.specs.Rows.{pair_row}
-use Rattle.rows.proofs.HashLaws.{Seeking, pred_suc, seek_first, seek_next}
+use Rattle.rows.proofs.HashLaws.{Seeking}
 use Rattle.rows.proofs.pair.find.Given as goal
 
 abbrev pub invariant-loop-next : goal.invariant-loop-next

@@ -3,7 +3,6 @@ use mathlib.Core.Bool.{false≢true}
 use mathlib.Core.Path.{sym, ◌∙◌, subst}
 use native.Mathlib.Omega.{arith}
 use lib.Dec.{T, eqb→eq}
-use borrow.Author.Rules.{rules}
 use borrow.Author.Tests.{eq-eqb}
 use Rattle.rows.proofs.PairRowLaws.{here_is, here_left, here_right}
 use Rattle.rows.proofs.pair.here.Goals as goal

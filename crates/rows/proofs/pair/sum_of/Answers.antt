@@ -1,6 +1,5 @@
 -- `sum_of` meets its contract.
 use native.Mathlib.Omega.{arith}
-use borrow.Author.Rules.{rules}
 use Rattle.rows.proofs.PairRowLaws.{pair_sum}
 use Rattle.rows.proofs.SumLaws.{number_small}
 use Rattle.rows.proofs.pair.sum_of.Goals as goal

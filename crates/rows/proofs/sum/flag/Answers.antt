@@ -1,7 +1,6 @@
 -- `flag` meets its contract.
 use mathlib.Core.Path.{refl}
 use native.Mathlib.Omega.{arith}
-use borrow.Author.Rules.{rules}
 use Rattle.rows.proofs.SumLaws.{summed_fits, flag_there, flag_more}
 use Rattle.rows.proofs.sum.flag.Goals as goal
 

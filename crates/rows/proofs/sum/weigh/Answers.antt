@@ -1,6 +1,5 @@
 -- `weigh` meets its contract.
 use native.Mathlib.Omega.{arith}
-use borrow.Author.Rules.{rules}
 use Rattle.rows.proofs.SumLaws.{weight_small, weight_fits, weight_is}
 use Rattle.rows.proofs.sum.weigh.Goals as goal
 

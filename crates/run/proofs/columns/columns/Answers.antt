@@ -1,9 +1,8 @@
 -- `columns` meets its contract: the table has the columns of the letters from i on.
 use Prim.Native.Nat.{◌≤◌, ◌-◌}
 use native.Mathlib.Omega.{arith}
-use lib.ListN.{length}
 use borrow.Author.Rules.{rules}
-use Rattle.run.proofs.ColumnLaws.{TableFrom, table_start, table_next, table_done}
+use Rattle.run.proofs.ColumnLaws.{table_start, table_next, table_done}
 use Rattle.run.proofs.columns.columns.Goals as goal
 
 pub loop-i-init : goal.loop-i-init

@@ -1,6 +1,5 @@
 -- `slots::given::all` meets its contract.
 use Rattle.slots.specs.GivenSlots.{all_holds}
-use borrow.Author.Rules.{rules}
 use Rattle.slots.proofs.given.all.Goals as goal
 
 pub returns : goal.returns

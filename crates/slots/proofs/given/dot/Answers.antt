@@ -1,6 +1,5 @@
 -- `slots::given::dot` meets its contract.
 use Rattle.slots.specs.GivenSlots.{dot_holds}
-use borrow.Author.Rules.{rules}
 use Rattle.slots.proofs.given.dot.Goals as goal
 
 pub returns : goal.returns

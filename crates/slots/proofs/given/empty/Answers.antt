@@ -1,6 +1,5 @@
 -- `slots::given::empty` meets its contract.
 use Rattle.slots.specs.GivenSlots.{empty_holds}
-use borrow.Author.Rules.{rules}
 use Rattle.slots.proofs.given.empty.Goals as goal
 
 pub returns : goal.returns

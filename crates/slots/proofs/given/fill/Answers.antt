@@ -2,8 +2,7 @@
 use mathlib.Core.Path.{◌≡◌, refl}
 use Prim.Native.Nat.{◌-◌, ◌≤◌}
 use native.Mathlib.Omega.{arith}
-use borrow.Author.Rules.{rules}
-use Rattle.slots.specs.Slot.{Written, written_more}
+use Rattle.slots.specs.Slot.{written_more}
 use Rattle.slots.proofs.given.fill.Goals as goal
 
 pub loop-i-preserved : goal.loop-i-preserved

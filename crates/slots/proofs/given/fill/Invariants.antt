@@ -1,9 +1,7 @@
 -- `slots::given::fill` meets its contract.
-use mathlib.Core.Path.{◌≡◌, refl}
+use mathlib.Core.Path.{◌≡◌}
 use Prim.Native.Nat.{◌-◌, ◌≤◌}
-use native.Mathlib.Omega.{arith}
-use borrow.Author.Rules.{rules}
-use Rattle.slots.specs.Slot.{Written, written_more}
+use Rattle.slots.specs.Slot.{Written}
 use Rattle.slots.proofs.given.fill.Given as goal
 
 abbrev pub invariant-loop-i : goal.invariant-loop-i

@@ -2,7 +2,6 @@
 use native.Mathlib.Omega.{arith}
 use lib.ListN.{length-set}
 use Rattle.slots.specs.GivenSlots.{header_written}
-use borrow.Author.Rules.{rules}
 use Rattle.slots.proofs.given.header.Goals as goal
 
 pub bounds-slot-1 : goal.bounds-slot-1

@@ -1,6 +1,5 @@
 -- `slots::given::letter` meets its contract.
 use Rattle.slots.specs.GivenSlots.{letter_holds}
-use borrow.Author.Rules.{rules}
 use Rattle.slots.proofs.given.letter.Goals as goal
 
 pub returns : goal.returns

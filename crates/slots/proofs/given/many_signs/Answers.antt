@@ -1,6 +1,5 @@
 -- `slots::given::many_signs` meets its contract.
 use Rattle.slots.specs.GivenSlots.{many_holds}
-use borrow.Author.Rules.{rules}
 use Rattle.slots.proofs.given.many_signs.Goals as goal
 
 pub returns : goal.returns

@@ -2,7 +2,6 @@
 use mathlib.Core.Path.{refl}
 use mathlib.Core.Logic.{inl, inr}
 use Rattle.slots.specs.GivenSlots.{one_holds}
-use borrow.Author.Rules.{rules}
 use Rattle.slots.proofs.given.one_sign.Goals as goal
 
 pub returns-then-lo-eq0 : goal.returns-then-lo-eq0

@@ -1,7 +1,6 @@
 -- `slots::given::signs` meets its contract.
 use native.Mathlib.Omega.{arith}
 use Rattle.slots.specs.GivenSlots.{room_columns, signs_written}
-use borrow.Author.Rules.{rules}
 use Rattle.slots.proofs.given.signs.Goals as goal
 
 pub overflow_add-most-2 : goal.overflow_add-most-2

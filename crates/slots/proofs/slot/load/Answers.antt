@@ -1,7 +1,6 @@
 -- `slots::slot::load` meets its contract.
 use native.Mathlib.Omega.{arith}
 use Rattle.slots.specs.Slot.{slot_cells, loaded}
-use borrow.Author.Rules.{rules}
 use Rattle.slots.proofs.slot.load.Goals as goal
 
 pub unpack-na-requires : goal.unpack-na-requires

@@ -1,7 +1,6 @@
 -- `slots::slot::number` meets its contract.
 use native.Mathlib.Omega.{arith}
 use Prim.Native.Nat.{◌+◌}
-use borrow.Author.Rules.{rules}
 use Rattle.slots.proofs.slot.number.Goals as goal
 
 pub overflow_cast-result : goal.overflow_cast-result

@@ -4,7 +4,6 @@ use native.Mathlib.Omega.{arith}
 use lib.ListN.{drop}
 use Rattle.rows.specs.Rows.{number_at}
 use Rattle.slots.specs.Slot.{slot_ends, number_drop, unpacked}
-use borrow.Author.Rules.{rules}
 use Rattle.slots.proofs.slot.unpack.Goals as goal
 
 pub number-n-requires : goal.number-n-requires

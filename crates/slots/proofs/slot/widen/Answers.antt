@@ -3,8 +3,7 @@ use mathlib.Core.Path.{◌≡◌, refl}
 use Prim.Native.Nat.{◌+◌, ◌-◌, ◌≤◌}
 use native.Mathlib.Omega.{arith}
 use lib.ListN.{get_or}
-use borrow.Author.Rules.{rules}
-use Rattle.slots.specs.Slot.{Written, written_more}
+use Rattle.slots.specs.Slot.{written_more}
 use Rattle.slots.proofs.slot.widen.Goals as goal
 
 pub overflow_cast-dst : goal.overflow_cast-dst

@@ -1,10 +1,8 @@
 -- `slots::slot::widen` meets its contract.
-use mathlib.Core.Path.{◌≡◌, refl}
+use mathlib.Core.Path.{◌≡◌}
 use Prim.Native.Nat.{◌+◌, ◌-◌, ◌≤◌}
-use native.Mathlib.Omega.{arith}
 use lib.ListN.{get_or}
-use borrow.Author.Rules.{rules}
-use Rattle.slots.specs.Slot.{Written, written_more}
+use Rattle.slots.specs.Slot.{Written}
 use Rattle.slots.proofs.slot.widen.Given as goal
 
 abbrev pub invariant-loop-i : goal.invariant-loop-i

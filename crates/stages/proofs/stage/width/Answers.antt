@@ -3,7 +3,6 @@ use Prim.Native.Nat.{◌≤◌}
 use native.Mathlib.Numerals.{add-one}
 use native.Mathlib.Omega.{arith}
 use Rattle.answers.specs.Stage.{width_pairs, width_erase}
-use borrow.Author.Rules.{rules}
 use Rattle.stages.proofs.stage.width.Goals as goal
 
 pub returns-then-op-lt3 : goal.returns-then-op-lt3
