@@ -1,12 +1,10 @@
 -- `step` meets its contract: the states passed have their places.
 use mathlib.Core.Path.{◌≡◌}
-use mathlib.Core.Logic.{inl, inr}
 use Prim.Native.Nat.{◌+◌, ◌*◌, ◌≤◌, ◌-◌}
 use native.Mathlib.Nat.{zero-mul}
 use native.Mathlib.Omega.{arith}
 use Rattle.ends.proofs.EndsLaws.{stepped_start, move_place, end_inside, next_place_lem, next_low, place_read, stepped_next, stepped_done}
 use Rattle.ends.proofs.step.Goals as goal
-use Rattle.ends.proofs.step.Goals.{then-last-end, else-last-end}
 
 pub loop-q-init : goal.loop-q-init
 loop-q-init c =
@@ -38,7 +36,7 @@ loop-q-preserved c = (
   next_place_lem _ _ _ _ _ _ _ _ c.requires _ _ c.loop-q.invariant.1 c.loop-q-test.true,
   stepped_next _ _ _ _ _ _ _ _ c.requires _ _ _ c.loop-q.invariant.2 _ _ c.loop-q-test.true
       (place_read _ _ _ _ _ _ _ _ c.requires _ _ _ c.loop-q.invariant.2 _ c.loop-q.invariant.1 c.loop-q-test.true)
-      (elim c.if-last-end.branch [ then-last-end w ↦ inl (w.if-last-end.true, w.last-is) | else-last-end w ↦ inr (w.if-last-end.false, w.last-is) ]),
+      (grind arith),
 )
 
 pub returns : goal.returns
