@@ -1,4 +1,5 @@
 -- `step_on` meets its contract, test by test.
+use native.Mathlib.Omega.{arith}
 use Rattle.run.proofs.WalkLaws.{ready_counted, move_room}
 use Rattle.board.specs.Answers.{stepping}
 use Rattle.board.proofs.EntryLaws.{step_27, step_28, step_lands, step_inside}
@@ -10,11 +11,11 @@ letters-requires c =
 
 pub returns-then-m-i : goal.returns-then-m-i
 returns-then-m-i c =
-    step_27 _ _ _ c.requires c.args.state c.args.letter _ _ c.letters.ensures c.column-i.ensures c.if-m-i.true
+    step_27 _ _ _ c.requires c.args.state c.args.letter _ _ c.letters.ensures c.column-i.ensures (omega arith)
 
 pub returns-then-n-state : goal.returns-then-n-state
 returns-then-n-state c =
-    step_28 _ _ _ c.requires c.args.state c.args.letter _ _ c.letters.ensures c.column-i.ensures c.if-m-i.false c.if-n-state.true
+    step_28 _ _ _ c.requires c.args.state c.args.letter _ _ c.letters.ensures c.column-i.ensures (omega arith) (omega arith)
 
 pub moves-requires : goal.moves-requires
 moves-requires c =
@@ -22,16 +23,16 @@ moves-requires c =
 
 pub next-next-requires : goal.next-next-requires
 next-next-requires c =
-    move_room _ _ _ c.requires _ _ c.if-n-state.false c.if-m-i.false _ c.moves.ensures
+    move_room _ _ _ c.requires _ _ (omega arith) (omega arith) _ c.moves.ensures
 
 pub landing-requires : goal.landing-requires
 landing-requires c = (
   c.requires,
-  step_inside _ _ _ c.requires c.args.state c.args.letter _ _ c.letters.ensures c.column-i.ensures c.if-m-i.false c.if-n-state.false
+  step_inside _ _ _ c.requires c.args.state c.args.letter _ _ c.letters.ensures c.column-i.ensures (omega arith) (omega arith)
       _ c.moves.ensures _ c.next-next.ensures.0,
 )
 
 pub returns : goal.returns
 returns c =
-    step_lands _ _ _ c.requires c.args.state c.args.letter _ _ c.letters.ensures c.column-i.ensures c.if-m-i.false c.if-n-state.false
+    step_lands _ _ _ c.requires c.args.state c.args.letter _ _ c.letters.ensures c.column-i.ensures (omega arith) (omega arith)
     _ c.moves.ensures _ c.next-next.ensures.0 (stepping c.landing.result) c.landing.ensures
