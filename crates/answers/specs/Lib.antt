@@ -1,5 +1,4 @@
--- The answer of a stage: rows stand for the sets of the stages; a stage by its operation; a stage over lent buffers, and its answer from what was found.
+-- The answer of a stage: rows stand for the sets of the stages; a stage by its operation; a stage over lent buffers.
 pub mod RowSets
 pub mod Operate
 pub mod Stage
-pub mod StageLaws

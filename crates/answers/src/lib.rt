@@ -1,4 +1,4 @@
-// What a stage over lent buffers answers: the types; the definitions and laws stand in specs/.
+// What a stage over lent buffers answers: the types; the definitions and laws stand in specs/ and proofs/.
 #![tactic(auto)]
 
 // The most sets that a stage may make, and the most states that a kept machine may have.

@@ -8,7 +8,7 @@ use Rattle.std.proofs.lemmas.List.{take_all}
 use Rattle.automata.specs.Format.{narrow}
 use Rattle.card.specs.Judge.{judge}
 use Rattle.plans.specs.Plans.{begun, ended, last_plan}
-use Rattle.plans.specs.PlansLaws.{begun_append, ended_append, begun_few, plans_pieces}
+use Rattle.plans.proofs.PlansLaws.{begun_append, ended_append, begun_few, plans_pieces}
 use Rattle.reply.specs.Text.{reply_line, reply_lines}
 use Rattle.judging.specs.declared.State.{State}
 use Rattle.judging.specs.declared.Fed.{Fed}

@@ -9,7 +9,7 @@ use Rattle.automata.specs.Format.{narrow}
 use Rattle.card.specs.Judge.{judge}
 use Rattle.run.specs.declared.Answer.{Answer}
 use Rattle.plans.specs.Plans.{ended, begun, last_plan, line_of, LineEnd}
-use Rattle.plans.specs.PlansLaws.{line_length, ended_line, begun_line, ended_last, begun_last, begun_few}
+use Rattle.plans.proofs.PlansLaws.{line_length, ended_line, begun_line, ended_last, begun_last, begun_few}
 use Rattle.judging.specs.declared.plan.Judging.{Judging}
 use Rattle.judging.specs.declared.State.{State}
 use Rattle.judging.specs.Plan.{Tests, Judges, More, Answers}

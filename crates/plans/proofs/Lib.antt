@@ -1,3 +1,4 @@
 -- Laws that the proofs of several functions cite.
+pub mod PlansLaws
 pub mod EndLaws
 pub mod ManyLaws

@@ -22,7 +22,7 @@ use Rattle.card.specs.Answer.{reply_numbers, holds, rejected, load}
 use Rattle.run.specs.declared.Answer.{Answer}
 use Rattle.run.specs.Reading.{reply_of}
 use Rattle.plans.specs.Plans.{plans_of, consumed, line_of, LineEnd}
-use Rattle.plans.specs.PlansLaws.{consumed_next, plans_line, plans_end, consumed_line, consumed_end}
+use Rattle.plans.proofs.PlansLaws.{consumed_next, plans_line, plans_end, consumed_line, consumed_end}
 use Rattle.plans.specs.declared.Many.TheVariants.{Judged, Refused}
 use Rattle.plans.specs.Many.{three, replies_to, judged_count, many_numbers, many_replies, JudgesLines}
 

@@ -1,4 +1,3 @@
 -- How bytes are cut into plans, and what judging many of them answers.
 pub mod Plans
-pub mod PlansLaws
 pub mod Many

@@ -4,7 +4,7 @@ use Prim.Native.Nat.{ℕ, ◌≤◌}
 use native.Mathlib.Omega.{arith}
 use lib.ListN.{length-replicate}
 use lib.Seq.{length-take-le}
-use Rattle.answers.specs.StageLaws.{reach_half, reach_width, reach_asks, reach_lists, reach_found}
+use Rattle.answers.proofs.StageLaws.{reach_half, reach_width, reach_asks, reach_lists, reach_found}
 use Rattle.stages.proofs.stage.reach.Goals as goal
 
 pub overflow_mul-half : goal.overflow_mul-half

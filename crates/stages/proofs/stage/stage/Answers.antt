@@ -1,7 +1,7 @@
 -- `stages::stage::stage` meets its contract.
 use mathlib.Core.Path.{refl, ◌∙◌}
 use native.Mathlib.Omega.{arith}
-use Rattle.answers.specs.StageLaws.{ready_columns, ready_load, ready_reach, ready_keep, done_many, done_large, done_made}
+use Rattle.answers.proofs.StageLaws.{ready_columns, ready_load, ready_reach, ready_keep, done_many, done_large, done_made}
 use Rattle.stages.proofs.stage.stage.Goals as goal
 
 pub overflow_add-k : goal.overflow_add-k
