@@ -5,7 +5,7 @@ usage: python3 tools/snake_names.py           at the top of the repository; --lo
 
 A word of an .antt file is renamed where it has a dash between letters, or a capital behind a small first letter, and no module of the library has it:
 `arrive-old` becomes `arrive_old`, `keptMachine` becomes `kept_machine`. Words that stand in files Proof.antt alone are goals' names and stay, as do modules and
-types, functions of src/, exported names and strings. It writes crates/*/{specs,proofs,src,must-fail}; in comments it goes by words in backticks.
+types, functions of src/, exported names and strings. It writes crates/*/{specs,proofs,src}; in comments it goes by words in backticks.
 """
 
 import collections
