@@ -1,5 +1,5 @@
 -- What the compiling program writes for a text.
-use Rattle.std.specs.Prelude.{◌≡◌, ◌<◌, ℕ, List, Option, length, take}
+use Rattle.std.specs.Prelude.{◌≡◌, ◌+◌, ◌*◌, ◌<◌, ℕ, List, Option, length, take}
 use Rattle.std.specs.Io.KnownBytes.{Keeps, Consumes, Appends, IsAtEnd}
 use Rattle.automata.specs.Format.{narrow}
 use Rattle.compiler.specs.Outcome.{outcome}
@@ -9,6 +9,14 @@ use Rattle.report.specs.Shown.{Shows}
 use Rattle.compile.specs.declared.Ending.{Ending}
 use Rattle.compile.specs.declared.Ending.TheVariants.{Whole, NotRead, NotWritten}
 
+-- The longest card's length: the contents, 26 letters, a marks byte for each of 120 states and a move for each state and letter.
+abbrev pub card_room : ℕ
+card_room = ((12 + 26) + 120) + 120 * 26
+
+-- "A text of at most 16,384 bytes"; one more is read, so that a longer one is refused.
+abbrev pub text_room : ℕ
+text_room = 16384 + 1
+
 -- What is written for a text is what is shown for the compiler's answer, with buffers of the documented lengths, and the card buffer behind it.
 pub record Prints (text old out : List ℕ) (r : ℕ) : Type 0 where
   pub answer : Compiled
@@ -16,12 +24,12 @@ pub record Prints (text old out : List ℕ) (r : ℕ) : Type 0 where
   pub answers : Answers (outcome narrow documented text documented (length old)) old card answer
   pub shows : Shows answer card out r
 
--- That was written, with a card buffer of 3,278 bytes, and nothing else.
+-- That was written, with a card buffer that has room for the longest card, and nothing else.
 pub record Printed (text : List ℕ) (output output' : Option (List ℕ)) : Type 0 where
   pub old : List ℕ
   pub out : List ℕ
   pub size : ℕ
-  pub long : length old ≡ 3278
+  pub long : length old ≡ card_room
   pub prints : Prints text old out size
   pub written : Appends output output' (take size out)
 
@@ -29,7 +37,7 @@ pub record Printed (text : List ℕ) (output output' : Option (List ℕ)) : Type
 pub record CompilesInput (input input' output output' : Option (List ℕ)) : Type 0 where
   pub text : List ℕ
   pub read : Consumes input input' text
-  pub whole : length text < 16385 → IsAtEnd input'
+  pub whole : length text < text_room → IsAtEnd input'
   pub printed : Printed text output output'
 
 -- Where the text can't be read nothing is written.

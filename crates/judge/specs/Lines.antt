@@ -1,5 +1,5 @@
 -- All bytes of a read, from one state to the next; and all bytes of an input.
-use Rattle.std.specs.Prelude.{◌≡◌, ◌≤◌, true, List, [], ℕ, Option, length}
+use Rattle.std.specs.Prelude.{◌≡◌, ◌^◌, ◌≤◌, true, List, [], ℕ, Option, length}
 use Rattle.std.specs.Io.KnownBytes.{Consumes, Appends, IsAtEnd}
 use Rattle.plans.specs.Plans.{begun, ended, plans_of}
 use Rattle.reply.specs.Text.{reply_lines}
@@ -8,6 +8,10 @@ use Rattle.judging.specs.Lines.{Since}
 use Rattle.judge.specs.declared.lines.Answered.{Answered}
 use Rattle.judge.specs.declared.lines.Ending.{Ending}
 use Rattle.judge.specs.declared.lines.Ending.TheVariants.{Whole, NotRead, NotWritten, TooLong}
+
+-- The most reads, of 65,536 bytes each: so a plan's letters can be counted in 64 bits.
+abbrev pub most_reads : ℕ
+most_reads = 2 ^ 47
 
 -- All bytes were taken in.
 pub record Wrote (c : List ℕ) (state : State) (s : List ℕ) (r : Answered) : Type 0 where
@@ -32,4 +36,4 @@ abbrev pub Replies : List ℕ → Option (List ℕ) → Option (List ℕ) → Op
 Replies c input input' output output' Whole = AllReplies c input input' output output'
 Replies c input input' output output' NotRead = SomeReplies c input input' output output' 0
 Replies c input input' output output' NotWritten = Unit {0}
-Replies c input input' output output' TooLong = SomeReplies c input input' output output' 140737488355328
+Replies c input input' output output' TooLong = SomeReplies c input input' output output' most_reads
