@@ -1,24 +1,22 @@
 -- The steps of a stage over lent buffers: what each step asks follows from what the stage asks, and the stage's answer from what the steps answer.
-use Rattle.std.specs.Prelude.{◌≡◌, refl, List, [], ◌∷◌, ℕ, suc, ◌+◌, ◌*◌, ◌-◌, ◌≤◌, ◌<◌, length, take, drop}
+use Rattle.std.specs.Prelude.{◌≡◌, refl, List, [], ◌∷◌, ℕ, suc, ◌+◌, ◌*◌, ◌-◌, ◌≤◌, ◌<◌, length, take, drop, Option, Some, None, Ok, Err}
 use Rattle.std.proofs.Common.{sym, ap, ◌∙◌, subst, mul-le-mul_right, mul-le-mul_left, suc-mul, zero-mul, add-one, arith, length-drop, take_all}
 use Rattle.automata.specs.Machine.{Machine, size, automaton, WellFormed}
 use Rattle.automata.specs.Smallest.{smallest}
-use Rattle.automata.specs.Table.{table_machine, table_size, table_formed}
+use Rattle.automata.specs.Table.{ClosedTable, table_machine, table_size, table_formed}
+use Rattle.entries.specs.declared.table.Table.{Table}
 use Rattle.automata.specs.Format.{Format}
 use Rattle.automata.specs.Stage.{Made as Answer, made, refused, StageResult}
 use Rattle.rows.specs.Rows.{number_at}
 use Rattle.sets.specs.Fits.{rows_for, Listing}
 use Rattle.sets.specs.Operations.{operation_of, row_width, rows_of}
+use Rattle.sets.specs.declared.Operation.{Operation as Code}
 use Rattle.sets.specs.declared.Shape.{Shape}
-use Rattle.turns.specs.declared.Explored.{Explored}
-use Rattle.turns.specs.declared.Explored.TheVariants.{Sets, TooMany}
 use Rattle.turns.specs.Exploring.{Answers, Explores}
 use Rattle.turns.specs.ExploringLaws.{explored_closed, explored_more}
-use Rattle.minimise.specs.declared.Kept.{Kept}
-use Rattle.minimise.specs.declared.Kept.TheVariants.{States, TooMany as TooLarge}
 use Rattle.slots.specs.declared.slot.Sizes.{Sizes}
 use Rattle.answers.specs.declared.Limits.{Limits}
-use Rattle.answers.specs.declared.Staged.TheVariants.{Made, TooManySets, TooManyStates}
+use Rattle.answers.specs.declared.TooMany.TheVariants.{TooManySets, TooManyStates}
 use Rattle.slots.specs.Slot.{Slot, slot_machine, Loaded}
 use Rattle.packing.specs.Keep.{Keepable, KeptAt}
 use Rattle.answers.specs.Operate.{operate, operate_by, found_kept, found_large, found_many}
@@ -26,7 +24,7 @@ use Rattle.answers.specs.Stage.{width_most, table_rows, Reaches, Reached, Ready,
 
 -- ---- reaching the sets
 
-abbrev pub shape_of : ℕ → ℕ → Limits → Sizes → ℕ → Shape
+abbrev pub shape_of : Code → ℕ → Limits → Sizes → ℕ → Shape
 shape_of op k l r w = record { op = op; k = k; na = r.left; ba = l.states; nb = r.right; bb = l.states; w = w; limit = l.sets }
 
 module _ {k : ℕ} {l : Limits} {r : Sizes} {t rows table : List ℕ} (R : Reaches k l r t rows table) where
@@ -36,13 +34,13 @@ module _ {k : ℕ} {l : Limits} {r : Sizes} {t rows table : List ℕ} (R : Reach
   pub reach_half : half < length t
   reach_half = omega (arith, R.right.long, R.right.flags, R.right.some, length-drop half t)
 
-  pub reach_width : (op w : ℕ) → w ≡ row_width (operation_of op) r.left r.right → w ≤ l.states + 2
+  pub reach_width : (op : Code) (w : ℕ) → w ≡ row_width (operation_of op) r.left r.right → w ≤ l.states + 2
   reach_width op w e = rw e (width_most (operation_of op) r.left r.right l.states R.left.flags R.right.flags R.states.0)
 
   behind : take (length t - half) (drop half t) ≡ drop half t
   behind = take_all (length t - half) (drop half t) (omega (arith, length-drop half t))
 
-  pub reach_asks : (op w : ℕ) (row : List ℕ) → w ≡ row_width (operation_of op) r.left r.right → length row ≡ w
+  pub reach_asks : (op : Code) (w : ℕ) (row : List ℕ) → w ≡ row_width (operation_of op) r.left r.right → length row ≡ w
       → Explores (shape_of op k l r w) t (take (length t - half) (drop half t)) rows row table
   reach_asks op w row e h = rw behind (record {
     fits = record {
@@ -62,14 +60,14 @@ module _ {k : ℕ} {l : Limits} {r : Sizes} {t rows table : List ℕ} (R : Reach
     };
   })
 
-  pub reach_lists : (op w : ℕ) (members : List ℕ) → length members ≡ 256 → Listing (shape_of op k l r w) members
+  pub reach_lists : (op : Code) (w : ℕ) (members : List ℕ) → length members ≡ 256 → Listing (shape_of op k l r w) members
   reach_lists op w members e = record {
     left = omega (arith, R.left.flags, R.states.1);
     right = omega (arith, R.right.flags, R.states.1);
     small = omega arith;
   }
 
-  pub reach_found : (op w : ℕ) (rows' table' : List ℕ) (x : Explored)
+  pub reach_found : (op : Code) (w : ℕ) (rows' table' : List ℕ) (x : Option ℕ)
       → Answers (rows_for (shape_of op k l r w) t (take (length t - half) (drop half t))) k w l.sets rows' table' x → Reached op k l r t rows' table' x
   reach_found op w rows' table' x a = record { w = w; answers = rw behind at a }
 
@@ -111,7 +109,7 @@ module _ {m : ℕ} {l : Limits} {left right : ℕ} {slots operands rows table : 
     B = slot_machine l.states (suc m) (drop right slots)
 
     -- the rows of the tables are the rows of the slots' machines
-    rows_same : (op : ℕ) → table_rows op (m + 1) l.states r t ≡ rows_of (operation_of op) m (size A) (automaton A) (size B) (automaton B)
+    rows_same : (op : Code) → table_rows op (m + 1) l.states r t ≡ rows_of (operation_of op) m (size A) (automaton A) (size B) (automaton B)
     rows_same op =
         let K : Loaded l.states (suc m) (drop left slots) (drop right slots) t r = rw (add-one m) at L in
         let z : suc m - 1 ≡ m = omega arith in
@@ -120,46 +118,49 @@ module _ {m : ℕ} {l : Limits} {left right : ℕ} {slots operands rows table : 
         rw (add-one m) (λ i. rows_of (operation_of op) (z i) (na i) (automaton (K.left.same i)) (nb i) (automaton (K.right.same i)))
 
     -- what is found of the tables' rows is the stage's answer
-    found : (op : ℕ) (fmt : Format) (a : Answer) → StageResult fmt (m + 1) (table_rows op (m + 1) l.states r t) a → operate fmt m (operation_of op) A B ≡ a
+    found : (op : Code) (fmt : Format) (a : Answer) → StageResult fmt (m + 1) (table_rows op (m + 1) l.states r t) a → operate fmt m (operation_of op) A B ≡ a
     found op fmt a s =
         operate_by (operation_of op) m A B (slot_formed R.left_slot) (slot_formed R.right_slot) fmt a
         (subst (λ k. StageResult fmt k (rows_of (operation_of op) m (size A) (automaton A) (size B) (automaton B)) a) (add-one m)
         (subst (λ X. StageResult fmt (m + 1) X a) (rows_same op) s))
 
-    pub done_many : (op : ℕ) (rows' table' : List ℕ) (x : Explored) → Reached op (m + 1) l r t rows' table' x → x ≡ TooMany → StageDone op m l left right slots slots TooManySets
+    pub done_many : (op : Code) (rows' table' : List ℕ) (x : Option ℕ) → Reached op (m + 1) l r t rows' table' x → x ≡ None → StageDone op m l left right slots slots (Err TooManySets)
     done_many op rows' table' x H e = record {
       answer = λ fmt es et. found op fmt (refused 8) (found_many (table_rows op (m + 1) l.states r t) (m + 1) l.sets fmt es (explored_more (table_rows op (m + 1) l.states r t) (m + 1) H.w l.sets rows' table' (rw e at H.answers)));
       slot = tt;
       aside = record { long = refl; same = λ j h. refl };
     }
 
-    module _ (op n : ℕ) (rows' table' : List ℕ) (x : Explored) (H : Reached op (m + 1) l r t rows' table' x) (e : x ≡ Sets n) where
-      pub ready_keep : (work : List ℕ) → length work ≡ length operands → Keepable l.sets n (m + 1) l.states left table' work slots
+    module _ (op : Code) (n : ℕ) (rows' table' : List ℕ) (x : Option ℕ) (H : Reached op (m + 1) l r t rows' table' x) (e : x ≡ Some n) where
+      -- the table that was laid out is closed, and lent as one it can be kept
+      pub ready_keep : (work : List ℕ) → length work ≡ length operands
+          → ClosedTable l.sets n (m + 1) table' × ((X : Table) → X.states ≡ n → X.columns ≡ m + 1 → Keepable X l.states left work slots)
       ready_keep work g =
-          let h = rw e at H.answers in
-          record {
-            closed = explored_closed (table_rows op (m + 1) l.states r t) (m + 1) H.w l.sets n rows' table' h;
-            few = omega (arith, h.within, R.sets.1);
-            some = omega (arith, R.states.0);
-            bytes = R.states.1;
-            arrays = omega (arith, h.within, R.classes_long.0, g);
-            order = omega (arith, h.within, R.classes_long.1, g);
-            slot = rw (add-one m) R.room;
-          }
+          let h = rw e at H.answers in (
+            explored_closed (table_rows op (m + 1) l.states r t) (m + 1) H.w l.sets n rows' table' h,
+            λ X s k. record {
+              few = omega (arith, h.within, R.sets.1, s);
+              some = omega (arith, R.states.0);
+              bytes = R.states.1;
+              arrays = omega (arith, h.within, R.classes_long.0, g, s);
+              order = omega (arith, h.within, R.classes_long.1, g, s);
+              slot = subst (λ c. left + 2 + (l.states + l.states * c) ≤ length slots) (sym (k ∙ add-one m)) R.room;
+            },
+          )
 
       abbrev T : Machine
       T = table_machine l.sets n (m + 1) table'
 
-      pub done_large : (slots' : List ℕ) (y : Kept) → KeptAt (m + 1) l.states left T slots slots' y → y ≡ TooLarge → StageDone op m l left right slots slots' TooManyStates
-      done_large slots' y K q = record {
-        answer = λ fmt es et. found op fmt (refused 9) (found_large (table_rows op (m + 1) l.states r t) (m + 1) H.w l.sets n rows' table' (rw e at H.answers) fmt es (rw (← et) at (rw q at K.answer)));
+      pub done_large : (slots' : List ℕ) → KeptAt (m + 1) l.states left T slots slots' None → StageDone op m l left right slots slots' (Err TooManyStates)
+      done_large slots' K = record {
+        answer = λ fmt es et. found op fmt (refused 9) (found_large (table_rows op (m + 1) l.states r t) (m + 1) H.w l.sets n rows' table' (rw e at H.answers) fmt es (rw (← et) at K.answer));
         slot = tt;
         aside = rw (add-one m) at K.aside;
       }
 
-      pub done_made : (slots' : List ℕ) (y : Kept) (q : ℕ) → KeptAt (m + 1) l.states left T slots slots' y → y ≡ States q → StageDone op m l left right slots slots' (Made n q)
-      done_made slots' y q K f =
-          let k = rw f at K.answer in
+      pub done_made : (slots' : List ℕ) (q : ℕ) → KeptAt (m + 1) l.states left T slots slots' (Some q) → StageDone op m l left right slots slots' (Ok (record { sets = n; states = q }))
+      done_made slots' q K =
+          let k = K.answer in
           let v : Slot l.states (suc m) (drop left slots') = rw (add-one m) at k.0.slot in
           let c : slot_machine l.states (suc m) (drop left slots') ≡ smallest (m + 1) T = ap (λ k. slot_machine l.states k (drop left slots')) (sym (add-one m)) ∙ k.0.machine in
           record {

@@ -8,10 +8,31 @@ pub struct Limits {
     pub states: usize,
 }
 
-// The numbers of sets and of states, or a refusal: more sets than the limit, or else more states.
-#[derive(Clone, Copy)]
-pub enum Staged {
-    Made(usize, usize),
+// How many sets a stage made, and how many states its machine has.
+#[derive(Clone, Copy, PartialEq, Eq, Debug)]
+pub struct Made {
+    pub sets: usize,
+    pub states: usize,
+}
+
+// Why a stage is refused: more sets than the limit, or else more states.
+#[derive(Clone, Copy, PartialEq, Eq, Debug)]
+pub enum TooMany {
     TooManySets,
     TooManyStates,
+}
+
+impl TooMany {
+    ghost use Rattle.std.specs.Prelude.{◌≡◌};
+    ghost use Rattle.answers.specs.Refusal.{refusal_of};
+
+    // The number of the refusal.
+    pub fn number(self) -> u8
+        ensures { result ≡ refusal_of self }
+    {
+        match self {
+            TooMany::TooManySets => 8,
+            TooMany::TooManyStates => 9,
+        }
+    }
 }

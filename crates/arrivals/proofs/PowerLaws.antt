@@ -2,8 +2,8 @@
 use mathlib.Core.Path.{◌≡◌, sym, ap}
 use mathlib.Core.Bool.{true, false, not}
 use mathlib.Core.Logic.{inl, inr}
-use Prim.Native.Nat.{ℕ, zero, suc, ◌*◌, ◌/◌, ◌^◌, ◌≤◌, ◌<◌}
-use native.Mathlib.Nat.{pow-suc, pow-zero, mul-zero, pow-le-pow_right, div-lt_iff_lt-mul, le_trans, lt_of_lt_of_le}
+use Prim.Native.Nat.{ℕ, zero, suc, ◌*◌, ◌^◌, ◌≤◌, ◌<◌}
+use native.Mathlib.Nat.{pow-suc, pow-zero, mul-zero, pow-le-pow_right, le_trans}
 use native.Mathlib.Omega.{arith}
 use Rattle.automata.specs.Basics.{LtCases, lt_cases, lt_ltb, ltb_false}
 use Rattle.automata.specs.Decide.{contradict}
@@ -47,14 +47,10 @@ powers_fit m k h j b = go (lt_cases 0 m)
     go (inl p) = le_trans (pow-le-pow_right p.0 b) h
     go (inr p) = let z : m ≡ 0 = omega arith in rw z (power_none j)
 
--- one factor more, where the power so far is at most the quotient, or above it
-pub power_more : (m i power : ℕ) → 0 < m → power ≡ m ^ i → power ≤ most_words / m → power * m ≤ most_words
-power_more m i power h e b = go (lt_cases most_words (power * m))
+-- A product on the way that does not fit
+pub power_past : (m i k power : ℕ) → power ≡ m ^ i → most_words < power * m → i < k → most_words < m ^ k
+power_past m i k power e b c = go (lt_cases 0 m)
   where
-    go : LtCases most_words (power * m) → power * m ≤ most_words
-    go (inl p) = absurd (omega (arith, (div-lt_iff_lt-mul h).1 p.0))
-    go (inr p) = p.0
-
-pub power_past : (m i k power : ℕ) → 0 < m → power ≡ m ^ i → most_words / m < power → i < k → most_words < m ^ k
-power_past m i k power h e b c =
-    lt_of_lt_of_le ((div-lt_iff_lt-mul h).0 b) (rw (e, ← pow-suc m i) (pow-le-pow_right h c))
+    go : LtCases 0 m → most_words < m ^ k
+    go (inl p) = let x : power * m ≤ m ^ k = rw (e, ← pow-suc m i) (pow-le-pow_right p.0 c) in omega (arith, b, x)
+    go (inr p) = let z : m ≡ 0 = omega arith in absurd (omega (arith, b, ap (λ x. power * x) z, mul-zero power))

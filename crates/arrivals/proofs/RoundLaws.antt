@@ -1,71 +1,62 @@
 -- What holds of the rows between two stores and between two letters.
 use mathlib.Core.Path.{◌≡◌, refl, sym, ap, ◌∙◌}
 use mathlib.Core.Bool.{Bool, true, false}
-use mathlib.Core.Logic.{inl, inr, ◌≢◌}
+use mathlib.Core.Logic.{◌≢◌}
 use mathlib.Core.List.{List}
-use Prim.Native.Nat.{ℕ, suc, ◌+◌, ◌*◌, ◌-◌, ◌/◌, ◌%◌, ◌^◌, ◌≤◌, ◌<◌}
+use Prim.Native.Nat.{ℕ, suc, ◌+◌, ◌*◌, ◌-◌, ◌^◌, ◌≤◌, ◌<◌}
 use native.Mathlib.Nat.{mul-add, mul-one, mul-le-mul_left, mul-le-mul_right, zero-mul, mul-zero, mul-suc, one-mul, suc-mul}
 use native.Mathlib.Omega.{arith}
-use lib.ListN.{length, get_or, set, length-set}
-use lib.Seq.{get_or-set_same, get_or-set_other}
+use lib.ListN.{length, get_or, set, take, drop, replicate, length-set, length-replicate, get_or-replicate}
+use lib.Seq.{get_or-take, length-take-le}
+use Rattle.std.proofs.lemmas.List.{get_or-drop, length-drop}
 use lib.Dec.{eqb}
-use Rattle.automata.specs.Booleans.{choose, not_true}
-use Rattle.automata.specs.Basics.{LtCases, lt_cases, nat_test}
+use Rattle.automata.specs.Booleans.{choose}
 use Rattle.arrivals.specs.Weights.{most_words, sum_below, weighed, behind, before, each, mark_weight}
-use Rattle.arrivals.specs.WeightLaws.{sum_most, sum_at, weighed_more, weighed_none, weighed_at, behind_each, earlier_each}
-use Rattle.arrivals.specs.Rounds.{Passable, Passed, Cleared, Targets, Roomy, Advanced, Started, Startable, Arrived, Begun, Countable}
+use Rattle.arrivals.specs.WeightLaws.{sum_alike, sum_most, sum_at, weighed_more, weighed_none, weighed_at, behind_each, earlier_each}
+use Rattle.arrivals.specs.Rounds.{Passable, Passed, Targets, Roomy, Advanced, Started, Startable, Arrived, Begun, Countable}
 
 -- ---- one state: the first i moves are passed
 
-module _ (bs : List ℕ) (at m words : ℕ) (row : List ℕ) (P : Passable bs at m words row) where
-  pub passed_none : Passed bs at 0 words row row
-  unfolding behind
+module _ (moves : List ℕ) (words : ℕ) (next : List ℕ) (P : Passable moves words next) where
+  pub passed_none : Passed moves 0 words next next
   passed_none = record { long = refl; sum = λ w. omega (arith, mul-zero words) }
 
-  module _ (i : ℕ) (now : List ℕ) (I : Passed bs at i words row now) (h : i < m) where
+  module _ (i : ℕ) (now : List ℕ) (I : Passed moves i words next now) (h : i < length moves) where
     abbrev t : ℕ
-    t = get_or bs (at + i) 0
+    t = get_or moves i 0
 
-    pub place : at + i < length bs
-    place = omega (arith, P.long)
+    state : t < length now
+    state = omega (arith, P.inside i h, I.long)
 
-    pub state : t < length now
-    state = omega (arith, P.inside (at + i) place, I.long)
+    ones : sum_below (λ j. 1) i ≡ i
+    unfolding behind
+    ones = behind_each moves 0 i
 
     -- The words fit,
     pub words_fit : get_or now t 0 + words ≤ most_words
-    words_fit = omega (arith, weighed_at now t state, I.sum each, ap (λ x. words * x) (behind_each bs at i), mul_suc_most, P.fits)
+    words_fit = omega (arith, weighed_at now t state, I.sum each, ap (λ x. words * x) ones, mul_suc_most, P.fits)
       where
-        mul_suc_most : words * i + words ≤ words * m
+        mul_suc_most : words * i + words ≤ words * length moves
         mul_suc_most = omega (arith, mul-suc words i, mul-le-mul_left words h)
 
     -- and are passed to one state more.
-    pub passed_more : Passed bs at (suc i) words row (set now t (get_or now t 0 + words))
-    unfolding behind
+    pub passed_more : Passed moves (suc i) words next (set now t (get_or now t 0 + words))
     passed_more = record {
       long = length-set now t (get_or now t 0 + words) ∙ I.long;
-      sum = λ w. weighed_more w now t words state ∙ ap (λ x. x + words * w t) (I.sum w) ∙ omega (arith, mul-add words (sum_below (λ j. w (get_or bs (at + j) 0)) i) (w t));
+      sum = λ w. weighed_more w now t words state ∙ ap (λ x. x + words * w t) (I.sum w) ∙ omega (arith, mul-add words (sum_below (λ j. w (get_or moves j 0)) i) (w t));
     }
 
 -- ---- an empty row
 
--- The first p entries are 0.
-pub record ClearedTo (row now : List ℕ) (p : ℕ) : Type 0 where
-  pub long : length now ≡ length row
-  pub none : (q : ℕ) → q < p → get_or now q 0 ≡ 0
+pub record Cleared (row row' : List ℕ) : Type 0 where
+  pub long : length row' ≡ length row
+  pub none : (p : ℕ) → p < length row → get_or row' p 0 ≡ 0
 
-pub cleared_none : (row : List ℕ) → ClearedTo row row 0
-cleared_none row = record { long = refl; none = λ q h. absurd (omega arith) }
-
-pub cleared_more : (row now : List ℕ) (p : ℕ) → ClearedTo row now p → p < length now → ClearedTo row (set now p 0) (suc p)
-cleared_more row now p I h = record { long = length-set now p 0 ∙ I.long; none = λ q b. go q b (lt_cases q p) }
-  where
-    go : (q : ℕ) → q < suc p → LtCases q p → get_or (set now p 0) q 0 ≡ 0
-    go q b (inl y) = get_or-set_other now p q 0 0 (λ e. absurd (omega (arith, y.0))) ∙ I.none q y.0
-    go q b (inr y) = let z : q ≡ p = omega arith in rw z (get_or-set_same now p 0 0 h)
-
-pub cleared_done : (row now : List ℕ) (p : ℕ) → ClearedTo row now p → length now ≤ p → Cleared row now
-cleared_done row now p I h = record { long = I.long; none = λ q b. I.none q (omega (arith, I.long)) }
+pub cleared : (row now : List ℕ) → now ≡ replicate (length row) 0 → Cleared row now
+cleared row now e = record {
+  long = ap length e ∙ length-replicate {A = ℕ} (length row) 0;
+  none = λ p h. rw e (get_or-replicate {A = ℕ} (length row) p 0 0 h);
+}
 
 -- the empty word
 pub started : (row now : List ℕ) → Cleared row now → 0 < length row → Started row (set now 0 1)
@@ -97,19 +88,32 @@ module _ (bs : List ℕ) (m : ℕ) (here next : List ℕ) (R : Roomy bs m here n
     pub row_place : p * m + m ≤ length bs
     row_place = omega (arith, R.targets.long, suc-mul p m, mul-le-mul_right m h)
 
-    pub row_passable : Passable bs (p * m) m (get_or here p 0) now
+    -- the state's moves, cut out
+    abbrev cut : List ℕ
+    cut = take (p * m + m - p * m) (drop (p * m) bs)
+
+    cut_long : length cut ≡ m
+    cut_long = length-take-le (p * m + m - p * m) (drop (p * m) bs) (omega (arith, length-drop (p * m) bs, row_place)) ∙ omega arith
+
+    cut_entry : (i : ℕ) → i < m → get_or cut i 0 ≡ get_or bs (p * m + i) 0
+    cut_entry i v = get_or-take (p * m + m - p * m) (drop (p * m) bs) i 0 (omega arith) ∙ get_or-drop (p * m) bs i 0
+
+    pub row_passable : Passable cut (get_or here p 0) now
     unfolding weighed
     row_passable = record {
-      long = row_place;
-      inside = λ q b. omega (arith, R.targets.inside q b, I.long);
-      fits = omega (arith, I.sum each, ap (λ x. get_or here p 0 * x) (behind_each bs (p * m) m), sum_at (λ q. get_or here q 0 * before bs m each q) (length here) p h, fits);
+      inside = λ i v. let z : i < m = rw cut_long at v in rw (cut_entry i z) (omega (arith, R.targets.inside (p * m + i) (omega (arith, row_place)), I.long));
+      fits = rw cut_long (omega (arith, I.sum each, ap (λ x. get_or here p 0 * x) (behind_each bs (p * m) m), sum_at (λ q. get_or here q 0 * before bs m each q) (length here) p h, fits));
     }
       where
         fits : sum_below (λ q. get_or here q 0 * before bs m each q) (length here) ≤ most_words
         fits = R.fits
 
-    pub advanced_more : (now' : List ℕ) → Passed bs (p * m) m (get_or here p 0) now now' → AdvancedTo bs m here now' (suc p)
-    advanced_more now' J = record { long = J.long ∙ I.long; sum = λ w. J.sum w ∙ ap (λ x. x + get_or here p 0 * before bs m w p) (I.sum w) }
+    alike : (w : ℕ → ℕ) → sum_below (λ j. w (get_or cut j 0)) (length cut) ≡ before bs m w p
+    unfolding behind
+    alike w = rw cut_long (sum_alike _ _ m (λ i v. ap w (cut_entry i v)))
+
+    pub advanced_more : (now' : List ℕ) → Passed cut (length cut) (get_or here p 0) now now' → AdvancedTo bs m here now' (suc p)
+    advanced_more now' J = record { long = J.long ∙ I.long; sum = λ w. J.sum w ∙ ap (λ x. weighed w now + get_or here p 0 * x) (alike w) ∙ ap (λ x. x + get_or here p 0 * before bs m w p) (I.sum w) }
 
     pub advanced_idle : get_or here p 0 ≡ 0 → AdvancedTo bs m here now (suc p)
     advanced_idle e = record { long = I.long; sum = λ w. omega (arith, I.sum w, ap (λ x. x * before bs m w p) e, zero-mul (before bs m w p)) }
@@ -156,18 +160,9 @@ pub record Going (bs : List ℕ) (m k n : ℕ) (here next : List ℕ) (turns : �
   pub row : Arrived bs m (k - (turns + turns)) n here
   pub other : length next ≡ n
 
-pub going_first : (bs : List ℕ) (m k : ℕ) (here next here' next' : List ℕ) → Startable bs m k here next → Begun bs m (k % 2) here here' next'
-    → Going bs m k (length here') here' next' (k / 2)
-going_first bs m k here next here' next' S B =
-    let e : k - (k / 2 + k / 2) ≡ k % 2 = omega arith in
-    rw B.row.long (record { targets = S.targets; fits = S.fits; left = omega arith; row = rw e B.row; other = B.other })
-
 module _ (bs : List ℕ) (m k n : ℕ) (here next : List ℕ) (turns : ℕ) (G : Going bs m k n here next turns) where
   abbrev j : ℕ
   j = k - (turns + turns)
-
-  pub going_done : turns ≡ 0 → Arrived bs m k n here
-  going_done e = let z : k ≡ k - (turns + turns) = omega arith in rw z G.row
 
   module _ (h : 0 < turns) where
     pub going_roomy : Roomy bs m here next
@@ -211,11 +206,3 @@ module _ (row ms : List ℕ) (mark : ℕ) (C : Countable row ms) where
     where
       fits : sum_below (λ q. get_or row q 0 * 1) (length row) ≤ most_words
       fits = C.fits
-
-  pub total_more : (p : ℕ) → get_or ms p 0 ≡ mark → total_to row ms mark (suc p) ≡ total_to row ms mark p + get_or row p 0
-  total_more p e = ap (λ x. total_to row ms mark p + x) (ap (λ b. get_or row p 0 * choose b (λ _. 1) (λ _. 0)) (ap (λ x. eqb x mark) e ∙ nat_test.whole mark) ∙ mul-one (get_or row p 0))
-
-  pub total_other : (p : ℕ) → get_or ms p 0 ≢ mark → total_to row ms mark (suc p) ≡ total_to row ms mark p
-  total_other p e =
-      let f : eqb (get_or ms p 0) mark ≡ false = not_true (eqb (get_or ms p 0) mark) (λ t. e (nat_test.sound (get_or ms p 0) mark t)) in
-      omega (arith, ap (λ b. get_or row p 0 * choose b (λ _. 1) (λ _. 0)) f, mul-zero (get_or row p 0))

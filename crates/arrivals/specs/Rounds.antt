@@ -1,25 +1,20 @@
 -- What the parts of a count require and leave. A row of words is told by its sums, for whatever weights of the states.
 use Rattle.std.specs.Prelude.{◌≡◌, List, ℕ, ◌+◌, ◌*◌, ◌^◌, ◌≤◌, ◌<◌, length, get_or}
-use Rattle.arrivals.specs.Weights.{most_words, weighed, behind, before, earlier, each}
+use Rattle.arrivals.specs.Weights.{most_words, sum_below, weighed, before, earlier, each}
 
 -- ---- one state
 
--- The moves from the place `at` on lead to states of the row, and its words, with those to come, fit.
-pub record Passable (bs : List ℕ) (at m words : ℕ) (row : List ℕ) : Type 0 where
-  pub long : at + m ≤ length bs
-  pub inside : (q : ℕ) → q < length bs → get_or bs q 0 < length row
-  pub fits : weighed each row + words * m ≤ most_words
+-- The moves of a row lead to states of the next row of words, and its words, with those to come, fit.
+pub record Passable (moves : List ℕ) (words : ℕ) (next : List ℕ) : Type 0 where
+  pub inside : (i : ℕ) → i < length moves → get_or moves i 0 < length next
+  pub fits : weighed each next + words * length moves ≤ most_words
 
--- So many words more for each state to which a move leads.
-pub record Passed (bs : List ℕ) (at m words : ℕ) (row row' : List ℕ) : Type 0 where
-  pub long : length row' ≡ length row
-  pub sum : (w : ℕ → ℕ) → weighed w row' ≡ weighed w row + words * behind bs at m w
+-- So many words more for each state to which one of the first i moves leads.
+pub record Passed (moves : List ℕ) (i words : ℕ) (next next' : List ℕ) : Type 0 where
+  pub long : length next' ≡ length next
+  pub sum : (w : ℕ → ℕ) → weighed w next' ≡ weighed w next + words * sum_below (λ j. w (get_or moves j 0)) i
 
 -- ---- one letter
-
-pub record Cleared (row row' : List ℕ) : Type 0 where
-  pub long : length row' ≡ length row
-  pub none : (p : ℕ) → p < length row → get_or row' p 0 ≡ 0
 
 -- m moves for each of the n states, each to a state.
 pub record Targets (bs : List ℕ) (m n : ℕ) : Type 0 where

@@ -4,39 +4,17 @@
 
 pub mod power;
 
-ghost use Rattle.std.specs.Prelude.{◌≡◌, ◌<◌, length, get_or};
+ghost use Rattle.std.specs.Prelude.{◌≡◌, ◌<◌, length};
 ghost use Rattle.arrivals.specs.Weights.{weighed, mark_weight};
-ghost use Rattle.arrivals.specs.Rounds.{Passable, Passed, Cleared, Roomy, Advanced, Started, Startable, Begun, Arrived, Countable};
+ghost use Rattle.arrivals.specs.Rounds.{Passable, Passed, Roomy, Advanced, Started, Startable, Begun, Arrived, Countable};
 
-// The state that a move leads to.
-fn target(moves: &[u8], at: usize) -> usize
-    requires { at < length moves.now }
-    ensures { result ≡ get_or moves.now at 0 }
+// The words of a state, with a letter more: so many more for each state to which a move of its row leads.
+fn pass_on(row: &[u8], words: u64, next: &mut [u64])
+    requires { Passable row.now words next.old }
+    ensures { Passed row.now (length row.now) words next.old next.new }
 {
-    moves[at] as usize
-}
-
-// The words of a state, with a letter more: so many more for each state to which one of the m moves from the place `at` on leads.
-fn pass_on(moves: &[u8], at: usize, m: usize, words: u64, next: &mut [u64])
-    requires { Passable moves.now at m words next.old }
-    ensures { Passed moves.now at m words next.old next.new }
-{
-    let mut i = 0;
-    while i < m {
-        let t = target(moves, at + i);
-        next[t] += words;
-        i += 1;
-    }
-}
-
-// No words.
-fn clear(row: &mut [u64])
-    ensures { Cleared row.old row.new }
-{
-    let mut p = 0;
-    while p < row.len() {
-        row[p] = 0;
-        p += 1;
+    for t in row {
+        next[*t as usize] += words;
     }
 }
 
@@ -45,14 +23,12 @@ fn advance(moves: &[u8], m: usize, here: &[u64], next: &mut [u64])
     requires { Roomy moves.now m here.now next.old }
     ensures { Advanced moves.now m here.now next.old next.new }
 {
-    clear(next);
-    let mut p = 0;
-    while p < here.len() {
-        let words = here[p];
-        if words != 0 {
-            pass_on(moves, p * m, m, words, next);
+    next.fill(0);
+    for (p, words) in here.iter().enumerate() {
+        if *words != 0 {
+            let at = p * m;
+            pass_on(&moves[at..at + m], *words, next);
         }
-        p += 1;
     }
 }
 
@@ -61,7 +37,7 @@ fn start(row: &mut [u64])
     requires { 0 < length row.old }
     ensures { Started row.old row.new }
 {
-    clear(row);
+    row.fill(0);
     row[0] = 1;
 }
 
@@ -84,11 +60,9 @@ pub fn arrive(moves: &[u8], m: usize, k: usize, here: &mut [u64], next: &mut [u6
     ensures { Arrived moves.now m k (length here.old) here.new }
 {
     begin(moves, m, k % 2, here, next);
-    let mut turns = k / 2;
-    while 0 < turns {
+    for _ in 0..k / 2 {
         advance(moves, m, &here[..], next);
         advance(moves, m, &next[..], here);
-        turns -= 1;
     }
 }
 
@@ -98,12 +72,10 @@ pub fn total(words: &[u64], marks: &[u8], mark: u8) -> u64
     ensures { result ≡ weighed (mark_weight marks.now mark) words.now }
 {
     let mut sum = 0;
-    let mut p = 0;
-    while p < words.len() {
+    for (p, count) in words.iter().enumerate() {
         if marks[p] == mark {
-            sum += words[p];
+            sum += *count;
         }
-        p += 1;
     }
     sum
 }

@@ -2,24 +2,16 @@
 ghost use Rattle.std.specs.Prelude.{◌≡◌, ◌^◌};
 ghost use Rattle.arrivals.specs.Weights.{fits as fits_of};
 
-const MOST: usize = 18446744073709551615;
-
-// m to the power k is at most 18,446,744,073,709,551,615; a factor at a time, each tested before the product is made.
+// m to the power k is at most 18,446,744,073,709,551,615: so is each product on the way, a factor at a time.
 pub fn fits(m: usize, k: usize) -> bool
     ensures { result ≡ fits_of (m ^ k) }
 {
-    if m == 0 {
-        return true;
-    }
-    let most = MOST / m;
-    let mut power = 1;
-    let mut i = 0;
-    while i < k {
-        if most < power {
+    let mut power: usize = 1;
+    for _ in 0..k {
+        let Some(product) = power.checked_mul(m) else {
             return false;
-        }
-        power *= m;
-        i += 1;
+        };
+        power = product;
     }
     true
 }

@@ -20,6 +20,10 @@ use Rattle.card.specs.Reply.{refused, asked}
 use Rattle.card.specs.Judge.{owed, judge}
 use Rattle.card.specs.Step.{Stepped, moved, owing, stopped, landing, step_on}
 use Rattle.card.specs.Run.{run_start}
+use Rattle.fields.specs.Counts.{Counted}
+use Rattle.loading.specs.declared.Fault.{Fault}
+use Rattle.loading.specs.Faults.{fault_number}
+use Rattle.loading.proofs.LoadLaws.{loading_accepted, loading_refused}
 use Rattle.run.specs.declared.Run.{Run as Run'}
 use Rattle.run.specs.Walk.{Ready, Runs}
 use Rattle.run.proofs.WalkLaws.{move_is, move_inside, mark_is}
@@ -62,14 +66,13 @@ module _ (c : List ℕ) (m n : ℕ) (y : Ready c m n) (q : ℕ) (h : q < n) (ms 
 
 -- ---- judging from loading
 
-pub loaded_ready : (c : List ℕ) (m n : ℕ) → holds m n ≡ load narrow c → Ready c m n
-unfolding load
-loaded_ready c m n e = go (bool_cases (eqb (load_test narrow c) 0))
-  where
-    go : (eqb (load_test narrow c) 0 ≡ true) ⊎ (eqb (load_test narrow c) 0 ≡ false) → Ready c m n
-    go (inl t) = let f : holds m n ≡ holds (letter_count narrow c) (state_count narrow c) = rw t at e in
-        record { loads = nat_test.sound (load_test narrow c) 0 t; letters = cc; states = cc }
-    go (inr t) = let f : holds m n ≡ rejected (load_test narrow c) = rw t at e in absurd (let z : ◌≡◌ {A = ℕ} 0 1 = cc in omega arith)
+-- the bytes b are those of the layout, which were tested
+module _ (b c : List ℕ) (e : c ≡ b) where
+  pub load_refused : (f : Fault) → load_test narrow c ≡ fault_number f → rejected (fault_number f) ≡ load narrow b
+  load_refused f t = rw (← e) (loading_refused c f t)
+
+  pub load_accepted : (m n : ℕ) → Counted narrow c m n → load_test narrow c ≡ 0 → holds m n ≡ load narrow b
+  load_accepted m n r t = rw (← e) (loading_accepted c m n r t)
 
 -- what loading refuses is what the card's test says
 pub rejected_test : (c : List ℕ) (k : ℕ) → rejected k ≡ load narrow c → (load_test narrow c ≡ k) × (eqb (load_test narrow c) 0 ≡ false)

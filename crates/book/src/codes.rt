@@ -1,4 +1,5 @@
 // The codes of a line's program, by the names of specs/Program.antt. A letter and a name are their own codes.
+// Stays: as bytes, since a program lies in a lent buffer of bytes, with letters and names among its codes.
 pub const ALL_CODE: u8 = 1;
 
 pub const MARK_CODE: u8 = 2;

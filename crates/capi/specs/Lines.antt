@@ -1,7 +1,8 @@
 -- What the entry for many plans hands back.
-use Rattle.std.specs.Prelude.{◌≡◌, List, ℕ, length}
+use Rattle.std.specs.Prelude.{◌≡◌, Result, List, ℕ, length}
 use Rattle.std.proofs.Common.{ap, ◌∙◌}
-use Rattle.plans.specs.declared.Many.{Many}
+use Rattle.loading.specs.declared.Fault.{Fault}
+use Rattle.plans.specs.declared.Judged.{Judged}
 use Rattle.plans.specs.Many.{many_numbers, many_replies, many_of, JudgesLines}
 use Rattle.numbers.specs.Handed.{handed, numbers}
 
@@ -11,5 +12,5 @@ pub record JudgesMany (c s old new : List ℕ) (r : ℕ) (out : List ℕ) : Type
   pub replies : new ≡ many_replies c s old
 
 -- the numbers are those of the answer
-pub many_as : (c s old new : List ℕ) (a : Many) (r : ℕ) (out : List ℕ) → JudgesLines c s old new a → handed r out ≡ numbers (many_of a) → JudgesMany c s old new r out
+pub many_as : (c s old new : List ℕ) (a : Result Judged Fault) (r : ℕ) (out : List ℕ) → JudgesLines c s old new a → handed r out ≡ numbers (many_of a) → JudgesMany c s old new r out
 many_as c s old new a r out j p = record { answer = p ∙ ap numbers j.answer; replies = j.replies }

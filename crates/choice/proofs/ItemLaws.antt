@@ -15,8 +15,7 @@ use Rattle.choice.specs.ReadingLaws.{read_to, read_not}
 use Rattle.signs.specs.Steps.{Put, Suffixed, complements, Item, Nots, Negated}
 use Rattle.signs.specs.declared.Spot.{Spot}
 use Rattle.lexer.specs.declared.Cursor.{Cursor}
-use Rattle.choice.specs.declared.Made.{Made}
-use Rattle.choice.specs.declared.Made.TheVariants.{Done, Refused}
+use Rattle.std.specs.Prelude.{Option, None, Some}
 use Rattle.lexer.proofs.TokenLaws.{at_fewer}
 use Rattle.choice.proofs.ReadLaws.{stop, seq}
 use Rattle.choice.proofs.KindLaws.{item_atom, atom_leaf, atom_bracket, atom_none, closed_not, closed_to}
@@ -31,8 +30,8 @@ is_item i = record { run = i.run }
 
 -- ---- an item: k `!`, an atom, the signs behind it, k codes of `!`
 
-module _ {s o o₁ : List ℕ} {c : Spot} {n : Cursor} {k : ℕ} {a : Made} (x : Nots s c.cursor.at n.at k) (d : Reads an_atom s o (record { cursor = n; pos = c.pos }) o₁ a) where
-  pub item_refused : a ≡ Refused → Reads an_item s o c o₁ Refused
+module _ {s o o₁ : List ℕ} {c : Spot} {n : Cursor} {k : ℕ} {a : Option Spot} (x : Nots s c.cursor.at n.at k) (d : Reads an_atom s o (record { cursor = n; pos = c.pos }) o₁ a) where
+  pub item_refused : a ≡ None → Reads an_item s o c o₁ None
   item_refused q =
       let y = read_not d q in
       record {
@@ -42,7 +41,7 @@ module _ {s o o₁ : List ℕ} {c : Spot} {n : Cursor} {k : ℕ} {a : Made} (x :
         };
       }
 
-  pub item_done : {o₂ o' : List ℕ} {y m r : Spot} → a ≡ Done y → Suffixed s o₁ y o₂ m → Negated o₂ m k o' r → Reads an_item s o c o' (Done r)
+  pub item_done : {o₂ o' : List ℕ} {y m r : Spot} → a ≡ Some y → Suffixed s o₁ y o₂ m → Negated o₂ m k o' r → Reads an_item s o c o' (Some r)
   item_done {o₂} {o'} {y} {m} {r} q u v =
       let t = read_to d q in
       let z = u.goes (take c.pos o) t.expr t.code in
@@ -61,7 +60,7 @@ module _ {s o o₁ : List ℕ} {c : Spot} {n : Cursor} {k : ℕ} {a : Made} (x :
 
 -- ---- an atom
 
-pub atom_put : {s o o' : List ℕ} {c r : Spot} {k b : ℕ} {n : Cursor} → At s c.cursor.at k b n.at → letter_kind ≤ k → k < open_kind → Put o (record { cursor = n; pos = c.pos }) b o' r → Reads an_atom s o c o' (Done r)
+pub atom_put : {s o o' : List ℕ} {c r : Spot} {k b : ℕ} {n : Cursor} → At s c.cursor.at k b n.at → letter_kind ≤ k → k < open_kind → Put o (record { cursor = n; pos = c.pos }) b o' r → Reads an_atom s o c o' (Some r)
 atom_put {s} {o} {o'} {c} {r} {k} {b} {n} x h h' w =
     let y = atom_leaf x h h' in
     let there : left s r ≡ tokens (drop n.at s) = same_left s (record { cursor = n; pos = c.pos }) r w.at_is in
@@ -77,17 +76,17 @@ atom_put {s} {o} {o'} {c} {r} {k} {b} {n} x h h' w =
       };
     }
 
-pub atom_refused : {s o : List ℕ} {c : Spot} (k : ℕ) → k ≡ kind_ahead (left s c) → (letter_kind ≤ k → open_kind < k) → Reads an_atom s o c o Refused
+pub atom_refused : {s o : List ℕ} {c : Spot} (k : ℕ) → k ≡ kind_ahead (left s c) → (letter_kind ≤ k → open_kind < k) → Reads an_atom s o c o None
 atom_refused {s} {c = c} k q h = record { says = record { reads = stop (atom_none (left s c) k q h); before = refl } }
 
 -- a choice in brackets
-module _ {s o o' : List ℕ} {c : Spot} {k b : ℕ} {n : Cursor} {a : Made} (x : At s c.cursor.at k b n.at) (e : k ≡ open_kind) (d : Reads a_choice s o (record { cursor = n; pos = c.pos }) o' a) where
-  pub bracket_refused : a ≡ Refused → Reads an_atom s o c o' Refused
+module _ {s o o' : List ℕ} {c : Spot} {k b : ℕ} {n : Cursor} {a : Option Spot} (x : At s c.cursor.at k b n.at) (e : k ≡ open_kind) (d : Reads a_choice s o (record { cursor = n; pos = c.pos }) o' a) where
+  pub bracket_refused : a ≡ None → Reads an_atom s o c o' None
   bracket_refused q =
       let y = read_not d q in
       record { says = record { reads = seq (λ f. closed) y.reads (atom_bracket x e) (omega (arith, at_fewer x)) (λ f h. refl); before = y.before } }
 
-  pub bracket_open : {y : Spot} (j : ℕ) → a ≡ Done y → j ≡ kind_ahead (left s y) → (j ≡ close_kind → ⊥) → Reads an_atom s o c o' Refused
+  pub bracket_open : {y : Spot} (j : ℕ) → a ≡ Some y → j ≡ kind_ahead (left s y) → (j ≡ close_kind → ⊥) → Reads an_atom s o c o' None
   bracket_open {y} j q p h =
       let t = read_to d q in
       record {
@@ -97,7 +96,7 @@ module _ {s o o' : List ℕ} {c : Spot} {k b : ℕ} {n : Cursor} {a : Made} (x :
         };
       }
 
-  pub bracket_done : {y : Spot} {j b' : ℕ} {n' : Cursor} → a ≡ Done y → At s y.cursor.at j b' n'.at → j ≡ close_kind → Reads an_atom s o c o' (Done (record { cursor = n'; pos = y.pos }))
+  pub bracket_done : {y : Spot} {j b' : ℕ} {n' : Cursor} → a ≡ Some y → At s y.cursor.at j b' n'.at → j ≡ close_kind → Reads an_atom s o c o' (Some (record { cursor = n'; pos = y.pos }))
   bracket_done q z h =
       let t = read_to d q in
       record {

@@ -1,12 +1,12 @@
 -- What each part of a choice comes to, by the kind of the next token.
 use mathlib.Core.Path.{◌≡◌, refl, sym, ap, ◌∙◌}
-use mathlib.Core.Bool.{Bool, true, false, ◌&&◌}
+use mathlib.Core.Bool.{true, false}
 use mathlib.Core.Logic.{inl, inr}
 use mathlib.Core.List.{List, [], ◌∷◌, ◌++◌}
 use Prim.Native.Nat.{ℕ, zero, suc, ◌<◌, ◌≤◌}
 use native.Mathlib.Omega.{arith}
-use borrow.Author.Tests.{ne_eqb, le-leb, lt-leb}
-use lib.Dec.{eqb, leb}
+use borrow.Author.Tests.{ne_eqb, le-leb}
+use lib.Dec.{eqb}
 use lib.ListN.{drop}
 use Rattle.automata.specs.Basics.{SameCases, nat_test, same_cases}
 use Rattle.automata.specs.Stages.{either, both, without}
@@ -33,16 +33,6 @@ blends_stop (b ∷ ts) k q h h' f e = rw (ne_eqb (kind_of b) ampersand_kind (λ 
 pub chains_stop : (ts : List ℕ) (k : ℕ) → k ≡ kind_ahead ts → item_kind k ≡ false → Stops more_chains ts
 chains_stop [] k q h f e = refl
 chains_stop (b ∷ ts) k q h f e = let z : item_kind (kind_of b) ≡ false = ap item_kind (sym q) ∙ h in rw z
-
-pub below_items : (k : ℕ) → k < letter_kind → item_kind k ≡ false
-below_items k h = rw (lt-leb letter_kind k h)
-
-pub above_items : (k : ℕ) → bang_kind < k → item_kind k ≡ false
-above_items k h = go (leb letter_kind k) (lt-leb k bang_kind h)
-  where
-    go : (t : Bool) → leb k bang_kind ≡ false → t && leb k bang_kind ≡ false
-    go true q = q
-    go false q = refl
 
 item_inside : (k : ℕ) → letter_kind ≤ k → k ≤ bang_kind → item_kind k ≡ true
 item_inside k h h' = rw (le-leb letter_kind k h, le-leb k bang_kind h')

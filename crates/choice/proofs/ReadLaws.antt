@@ -1,6 +1,5 @@
 -- Laws of reading with any fuel that is enough: one step of the definitions' reader for one step of the code.
 use mathlib.Core.Path.{◌≡◌, refl, sym, ap, ◌∙◌, subst}
-use mathlib.Core.Bool.{Bool, true, false}
 use mathlib.Core.List.{List, [], ◌∷◌, ◌++◌, append_assoc}
 use Prim.Native.Nat.{ℕ, zero, suc, ◌+◌, ◌*◌, ◌-◌, ◌<◌, ◌≤◌}
 use native.Mathlib.Omega.{arith}
@@ -14,7 +13,7 @@ use Rattle.signs.specs.Spots.{left}
 use Rattle.choice.specs.Reading.{Part, a_choice, a_blend, a_chain, an_item, an_atom, more_choices, more_blends, more_chains, read, rank, Is, To, Not, Reads}
 use Rattle.signs.specs.Steps.{Put, PutIf}
 use Rattle.signs.specs.declared.Spot.{Spot}
-use Rattle.choice.specs.declared.Made.TheVariants.{Done, Refused}
+use Rattle.std.specs.Prelude.{Option, None, Some}
 
 rank_positive : (p : Part) → 0 < rank p
 rank_positive a_choice = omega arith
@@ -130,18 +129,18 @@ pub record Behind (p : Part) (m : Expr → Part) (s o : List ℕ) (c : Spot) (o'
   pub goes : Goes m s code end o' n
   pub same_length : length o' ≡ length o
 
--- Before a part, which starts at v: what comes of it. If there is more than this part, b is the operator before it.
-pub record Ahead (l p : Part) (m : Expr → Part) (more : Bool) (b : ℕ) (s o : List ℕ) (c : Spot) (o' : List ℕ) (v : Spot) : Type 0 where
-  pub refused : (o'' : List ℕ) → Not p s o' v o'' → Reads l s o c o'' Refused
-  pub reads : (o₁ o₂ : List ℕ) (x n : Spot) → To p s o' v o₁ x → PutIf more o₁ x b o₂ n → length o₁ ≡ length o' → length o₂ ≡ length o₁ → Behind p m s o c o₂ n
+-- Before a part, which starts at v: what comes of it. The code is that of the operator before it, if another part stands there.
+pub record Ahead (l p : Part) (m : Expr → Part) (code : Option ℕ) (s o : List ℕ) (c : Spot) (o' : List ℕ) (v : Spot) : Type 0 where
+  pub refused : (o'' : List ℕ) → Not p s o' v o'' → Reads l s o c o'' None
+  pub reads : (o₁ o₂ : List ℕ) (x n : Spot) → To p s o' v o₁ x → PutIf code o₁ x o₂ n → length o₁ ≡ length o' → length o₂ ≡ length o₁ → Behind p m s o c o₂ n
   pub falls : length s - v.cursor.at ≤ length s - c.cursor.at
   pub room : v.pos + 2 * (length s - v.cursor.at) ≤ c.pos + 2 * (length s - c.cursor.at)
   pub same_length : length o' ≡ length o
 
 module _ {l p : Part} {m : Expr → Part} {r : ℕ} (w : Row l p m r) where
   -- no part was read yet
-  pub ahead_start : {b : ℕ} {s o : List ℕ} {c : Spot} → Ahead l p m false b s o c o c
-  ahead_start {b} {s} {o} {c} = record {
+  pub ahead_start : {s o : List ℕ} {c : Spot} → Ahead l p m None s o c o c
+  ahead_start {s} {o} {c} = record {
     refused = λ o'' y. record { says = record { reads = seq (λ f e us. read f (m e) us) y.reads (λ f. w.first f _) (omega (arith, w.part_less)) (λ f g. refl); before = y.before } };
     reads = λ o₁ o₂ x n t u h h'. record { code = o₁; end = x; first = t; goes = rw ((u.same refl).0, (u.same refl).1) (goes_start m s o₁ x); same_length = h' ∙ h };
     falls = omega arith;
@@ -150,7 +149,7 @@ module _ {l p : Part} {m : Expr → Part} {r : ℕ} (w : Row l p m r) where
   }
 
   -- the row ends
-  pub row_done : {s o o' : List ℕ} {c n : Spot} → Behind p m s o c o' n → Stops m (left s n) → Reads l s o c o' (Done n)
+  pub row_done : {s o o' : List ℕ} {c n : Spot} → Behind p m s o c o' n → Stops m (left s n) → Reads l s o c o' (Some n)
   row_done {s} {o} {o'} {c} {n} d st =
       let y = d.first in
       let g = d.goes in
@@ -170,7 +169,7 @@ module _ {l p : Part} {m : Expr → Part} {r : ℕ} (w : Row l p m r) where
 
   -- a later part is refused
   row_not : {s o o' o'' : List ℕ} {c n v : Spot} (op : Expr → Expr → Expr) → Behind p m s o c o' n → Not p s o' v o'' → Turn m p op (left s n) (left s v)
-      → v.pos ≡ n.pos → 6 * length (left s v) + rank p < 6 * length (left s n) + r → Reads l s o c o'' Refused
+      → v.pos ≡ n.pos → 6 * length (left s v) + rank p < 6 * length (left s n) + r → Reads l s o c o'' None
   row_not {s} {o} {o'} {o''} {c} {n} op d y' tu hv h =
       let y = d.first in
       let g = d.goes in
@@ -186,7 +185,7 @@ module _ {l p : Part} {m : Expr → Part} {r : ℕ} (w : Row l p m r) where
   -- one part more starts at v, joined by op, whose code is b
   pub ahead_more : {b : ℕ} {s o o' : List ℕ} {c n v : Spot} (op : Expr → Expr → Expr) → Behind p m s o c o' n → Turn m p op (left s n) (left s v)
       → v.pos ≡ n.pos → 6 * length (left s v) + rank p < 6 * length (left s n) + r → length (left s v) ≤ length (left s n) → length s - v.cursor.at ≤ length s - n.cursor.at
-      → ((e g : Expr) → postfix (op e g) ≡ postfix e ++ (postfix g ++ (b ∷ []))) → Ahead l p m true b s o c o' v
+      → ((e g : Expr) → postfix (op e g) ≡ postfix e ++ (postfix g ++ (b ∷ []))) → Ahead l p m (Some b) s o c o' v
   ahead_more {b} {s} {o} {o'} {c} {n} {v} op d tu hv h fw fl pf = record {
     refused = λ o'' y. row_not op d y tu hv h;
     reads = λ o₁ o₂ x k t u q q'. record {

@@ -1,13 +1,11 @@
 -- What the functions that read a choice promise: they read what the reader of the definitions reads, and write its code into the lent buffer.
-use Rattle.std.specs.Prelude.{◌≡◌, List, ◌++◌, ℕ, ◌+◌, ◌*◌, ◌-◌, ◌<◌, ◌≤◌, length, take}
+use Rattle.std.specs.Prelude.{◌≡◌, Option, None, Some, List, ◌++◌, ℕ, ◌+◌, ◌*◌, ◌-◌, ◌<◌, ◌≤◌, length, take}
 use Rattle.language.specs.Expression.{Expr}
 use Rattle.book.specs.Reader.{Read, got, bad, choice, choices, blend, blends, chain, chains, item, atom}
 use Rattle.book.specs.Program.{postfix}
 use Rattle.signs.specs.Buffer.{Grown}
 use Rattle.signs.specs.Spots.{left}
 use Rattle.signs.specs.declared.Spot.{Spot}
-use Rattle.choice.specs.declared.Made.{Made}
-use Rattle.choice.specs.declared.Made.TheVariants.{Done, Refused}
 
 -- The parts of a choice. A part that goes on has the expression that was read so far.
 pub data Part : Type 0 where
@@ -55,9 +53,9 @@ pub record Not (p : Part) (s o : List ℕ) (c : Spot) (o' : List ℕ) : Type 0 w
   pub reads : Is p (left s c) bad
   pub before : take c.pos o' ≡ take c.pos o
 
-abbrev pub Says : Part → List ℕ → List ℕ → Spot → List ℕ → Made → Type 0
-Says p s o c o' (Done n) = To p s o c o' n
-Says p s o c o' Refused = Not p s o c o'
+abbrev pub Says : Part → List ℕ → List ℕ → Spot → List ℕ → Option Spot → Type 0
+Says p s o c o' (Some n) = To p s o c o' n
+Says p s o c o' None = Not p s o c o'
 
-pub record Reads (p : Part) (s o : List ℕ) (c : Spot) (o' : List ℕ) (r : Made) : Type 0 where
+pub record Reads (p : Part) (s o : List ℕ) (c : Spot) (o' : List ℕ) (r : Option Spot) : Type 0 where
   pub says : Says p s o c o' r

@@ -1,168 +1,126 @@
-// Reads a choice of a line and writes its postfix code into a lent buffer: choice, blend, chain, item and atom call each other. Each call is at a
+// Reads a choice of a line and writes its postfix code into a lent buffer; where there is none, it answers nothing. choice, blend, chain, item and atom call each other. Each call is at a
 // later byte of the line, or of a smaller part: only brackets make calls deeper. What goes before or behind an item is passed by loops (`signs`). Each of
 // the five is called from one place alone, so that they become one function in the machine code, and only a bracket is a call.
-// `choice` is a part below the entries: its caller lends the table of kinds, has counted the brackets and lends two bytes of code for each byte that
-// is left of the line.
+// `choice` is a part below the entries: its caller has counted the brackets and lends two bytes of code for each byte that is left of the line.
 
 #![tactic(auto)]
 
-ghost use Rattle.lexer.specs.Kinds.{Kinds};
 ghost use Rattle.signs.specs.Spots.{Room};
 ghost use Rattle.choice.specs.Reading.{Reads, a_choice, a_blend, a_chain, an_item, an_atom};
 
 use book::codes::{EITHER_CODE, JOIN_CODE};
-use book::kinds::{
-    AMPERSAND_KIND, BANG_KIND, BAR_KIND, CLOSE_KIND, LETTER_KIND, MINUS_KIND, OPEN_KIND,
-};
-use lexer::kinds::KindTable;
+use lexer::kinds::Kind;
 use signs::{Spot, negate, nots, put, put_if, suffixed};
-
-#[derive(Clone, Copy)]
-pub enum Made {
-    Done(Spot),
-    Refused,
-}
 
 // Blends separated by '|'.
 #[cycle(atom_blend_chain_choice_item)]
-pub fn choice(kinds: &KindTable, s: &[u8], out: &mut [u8], c: Spot) -> Made
-    requires { Kinds kinds.now × Room s.now out.old c }
+pub fn choice(s: &[u8], out: &mut [u8], c: Spot) -> Option<Spot>
+    requires { Room s.now out.old c }
     ensures { Reads a_choice s.now out.old c out.new result }
 {
     let mut here = c;
-    let mut more = false;
+    let mut bar: Option<u8> = None;
+    // Stays: a walk along tokens, which tell its end; no index is counted.
     loop {
-        let Made::Done(n) = blend(kinds, s, out, here) else {
-            return Made::Refused;
-        };
-        let end = put_if(out, n, more, EITHER_CODE);
-        let cursor = end.cursor;
-        let t = cursor.token(kinds, s);
-        let k = t.kind;
-        if k != BAR_KIND {
-            return Made::Done(end);
+        let n = blend(s, out, here)?;
+        let end = put_if(out, n, bar);
+        let t = end.cursor.token(s);
+        if t.kind != Kind::Bar {
+            return Some(end);
         }
-        more = true;
-        let next = t.next;
+        bar = Some(EITHER_CODE);
         here = Spot {
-            cursor: next,
-            pos: end.pos,
+            cursor: t.next,
+            ..end
         };
     }
 }
 
 // Chains separated by '&' or '-', each of which is its own code.
 #[cycle(atom_blend_chain_choice_item)]
-fn blend(kinds: &KindTable, s: &[u8], out: &mut [u8], c: Spot) -> Made
-    requires { Kinds kinds.now × Room s.now out.old c }
+fn blend(s: &[u8], out: &mut [u8], c: Spot) -> Option<Spot>
+    requires { Room s.now out.old c }
     ensures { Reads a_blend s.now out.old c out.new result }
 {
     let mut here = c;
-    let mut more = false;
-    let mut operator: u8 = 0;
+    let mut operator: Option<u8> = None;
+    // Stays: a walk along tokens, which tell its end; no index is counted.
     loop {
-        let Made::Done(n) = chain(kinds, s, out, here) else {
-            return Made::Refused;
-        };
-        let end = put_if(out, n, more, operator);
-        let cursor = end.cursor;
-        let t = cursor.token(kinds, s);
-        let k = t.kind;
-        if k < AMPERSAND_KIND {
-            return Made::Done(end);
+        let n = chain(s, out, here)?;
+        let end = put_if(out, n, operator);
+        let t = end.cursor.token(s);
+        if !t.kind.is_operator() {
+            return Some(end);
         }
-        if MINUS_KIND < k {
-            return Made::Done(end);
-        }
-        operator = t.byte;
-        more = true;
-        let next = t.next;
+        operator = Some(t.byte);
         here = Spot {
-            cursor: next,
-            pos: end.pos,
+            cursor: t.next,
+            ..end
         };
     }
 }
 
 // One item or more in a row.
 #[cycle(atom_blend_chain_choice_item)]
-fn chain(kinds: &KindTable, s: &[u8], out: &mut [u8], c: Spot) -> Made
-    requires { Kinds kinds.now × Room s.now out.old c }
+fn chain(s: &[u8], out: &mut [u8], c: Spot) -> Option<Spot>
+    requires { Room s.now out.old c }
     ensures { Reads a_chain s.now out.old c out.new result }
 {
     let mut here = c;
-    let mut more = false;
+    let mut join: Option<u8> = None;
+    // Stays: a walk along tokens, which tell its end; no index is counted.
     loop {
-        let Made::Done(n) = item(kinds, s, out, here) else {
-            return Made::Refused;
-        };
-        let end = put_if(out, n, more, JOIN_CODE);
-        let cursor = end.cursor;
-        let t = cursor.token(kinds, s);
-        let k = t.kind;
-        if k < LETTER_KIND {
-            return Made::Done(end);
+        let n = item(s, out, here)?;
+        let end = put_if(out, n, join);
+        let t = end.cursor.token(s);
+        if !t.kind.begins_item() {
+            return Some(end);
         }
-        if BANG_KIND < k {
-            return Made::Done(end);
-        }
-        more = true;
+        join = Some(JOIN_CODE);
         here = end;
     }
 }
 
 // '!' before an item, or an atom with its suffixes. The '!' before it are counted, and their codes written behind it.
 #[cycle(atom_blend_chain_choice_item)]
-fn item(kinds: &KindTable, s: &[u8], out: &mut [u8], c: Spot) -> Made
-    requires { Kinds kinds.now × Room s.now out.old c }
+fn item(s: &[u8], out: &mut [u8], c: Spot) -> Option<Spot>
+    requires { Room s.now out.old c }
     ensures { Reads an_item s.now out.old c out.new result }
 {
-    let from = c.cursor;
-    let first = nots(kinds, s, from);
-    let cursor = first.cursor;
-    let Made::Done(n) = atom(kinds, s, out, Spot { cursor, pos: c.pos }) else {
-        return Made::Refused;
+    let first = nots(s, c.cursor);
+    let start = Spot {
+        cursor: first.cursor,
+        ..c
     };
-    let m = suffixed(kinds, s, out, n);
-    Made::Done(negate(out, m, first.count))
+    let n = atom(s, out, start)?;
+    let m = suffixed(s, out, n);
+    Some(negate(out, m, first.count))
 }
 
 // A letter, a name, '.' or '@', each of which is its own code; or a choice in brackets.
 #[cycle(atom_blend_chain_choice_item)]
-fn atom(kinds: &KindTable, s: &[u8], out: &mut [u8], c: Spot) -> Made
-    requires { Kinds kinds.now × Room s.now out.old c }
+fn atom(s: &[u8], out: &mut [u8], c: Spot) -> Option<Spot>
+    requires { Room s.now out.old c }
     ensures { Reads an_atom s.now out.old c out.new result }
 {
-    let cursor = c.cursor;
-    let t = cursor.token(kinds, s);
-    let k = t.kind;
-    let leaf = t.byte;
-    let next = t.next;
+    let t = c.cursor.token(s);
     let past = Spot {
-        cursor: next,
-        pos: c.pos,
+        cursor: t.next,
+        ..c
     };
-    if k < LETTER_KIND {
-        return Made::Refused;
+    if t.kind.is_leaf() {
+        return Some(put(out, past, t.byte));
     }
-    if k < OPEN_KIND {
-        return Made::Done(put(out, past, leaf));
+    if t.kind != Kind::Open {
+        return None;
     }
-    if k != OPEN_KIND {
-        return Made::Refused;
+    let n = choice(s, out, past)?;
+    let end = n.cursor.token(s);
+    if end.kind != Kind::Close {
+        return None;
     }
-    let Made::Done(n) = choice(kinds, s, out, past) else {
-        return Made::Refused;
-    };
-    let inside = n.cursor;
-    let e = inside.token(kinds, s);
-    let ek = e.kind;
-    if ek != CLOSE_KIND {
-        return Made::Refused;
-    }
-    let behind = e.next;
-    Made::Done(Spot {
-        cursor: behind,
-        pos: n.pos,
+    Some(Spot {
+        cursor: end.next,
+        ..n
     })
 }

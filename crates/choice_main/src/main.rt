@@ -3,11 +3,8 @@
 #![tactic(auto)]
 
 ghost use Rattle.std.specs.Prelude.{◌≤◌, length};
-ghost use Rattle.lexer.specs.Kinds.{Kinds};
 
-use choice::Made;
 use lexer::Cursor;
-use lexer::kinds::KindTable;
 use scans::ends::line_end;
 use signs::Spot;
 use std::io;
@@ -26,16 +23,15 @@ fn say(rt: &impl Print, code: &[u8], line: &[u8], at: usize) -> io::Result<()> {
 }
 
 // The code of the choice at the start of the line s.
-fn show(rt: &impl Print, kinds: &KindTable, s: &[u8]) -> io::Result<()>
-    requires kinds { Kinds kinds.now }
-    requires s_len_bound { length s.now ≤ 32768 }
+fn show(rt: &impl Print, s: &[u8]) -> io::Result<()>
+    requires { length s.now ≤ 32768 }
 {
     let mut out = [0u8; 65536];
     let start = Spot {
         cursor: Cursor { at: 0 },
         pos: 0,
     };
-    let Made::Done(n) = choice::choice(kinds, s, &mut out, start) else {
+    let Some(n) = choice::choice(s, &mut out, start) else {
         return rt.write_all(b"refused\n");
     };
     let pos = n.pos;
@@ -44,14 +40,14 @@ fn show(rt: &impl Print, kinds: &KindTable, s: &[u8]) -> io::Result<()>
 }
 
 // Each line.
-fn show_all(rt: &impl Print, kinds: &KindTable, text: &[u8]) -> io::Result<()>
-    requires kinds { Kinds kinds.now }
-    requires text_len_bound { length text.now ≤ 32768 }
+fn show_all(rt: &impl Print, text: &[u8]) -> io::Result<()>
+    requires { length text.now ≤ 32768 }
 {
     let mut at = 0;
+    // Stays: where a line ends tells where the next begins, no index is counted.
     while at < text.len() {
         let end = line_end(text, at);
-        show(rt, kinds, &text[at..end])?;
+        show(rt, &text[at..end])?;
         at = end + 1;
     }
     Ok(())
@@ -67,8 +63,7 @@ fn main(rt: HostRuntime) -> io::Result<()> {
     let mut text = [0u8; 4096];
     let mut input = rt.stdin();
     let n = stream::read_full(&mut input, &mut text)?;
-    let kinds = lexer::kinds::table();
-    show_all(&rt, &kinds, &text[..n])?;
+    show_all(&rt, &text[..n])?;
     let s = longest();
-    show(&rt, &kinds, &s)
+    show(&rt, &s)
 }

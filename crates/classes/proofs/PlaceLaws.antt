@@ -10,8 +10,8 @@ use lib.Seq.{get_or-set_same, get_or-set_other, take-set-le}
 use borrow.Author.Tests.{eq-eqb, ne_eqb}
 use Rattle.automata.specs.Basics.{LtCases, lt_cases}
 use Rattle.automata.specs.Machine.{Machine}
-use Rattle.automata.specs.Table.{table_machine}
-use Rattle.entries.specs.Entries.{class_of}
+use Rattle.entries.specs.declared.table.Table.{Table}
+use Rattle.entries.specs.Entries.{class_of, machine_of}
 use Rattle.entries.specs.Classes.{next, Led, leaders}
 use Rattle.leaders.specs.Round.{link, Together, Placed, Latest, Linked, Under, Leads}
 use Rattle.classes.specs.Refine.{Entered, Placing}
@@ -148,122 +148,107 @@ module _ (k n : ℕ) (M : Machine) (f g g' : ℕ → ℕ) (p r : ℕ) (D : Led n
   unfolding leaders
   leaders_joins e = rw (ne_eqb (g' p) p (λ z. e (sym here ∙ z)), leaders_same p (le_refl p)) (omega arith)
 
--- ---- what is stored
-
-pub keep_both : (n p : ℕ) (w w₁ w₂ : List ℕ) → w₁ ≡ set w (n + p) p → w₂ ≡ set w₁ (n + (n + p)) p → w₂ ≡ set (set w (n + p) p) (n + (n + p)) p
-keep_both n p w w₁ w₂ e₁ e₂ = e₂ ∙ ap (λ l. set l (n + (n + p)) p) e₁
-
-module _ (n c r p : ℕ) (w w₁ : List ℕ) (e₁ : w₁ ≡ set w (n + p) r) where
-  pub entered_joins : r < p → Entered n c r p w w₁ 0
-  entered_joins h = record { joins = λ _. (e₁, refl); leads = λ b. absurd (omega arith) }
-
-  pub entered_leads : (s : ℕ) (w₂ w₃ : List ℕ) → p ≤ r → s ≡ link n w₁ c → w₂ ≡ set w₁ (n + (n + p)) s → w₃ ≡ set w₂ (n + (n + c)) p → Entered n c r p w w₃ 1
-  entered_leads s w₂ w₃ h es e₂ e₃ = record {
-    joins = λ b. absurd (omega arith);
-    leads = λ _. (e₃ ∙ ap (λ l. set l (n + (n + c)) p) (e₂ ∙ ap (λ x. set w₁ (n + (n + p)) x) es ∙ ap (λ l. set l (n + (n + p)) (link n l c)) e₁), refl);
-  }
-
 -- ---- placing a state in the arrays
 
-module _ {base n k p : ℕ} {t w : List ℕ} (U : Under base n k p t w) where
+module _ {T : Table} {p : ℕ} {w : List ℕ} (U : Under T p w) where
   abbrev N : Machine
-  N = table_machine base n k t
+  N = machine_of T
 
   abbrev h : ℕ → ℕ
-  h = class_of (take n w)
+  h = class_of (take T.states w)
 
   -- the leader of an old class goes with itself
-  itself : h p ≡ p → Leads k N h (next n w) p p
+  itself : h p ≡ p → Leads T.columns N h (next T.states w) p p
   itself e = record {
     low = le_refl p;
-    sound = together_refl k N h p;
+    sound = together_refl T.columns N h p;
     leads = λ b. absurd (omega arith);
     none = λ _ s b _ z. omega (arith, U.partial.led.low s (omega (arith, U.inside)), z.class);
   }
 
   -- what the stores leave is known, entry by entry
-  placing : (r x : ℕ) (w' : List ℕ) → take n w' ≡ take n w → next n w' p ≡ r → ((q : ℕ) → q < p → next n w' q ≡ next n w q) → Leads k N h (next n w) p r
-      → Linked h (next n w') (link n w') (suc p) → leaders (next n w') (suc p) ≡ x + leaders (next n w) p → x ≤ 1 → Placing base n k p t w w' x
+  placing : (r x : ℕ) (w' : List ℕ) → take T.states w' ≡ take T.states w → next T.states w' p ≡ r → ((q : ℕ) → q < p → next T.states w' q ≡ next T.states w q) → Leads T.columns N h (next T.states w) p r
+      → Linked h (next T.states w') (link T.states w') (suc p) → leaders (next T.states w') (suc p) ≡ x + leaders (next T.states w) p → x ≤ 1 → Placing T p w w' x
   placing r x w' kept here other R L count one = record {
     partial = record {
       kept = kept;
       led = U.partial.led;
-      placed = placed_more k n N h (next n w) (next n w') p r U.partial.led U.inside here other U.partial.placed R;
+      placed = placed_more T.columns T.states N h (next T.states w) (next T.states w') p r U.partial.led U.inside here other U.partial.placed R;
       linked = L;
     };
     count = count;
     one = one;
   }
 
-  pub place_head : (c : ℕ) (w₁ w₂ : List ℕ) → c ≡ get_or w p 0 → c ≡ p → w₁ ≡ set w (n + p) p → w₂ ≡ set w₁ (n + (n + p)) p → Placing base n k p t w w₂ 1
-  place_head c w₁ w₂ e i e₁ e₂ = rw (e₂, e₁) (placing p 1 W kept here other (itself z) (linked_head k n N h (next n w) (next n W) p p U.partial.led U.inside here other
-      (link n w) (link n W) U.partial.linked refl same z mine) (leaders_more k n N h (next n w) (next n W) p p U.partial.led U.inside here other refl) (le_refl 1))
+  pub place_head : (c : ℕ) (w₁ w₂ : List ℕ) → c ≡ get_or w p 0 → c ≡ p → w₁ ≡ set w (T.states + p) p → w₂ ≡ set w₁ (T.states + (T.states + p)) p → Placing T p w w₂ 1
+  place_head c w₁ w₂ e i e₁ e₂ = rw (e₂, e₁) (placing p 1 W kept here other (itself z) (linked_head T.columns T.states N h (next T.states w) (next T.states W) p p U.partial.led U.inside here other
+      (link T.states w) (link T.states W) U.partial.linked refl same z mine) (leaders_more T.columns T.states N h (next T.states w) (next T.states W) p p U.partial.led U.inside here other refl) (le_refl 1))
     where
       W₁ : List ℕ
-      W₁ = set w (n + p) p
+      W₁ = set w (T.states + p) p
 
       W : List ℕ
-      W = set W₁ (n + (n + p)) p
+      W = set W₁ (T.states + (T.states + p)) p
 
       z : h p ≡ p
       z = sym (class_read U c e) ∙ i
 
-      kept : take n W ≡ take n w
-      kept = take-set-le n W₁ (n + (n + p)) p (omega arith) ∙ take-set-le n w (n + p) p (omega arith)
+      kept : take T.states W ≡ take T.states w
+      kept = take-set-le T.states W₁ (T.states + (T.states + p)) p (omega arith) ∙ take-set-le T.states w (T.states + p) p (omega arith)
 
-      here : next n W p ≡ p
-      here = get_or-set_other W₁ (n + (n + p)) (n + p) p 0 (omega (arith, U.inside)) ∙ get_or-set_same w (n + p) p 0 (omega (arith, U.inside, U.room))
+      here : next T.states W p ≡ p
+      here = get_or-set_other W₁ (T.states + (T.states + p)) (T.states + p) p 0 (omega (arith, U.inside)) ∙ get_or-set_same w (T.states + p) p 0 (omega (arith, U.inside, U.room))
 
-      other : (q : ℕ) → q < p → next n W q ≡ next n w q
-      other q b = get_or-set_other W₁ (n + (n + p)) (n + q) p 0 (omega (arith, U.inside)) ∙ get_or-set_other w (n + p) (n + q) p 0 (omega arith)
+      other : (q : ℕ) → q < p → next T.states W q ≡ next T.states w q
+      other q b = get_or-set_other W₁ (T.states + (T.states + p)) (T.states + q) p 0 (omega (arith, U.inside)) ∙ get_or-set_other w (T.states + p) (T.states + q) p 0 (omega arith)
 
-      mine : link n W p ≡ p
-      mine = get_or-set_same W₁ (n + (n + p)) p 0 (omega (arith, U.inside, U.room, length-set w (n + p) p))
+      mine : link T.states W p ≡ p
+      mine = get_or-set_same W₁ (T.states + (T.states + p)) p 0 (omega (arith, U.inside, U.room, length-set w (T.states + p) p))
 
-      same : (q : ℕ) → q < p → link n W q ≡ link n w q
-      same q b = get_or-set_other W₁ (n + (n + p)) (n + (n + q)) p 0 (omega arith) ∙ get_or-set_other w (n + p) (n + (n + q)) p 0 (omega (arith, U.inside))
+      same : (q : ℕ) → q < p → link T.states W q ≡ link T.states w q
+      same q b = get_or-set_other W₁ (T.states + (T.states + p)) (T.states + (T.states + q)) p 0 (omega arith) ∙ get_or-set_other w (T.states + p) (T.states + (T.states + q)) p 0 (omega (arith, U.inside))
 
-  module _ (c r : ℕ) (e : c ≡ get_or w p 0) (d : c ≢ p) (R : Leads k N h (next n w) p r) where
+  module _ (c r : ℕ) (e : c ≡ get_or w p 0) (d : c ≢ p) (R : Leads T.columns N h (next T.states w) p r) where
     W₁ : List ℕ
-    W₁ = set w (n + p) r
+    W₁ = set w (T.states + p) r
 
     z : h p ≢ p
     z = λ x. d (class_read U c e ∙ x)
 
-    kept₁ : take n W₁ ≡ take n w
+    kept₁ : take T.states W₁ ≡ take T.states w
     unfolding W₁
-    kept₁ = take-set-le n w (n + p) r (omega arith)
+    kept₁ = take-set-le T.states w (T.states + p) r (omega arith)
 
-    here₁ : next n W₁ p ≡ r
+    here₁ : next T.states W₁ p ≡ r
     unfolding W₁
-    here₁ = get_or-set_same w (n + p) r 0 (omega (arith, U.inside, U.room))
+    here₁ = get_or-set_same w (T.states + p) r 0 (omega (arith, U.inside, U.room))
 
-    other₁ : (q : ℕ) → q < p → next n W₁ q ≡ next n w q
+    other₁ : (q : ℕ) → q < p → next T.states W₁ q ≡ next T.states w q
     unfolding W₁
-    other₁ q b = get_or-set_other w (n + p) (n + q) r 0 (omega arith)
+    other₁ q b = get_or-set_other w (T.states + p) (T.states + q) r 0 (omega arith)
 
-    link₁ : (q : ℕ) → link n W₁ q ≡ link n w q
+    link₁ : (q : ℕ) → link T.states W₁ q ≡ link T.states w q
     unfolding W₁
-    link₁ q = get_or-set_other w (n + p) (n + (n + q)) r 0 (omega (arith, U.inside))
+    link₁ q = get_or-set_other w (T.states + p) (T.states + (T.states + q)) r 0 (omega (arith, U.inside))
 
-    pub place_joins : (w₁ : List ℕ) → w₁ ≡ set w (n + p) r → r < p → Placing base n k p t w w₁ 0
+    pub place_joins : (w₁ : List ℕ) → w₁ ≡ set w (T.states + p) r → r < p → Placing T p w w₁ 0
     unfolding W₁
     place_joins w₁ e₁ b =
         let y : r ≢ p = omega arith in
-        rw e₁ (placing r 0 W₁ kept₁ here₁ other₁ R (linked_joins k n N h (next n w) (next n W₁) p r U.partial.led U.inside here₁ other₁
-        (link n w) (link n W₁) U.partial.linked y (λ q _. link₁ q) z) (leaders_joins k n N h (next n w) (next n W₁) p r U.partial.led U.inside here₁ other₁ y) (omega arith))
+        rw e₁ (placing r 0 W₁ kept₁ here₁ other₁ R (linked_joins T.columns T.states N h (next T.states w) (next T.states W₁) p r U.partial.led U.inside here₁ other₁
+        (link T.states w) (link T.states W₁) U.partial.linked y (λ q _. link₁ q) z) (leaders_joins T.columns T.states N h (next T.states w) (next T.states W₁) p r U.partial.led U.inside here₁ other₁ y) (omega arith))
 
-    pub place_leads : (x : ℕ) (w₁ w₂ w₃ : List ℕ) → w₁ ≡ set w (n + p) r → p ≤ r → x ≡ link n w₁ c → w₂ ≡ set w₁ (n + (n + p)) x → w₃ ≡ set w₂ (n + (n + c)) p
-        → Placing base n k p t w w₃ 1
+    pub place_leads : (x : ℕ) (w₁ w₂ w₃ : List ℕ) → w₁ ≡ set w (T.states + p) r → p ≤ r → x ≡ link T.states w₁ c → w₂ ≡ set w₁ (T.states + (T.states + p)) x → w₃ ≡ set w₂ (T.states + (T.states + c)) p
+        → Placing T p w w₃ 1
     unfolding W₁
-    place_leads x w₁ w₂ w₃ e₁ b ex e₂ e₃ = rw (e₃, e₂, e₁) (placing r 1 W kept here other R (linked_leads k n N h (next n w) (next n W) p r U.partial.led U.inside here other
-        (link n w) (link n W) U.partial.linked y same z mine last) (leaders_more k n N h (next n w) (next n W) p r U.partial.led U.inside here other y) (le_refl 1))
+    place_leads x w₁ w₂ w₃ e₁ b ex e₂ e₃ = rw (e₃, e₂, e₁) (placing r 1 W kept here other R (linked_leads T.columns T.states N h (next T.states w) (next T.states W) p r U.partial.led U.inside here other
+        (link T.states w) (link T.states W) U.partial.linked y same z mine last) (leaders_more T.columns T.states N h (next T.states w) (next T.states W) p r U.partial.led U.inside here other y) (le_refl 1))
       where
         W₂ : List ℕ
-        W₂ = set W₁ (n + (n + p)) x
+        W₂ = set W₁ (T.states + (T.states + p)) x
 
         W : List ℕ
-        W = set W₂ (n + (n + c)) p
+        W = set W₂ (T.states + (T.states + c)) p
 
         y : r ≡ p
         y = omega (arith, R.low)
@@ -271,34 +256,34 @@ module _ {base n k p : ℕ} {t w : List ℕ} (U : Under base n k p t w) where
         low : c ≤ p
         low = class_low U c e
 
-        kept : take n W ≡ take n w
-        kept = take-set-le n W₂ (n + (n + c)) p (omega arith) ∙ take-set-le n W₁ (n + (n + p)) x (omega arith) ∙ kept₁
+        kept : take T.states W ≡ take T.states w
+        kept = take-set-le T.states W₂ (T.states + (T.states + c)) p (omega arith) ∙ take-set-le T.states W₁ (T.states + (T.states + p)) x (omega arith) ∙ kept₁
 
-        nexts : (q : ℕ) → q ≤ p → next n W q ≡ next n W₁ q
-        nexts q v = get_or-set_other W₂ (n + (n + c)) (n + q) p 0 (omega (arith, U.inside)) ∙ get_or-set_other W₁ (n + (n + p)) (n + q) x 0 (omega (arith, U.inside))
+        nexts : (q : ℕ) → q ≤ p → next T.states W q ≡ next T.states W₁ q
+        nexts q v = get_or-set_other W₂ (T.states + (T.states + c)) (T.states + q) p 0 (omega (arith, U.inside)) ∙ get_or-set_other W₁ (T.states + (T.states + p)) (T.states + q) x 0 (omega (arith, U.inside))
 
-        here : next n W p ≡ r
+        here : next T.states W p ≡ r
         here = nexts p (le_refl p) ∙ here₁
 
-        other : (q : ℕ) → q < p → next n W q ≡ next n w q
+        other : (q : ℕ) → q < p → next T.states W q ≡ next T.states w q
         other q v = nexts q (omega arith) ∙ other₁ q v
 
-        mine : link n W (h p) ≡ p
+        mine : link T.states W (h p) ≡ p
         mine = rw (← class_read U c e)
-            (get_or-set_same W₂ (n + (n + c)) p 0 (omega (arith, U.inside, U.room, low, length-set W₁ (n + (n + p)) x, length-set w (n + p) r)))
+            (get_or-set_same W₂ (T.states + (T.states + c)) p 0 (omega (arith, U.inside, U.room, low, length-set W₁ (T.states + (T.states + p)) x, length-set w (T.states + p) r)))
 
-        last : link n W p ≡ link n w (h p)
-        last = rw (← class_read U c e) (get_or-set_other W₂ (n + (n + c)) (n + (n + p)) p 0 (omega (arith, low, d))
-            ∙ get_or-set_same W₁ (n + (n + p)) x 0 (omega (arith, U.inside, U.room, length-set w (n + p) r)) ∙ ex ∙ ap (λ l. link n l c) e₁ ∙ link₁ c)
+        last : link T.states W p ≡ link T.states w (h p)
+        last = rw (← class_read U c e) (get_or-set_other W₂ (T.states + (T.states + c)) (T.states + (T.states + p)) p 0 (omega (arith, low, d))
+            ∙ get_or-set_same W₁ (T.states + (T.states + p)) x 0 (omega (arith, U.inside, U.room, length-set w (T.states + p) r)) ∙ ex ∙ ap (λ l. link T.states l c) e₁ ∙ link₁ c)
 
-        same : (q : ℕ) → q < p → q ≢ h p → link n W q ≡ link n w q
+        same : (q : ℕ) → q < p → q ≢ h p → link T.states W q ≡ link T.states w q
         same q v i =
             let j : q ≢ c = λ o. i (o ∙ class_read U c e) in
-            get_or-set_other W₂ (n + (n + c)) (n + (n + q)) p 0 (omega arith) ∙ get_or-set_other W₁ (n + (n + p)) (n + (n + q)) x 0 (omega arith) ∙ link₁ q
+            get_or-set_other W₂ (T.states + (T.states + c)) (T.states + (T.states + q)) p 0 (omega arith) ∙ get_or-set_other W₁ (T.states + (T.states + p)) (T.states + (T.states + q)) x 0 (omega arith) ∙ link₁ q
 
-    pub place_entered : (w' : List ℕ) (x : ℕ) → Entered n c r p w w' x → Placing base n k p t w w' x
+    pub place_entered : (w' : List ℕ) (x : ℕ) → Entered T.states c r p w w' x → Placing T p w w' x
     place_entered w' x E = go (lt_cases r p)
       where
-        go : LtCases r p → Placing base n k p t w w' x
+        go : LtCases r p → Placing T p w w' x
         go (inl y) = let z = E.joins y.0 in rw z.1 (place_joins w' z.0 y.0)
-        go (inr y) = let z = E.leads y.0 in rw z.1 (place_leads (link n (set w (n + p) r) c) (set w (n + p) r) (set (set w (n + p) r) (n + (n + p)) (link n (set w (n + p) r) c)) w' refl y.0 refl refl z.0)
+        go (inr y) = let z = E.leads y.0 in rw z.1 (place_leads (link T.states (set w (T.states + p) r) c) (set w (T.states + p) r) (set (set w (T.states + p) r) (T.states + (T.states + p)) (link T.states (set w (T.states + p) r) c)) w' refl y.0 refl refl z.0)

@@ -3,9 +3,8 @@ use mathlib.Core.Path.{◌≡◌, refl, sym, ap, ◌∙◌}
 use mathlib.Core.Bool.{Bool, true, false, cond, true≢false, false≢true}
 use mathlib.Core.Logic.{◌⊎◌, inl, inr, ◌≢◌}
 use mathlib.Core.List.{List, [], ◌∷◌}
-use Prim.Native.Nat.{ℕ, zero, suc, ◌+◌, ◌≤◌, ◌<◌, zero-le}
+use Prim.Native.Nat.{ℕ, zero, suc, ◌≤◌, ◌<◌, zero-le}
 use native.Mathlib.Nat.{le_refl, not-suc-le-zero}
-use native.Mathlib.Numerals.{add-one}
 use native.Mathlib.Omega.{arith}
 use lib.ListN.{length, get_or, take}
 use lib.Seq.{get_or-take, length-take-le, ext_get_or}
@@ -15,19 +14,20 @@ use Rattle.automata.specs.Basics.{LtCases, SameCases, lt_cases, same_cases, nat_
 use Rattle.automata.specs.Machine.{Machine, size, automaton, WellFormed}
 use Rattle.automata.specs.Partition.{bit, classes, classes_whole, classes_low, classes_length, classes_equivalent}
 use Rattle.automata.specs.Refinement.{SameSignature, Coarse, Settled, settled_equivalent}
-use Rattle.automata.specs.Table.{flag_of, table_machine, table_size, table_formed, table_accepting}
+use Rattle.automata.specs.Table.{flag_of}
+use Rattle.entries.specs.declared.table.Table.{Table}
 use borrow.Author.Tests.{eq-eqb, ne_eqb}
-use Rattle.entries.specs.Entries.{class_of, flag_bit}
+use Rattle.entries.specs.Entries.{class_of, flag_bit, machine_of}
 use Rattle.entries.specs.Classes.{next, Led, leaders, Sized, Refining}
-use Rattle.leaders.specs.Round.{Placed, Partial, Under}
-use Rattle.classes.specs.Refine.{FirstOther, side_of, Parted, Turned, Begun, Placing, Rounded}
-use Rattle.entries.proofs.EntryLaws.{bit_same}
+use Rattle.leaders.specs.Round.{Placed, Partial}
+use Rattle.classes.specs.Refine.{FirstOther, side_of, Parted, Turned, Begun, Rounded}
+use Rattle.entries.proofs.EntryLaws.{bit_same, machine_size, machine_accepting, machine_formed}
 use Rattle.leaders.proofs.RoundLaws.{together_sym, together_trans}
 
 -- ---- a whole round
 
-module _ {base n k : ℕ} {t w : List ℕ} (B : Begun base n k t w) where
-  pub round_starts : Partial k n (table_machine base n k t) (take n w) w 0
+module _ {T : Table} {w : List ℕ} (B : Begun T w) where
+  pub round_starts : Partial T.columns T.states (machine_of T) (take T.states w) w 0
   round_starts = record {
     kept = refl;
     led = B.led;
@@ -39,20 +39,6 @@ module _ {base n k : ℕ} {t w : List ℕ} (B : Begun base n k t w) where
     };
     linked = record { head = λ p h. absurd (not-suc-le-zero h); inner = λ p h. absurd (not-suc-le-zero h) };
   }
-
-  pub round_under : (p : ℕ) (v : List ℕ) → p < n → length v ≡ length w → Partial k n (table_machine base n k t) (take n w) v p → Under base n k p t v
-  round_under p v h e P =
-      record { closed = B.sized.closed; room = rw e B.sized.room; few = B.sized.few; inside = h; told = rw P.kept B.told; partial = rw P.kept P }
-
-  pub round_turns : (p r : ℕ) (v v' : List ℕ) → Partial k n (table_machine base n k t) (take n w) v p → Placing base n k p t v v' r
-      → Partial k n (table_machine base n k t) (take n w) v' (p + 1)
-  round_turns p r v v' P Q = rw add-one (rw P.kept at Q.partial)
-
-  pub round_ends : (p r : ℕ) (v : List ℕ) → p ≡ n → Partial k n (table_machine base n k t) (take n w) v p → r ≡ leaders (next n v) p → Rounded base n k t w v r
-  round_ends p r v e P c = record { kept = P.kept; placed = rw e at P.placed; count = c ∙ ap (leaders (next n v)) e }
-
-pub count_turns : (base n k p r x y : ℕ) (t v v' : List ℕ) → Placing base n k p t v v' r → x ≡ leaders (next n v) p → y ≡ x + r → y ≡ leaders (next n v') (p + 1)
-count_turns base n k p r x y t v v' Q e i = rw add-one (omega (arith, Q.count))
 
 -- ---- how many lead
 
@@ -162,48 +148,48 @@ classes_found k n M F sz cls len D c s = ext_get_or zero cls (classes k M) (len 
 
 -- ---- classes by acceptance
 
-pub side_same : (t : List ℕ) (other p : ℕ) → flag_bit t p ≡ flag_bit t 0 → side_of t other p ≡ 0
+pub side_same : (T : Table) (other p : ℕ) → flag_bit T.cells.now p ≡ flag_bit T.cells.now 0 → side_of T other p ≡ 0
 unfolding side_of
-side_same t other p e = rw (eq-eqb (flag_bit t p) (flag_bit t 0) e)
+side_same T other p e = rw (eq-eqb (flag_bit T.cells.now p) (flag_bit T.cells.now 0) e)
 
-pub side_other : (t : List ℕ) (other p : ℕ) → flag_bit t p ≢ flag_bit t 0 → side_of t other p ≡ other
+pub side_other : (T : Table) (other p : ℕ) → flag_bit T.cells.now p ≢ flag_bit T.cells.now 0 → side_of T other p ≡ other
 unfolding side_of
-side_other t other p d = rw (ne_eqb (flag_bit t p) (flag_bit t 0) d)
+side_other T other p d = rw (ne_eqb (flag_bit T.cells.now p) (flag_bit T.cells.now 0) d)
 
-module _ (n : ℕ) (t : List ℕ) (other : ℕ) (F : FirstOther n t other) where
-  pub side_low : (p : ℕ) → p < n → side_of t other p ≤ p
-  side_low p h = go (same_cases nat_test (flag_bit t p) (flag_bit t 0))
+module _ (T : Table) (other : ℕ) (F : FirstOther T other) where
+  pub side_low : (p : ℕ) → p < T.states → side_of T other p ≤ p
+  side_low p h = go (same_cases nat_test (flag_bit T.cells.now p) (flag_bit T.cells.now 0))
     where
-      go : SameCases nat_test (flag_bit t p) (flag_bit t 0) → side_of t other p ≤ p
-      go (inl e) = rw (side_same t other p e.0) zero-le
-      go (inr e) = rw (side_other t other p e.0) (at (lt_cases p other))
+      go : SameCases nat_test (flag_bit T.cells.now p) (flag_bit T.cells.now 0) → side_of T other p ≤ p
+      go (inl e) = rw (side_same T other p e.0) zero-le
+      go (inr e) = rw (side_other T other p e.0) (at (lt_cases p other))
         where
           at : LtCases p other → other ≤ p
           at (inl x) = absurd (e.0 (F.before p x.0))
           at (inr x) = x.0
 
-  pub side_again : (p : ℕ) → p < n → side_of t other (side_of t other p) ≡ side_of t other p
-  side_again p h = go (same_cases nat_test (flag_bit t p) (flag_bit t 0))
+  pub side_again : (p : ℕ) → p < T.states → side_of T other (side_of T other p) ≡ side_of T other p
+  side_again p h = go (same_cases nat_test (flag_bit T.cells.now p) (flag_bit T.cells.now 0))
     where
-      go : SameCases nat_test (flag_bit t p) (flag_bit t 0) → side_of t other (side_of t other p) ≡ side_of t other p
-      go (inl e) = rw (side_same t other p e.0) (side_same t other 0 refl)
-      go (inr e) = let z = side_other t other p e.0 in rw z (side_other t other other (F.differs (omega (arith, side_low p h, z))))
+      go : SameCases nat_test (flag_bit T.cells.now p) (flag_bit T.cells.now 0) → side_of T other (side_of T other p) ≡ side_of T other p
+      go (inl e) = rw (side_same T other p e.0) (side_same T other 0 refl)
+      go (inr e) = let z = side_other T other p e.0 in rw z (side_other T other other (F.differs (omega (arith, side_low p h, z))))
 
   -- states of one class answer alike: other than state 0 are only the one answer
-  pub side_told : (p q : ℕ) → p < n → q < n → side_of t other p ≡ side_of t other q → flag_bit t p ≡ flag_bit t q
-  side_told p q h b e = go (same_cases nat_test (flag_bit t p) (flag_bit t 0)) (same_cases nat_test (flag_bit t q) (flag_bit t 0))
+  pub side_told : (p q : ℕ) → p < T.states → q < T.states → side_of T other p ≡ side_of T other q → flag_bit T.cells.now p ≡ flag_bit T.cells.now q
+  side_told p q h b e = go (same_cases nat_test (flag_bit T.cells.now p) (flag_bit T.cells.now 0)) (same_cases nat_test (flag_bit T.cells.now q) (flag_bit T.cells.now 0))
     where
       -- the first other state is not state 0
-      apart : (r s : ℕ) → r < n → flag_bit t r ≢ flag_bit t 0 → flag_bit t s ≡ flag_bit t 0 → side_of t other r ≡ side_of t other s → ⊥
+      apart : (r s : ℕ) → r < T.states → flag_bit T.cells.now r ≢ flag_bit T.cells.now 0 → flag_bit T.cells.now s ≡ flag_bit T.cells.now 0 → side_of T other r ≡ side_of T other s → ⊥
       apart r s x d i j =
-          let z : other ≡ 0 = sym (side_other t other r d) ∙ j ∙ side_same t other s i in
-          F.differs (omega (arith, z)) (ap (flag_bit t) z)
+          let z : other ≡ 0 = sym (side_other T other r d) ∙ j ∙ side_same T other s i in
+          F.differs (omega (arith, z)) (ap (flag_bit T.cells.now) z)
 
-      go : SameCases nat_test (flag_bit t p) (flag_bit t 0) → SameCases nat_test (flag_bit t q) (flag_bit t 0) → flag_bit t p ≡ flag_bit t q
+      go : SameCases nat_test (flag_bit T.cells.now p) (flag_bit T.cells.now 0) → SameCases nat_test (flag_bit T.cells.now q) (flag_bit T.cells.now 0) → flag_bit T.cells.now p ≡ flag_bit T.cells.now q
       go (inl x) (inl y) = x.0 ∙ sym y.0
       go (inl x) (inr y) = absurd (apart q p b y.0 x.0 (sym e))
       go (inr x) (inl y) = absurd (apart p q h x.0 y.0 e)
-      go (inr x) (inr y) = bits (flag_of (get_or t p 0)) (flag_of (get_or t q 0)) (flag_of (get_or t 0 0)) x.0 y.0
+      go (inr x) (inr y) = bits (flag_of (get_or T.cells.now p 0)) (flag_of (get_or T.cells.now q 0)) (flag_of (get_or T.cells.now 0 0)) x.0 y.0
         where
           bits : (a c d : Bool) → bit a ≢ bit d → bit c ≢ bit d → bit a ≡ bit c
           bits true true d u v = refl
@@ -215,41 +201,41 @@ module _ (n : ℕ) (t : List ℕ) (other : ℕ) (F : FirstOther n t other) where
 
 -- ---- the rounds over a table
 
-module _ {base n k : ℕ} {t w : List ℕ} (S : Sized base n k t w) where
+module _ {T : Table} {w : List ℕ} (S : Sized T w) where
   -- the states are parted by acceptance
-  pub refine_starts : (v : List ℕ) → Parted n t v → Refining base n k t v 0
+  pub refine_starts : (v : List ℕ) → Parted T v → Refining T v 0
   unfolding side_of
   refine_starts v P = record {
-    led = record { low = λ p b. rw (at p b) (side_low n t P.other P.first p b); again = again };
-    coarse = λ p q hp hq a. at p (inside p hp) ∙ ap (λ (x : ℕ). cond (eqb x (flag_bit t 0)) 0 P.other) (flags p q (inside p hp) (inside q hq) (a [] tt)) ∙ sym (at q (inside q hq));
-    told = λ p q h b e. accepts p q h b (side_told n t P.other P.first p q h b (sym (at p h) ∙ e ∙ at q b));
+    led = record { low = λ p b. rw (at p b) (side_low T P.other P.first p b); again = again };
+    coarse = λ p q hp hq a. at p (inside p hp) ∙ ap (λ (x : ℕ). cond (eqb x (flag_bit T.cells.now 0)) 0 P.other) (flags p q (inside p hp) (inside q hq) (a [] tt)) ∙ sym (at q (inside q hq));
+    told = λ p q h b e. accepts p q h b (side_told T P.other P.first p q h b (sym (at p h) ∙ e ∙ at q b));
     counted = zero-le;
   }
     where
-      at : (p : ℕ) → p < n → class_of (take n v) p ≡ side_of t P.other p
-      at p b = get_or-take n v p 0 b ∙ P.class p b
+      at : (p : ℕ) → p < T.states → class_of (take T.states v) p ≡ side_of T P.other p
+      at p b = get_or-take T.states v p 0 b ∙ P.class p b
 
-      inside : (p : ℕ) → p < size (table_machine base n k t) → p < n
-      inside p b = rw (table_size base n k t S.closed) at b
+      inside : (p : ℕ) → p < size (machine_of T) → p < T.states
+      inside p b = rw (machine_size T) at b
 
-      again : (p : ℕ) → p < n → class_of (take n v) (class_of (take n v) p) ≡ class_of (take n v) p
-      again p b = ap (class_of (take n v)) (at p b) ∙ at (side_of t P.other p) (omega (arith, side_low n t P.other P.first p b)) ∙ side_again n t P.other P.first p b ∙ sym (at p b)
+      again : (p : ℕ) → p < T.states → class_of (take T.states v) (class_of (take T.states v) p) ≡ class_of (take T.states v) p
+      again p b = ap (class_of (take T.states v)) (at p b) ∙ at (side_of T P.other p) (omega (arith, side_low T P.other P.first p b)) ∙ side_again T P.other P.first p b ∙ sym (at p b)
 
-      accepts : (p q : ℕ) → p < n → q < n → flag_bit t p ≡ flag_bit t q → (automaton (table_machine base n k t)).accepting p ≡ (automaton (table_machine base n k t)).accepting q
-      accepts p q h b e = table_accepting base n k t S.closed p h ∙ bit_same _ _ e ∙ sym (table_accepting base n k t S.closed q b)
+      accepts : (p q : ℕ) → p < T.states → q < T.states → flag_bit T.cells.now p ≡ flag_bit T.cells.now q → (automaton (machine_of T)).accepting p ≡ (automaton (machine_of T)).accepting q
+      accepts p q h b e = machine_accepting T p h ∙ bit_same _ _ e ∙ sym (machine_accepting T q b)
 
-      flags : (p q : ℕ) → p < n → q < n → (automaton (table_machine base n k t)).accepting p ≡ (automaton (table_machine base n k t)).accepting q → flag_bit t p ≡ flag_bit t q
-      flags p q h b e = ap bit (sym (table_accepting base n k t S.closed p h) ∙ e ∙ table_accepting base n k t S.closed q b)
+      flags : (p q : ℕ) → p < T.states → q < T.states → (automaton (machine_of T)).accepting p ≡ (automaton (machine_of T)).accepting q → flag_bit T.cells.now p ≡ flag_bit T.cells.now q
+      flags p q h b e = ap bit (sym (machine_accepting T p h) ∙ e ∙ machine_accepting T q b)
 
-  pub refine_begun : (v : List ℕ) (c : ℕ) → length v ≡ length w → Refining base n k t v c → Begun base n k t v
-  refine_begun v c e R = record { sized = record { closed = S.closed; room = rw e S.room; few = S.few }; led = R.led; told = R.told }
+  pub refine_begun : (v : List ℕ) (c : ℕ) → length v ≡ length w → Refining T v c → Begun T v
+  refine_begun v c e R = record { sized = record { room = rw e S.room; few = S.few }; led = R.led; told = R.told }
 
-  module _ (v v' : List ℕ) (c r : ℕ) (e : length v ≡ length w) (R : Refining base n k t v c) (Q : Rounded base n k t v v' r) where
+  module _ (v v' : List ℕ) (c r : ℕ) (e : length v ≡ length w) (R : Refining T v c) (Q : Rounded T v v' r) where
     -- a round that parts no class
-    pub refine_ends : r ≡ c → take n v' ≡ classes k (table_machine base n k t)
-    refine_ends i = Q.kept ∙ classes_found k n (table_machine base n k t) (table_formed base n k t S.closed) (table_size base n k t S.closed) (take n v)
-        (length-take-le n v (omega (arith, S.room))) R.led R.coarse
-        (round_settled k n (table_machine base n k t) (table_formed base n k t S.closed) (table_size base n k t S.closed) (class_of (take n v)) (next n v') R.led Q.placed
+    pub refine_ends : r ≡ c → take T.states v' ≡ classes T.columns (machine_of T)
+    refine_ends i = Q.kept ∙ classes_found T.columns T.states (machine_of T) (machine_formed T) (machine_size T) (take T.states v)
+        (length-take-le T.states v (omega (arith, S.room))) R.led R.coarse
+        (round_settled T.columns T.states (machine_of T) (machine_formed T) (machine_size T) (class_of (take T.states v)) (next T.states v') R.led Q.placed
         (omega (arith, R.counted, Q.count)))
 
     -- a round that parts one
@@ -258,42 +244,42 @@ module _ {base n k : ℕ} {t w : List ℕ} (S : Sized base n k t w) where
       arith,
       R.counted,
       Q.count,
-      leaders_le (next n v') n,
-      rounds_grow k n (table_machine base n k t) (table_formed base n k t S.closed) (table_size base n k t S.closed) (class_of (take n v)) (next n v') R.led Q.placed,
+      leaders_le (next T.states v') T.states,
+      rounds_grow T.columns T.states (machine_of T) (machine_formed T) (machine_size T) (class_of (take T.states v)) (next T.states v') R.led Q.placed,
     )
 
-    pub refine_turns : (u : List ℕ) → ((p : ℕ) → p < n → get_or u p 0 ≡ next n v' p) → Refining base n k t u r
+    pub refine_turns : (u : List ℕ) → ((p : ℕ) → p < T.states → get_or u p 0 ≡ next T.states v' p) → Refining T u r
     refine_turns u h = record {
       led = record {
         low = λ p b. rw (same p b) (Q.placed.low p b);
-        again = λ p b. rw (same p b) (same (next n v' p) (omega (arith, Q.placed.low p b)) ∙ Q.placed.again p b);
+        again = λ p b. rw (same p b) (same (next T.states v' p) (omega (arith, Q.placed.low p b)) ∙ Q.placed.again p b);
       };
       coarse = λ p q hp hq a. same p (inside p hp) ∙ new p q hp hq a ∙ sym (same q (inside q hq));
       told = λ p q x y z. let j = sym (same p x) ∙ z ∙ same q y in
-          sym (Q.placed.sound p x).signature.accepting ∙ ap (automaton (table_machine base n k t)).accepting j ∙ (Q.placed.sound q y).signature.accepting;
-      counted = rw (leaders_ext (class_of (take n u)) (next n v') n same, ← Q.count) (le_refl r);
+          sym (Q.placed.sound p x).signature.accepting ∙ ap (automaton (machine_of T)).accepting j ∙ (Q.placed.sound q y).signature.accepting;
+      counted = rw (leaders_ext (class_of (take T.states u)) (next T.states v') T.states same, ← Q.count) (le_refl r);
     }
       where
-        same : (p : ℕ) → p < n → class_of (take n u) p ≡ next n v' p
-        same p b = get_or-take n u p 0 b ∙ h p b
+        same : (p : ℕ) → p < T.states → class_of (take T.states u) p ≡ next T.states v' p
+        same p b = get_or-take T.states u p 0 b ∙ h p b
 
-        inside : (p : ℕ) → p < size (table_machine base n k t) → p < n
-        inside p b = rw (table_size base n k t S.closed) at b
+        inside : (p : ℕ) → p < size (machine_of T) → p < T.states
+        inside p b = rw (machine_size T) at b
 
-        new : Coarse k (table_machine base n k t) (next n v')
-        new = round_coarse k n (table_machine base n k t) (table_formed base n k t S.closed) (table_size base n k t S.closed) (class_of (take n v)) (next n v') R.led Q.placed
+        new : Coarse T.columns (machine_of T) (next T.states v')
+        new = round_coarse T.columns T.states (machine_of T) (machine_formed T) (machine_size T) (class_of (take T.states v)) (next T.states v') R.led Q.placed
             R.coarse
 
 -- some rounds
-pub turned_done : (base n k : ℕ) (t v : List ℕ) (most : ℕ) → take n v ≡ classes k (table_machine base n k t) → Turned base n k t v most true
-turned_done base n k t v most e = record { done = λ _. e; way = λ z. absurd (true≢false z) }
+pub turned_done : (T : Table) (v : List ℕ) (most : ℕ) → take T.states v ≡ classes T.columns (machine_of T) → Turned T v most true
+turned_done T v most e = record { done = λ _. e; way = λ z. absurd (true≢false z) }
 
-pub turned_way : (base n k : ℕ) (t v : List ℕ) (c : ℕ) {most : ℕ} → Refining base n k t v c → most ≤ n → Turned base n k t v most false
-turned_way base n k t v c R h = record {
+pub turned_way : (T : Table) (v : List ℕ) (c : ℕ) {most : ℕ} → Refining T v c → most ≤ T.states → Turned T v most false
+turned_way T v c R h = record {
   done = λ z. absurd (false≢true z);
   way = λ _. (record { led = R.led; coarse = R.coarse; told = R.told; counted = zero-le }, h);
 }
 
 -- no more classes than states
-pub refine_many : (base n k : ℕ) (t v : List ℕ) (c : ℕ) → Refining base n k t v c → c ≤ n
-refine_many base n k t v c R = omega (arith, R.counted, leaders_le (class_of (take n v)) n)
+pub refine_many : (T : Table) (v : List ℕ) (c : ℕ) → Refining T v c → c ≤ T.states
+refine_many T v c R = omega (arith, R.counted, leaders_le (class_of (take T.states v)) T.states)

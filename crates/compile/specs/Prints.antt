@@ -1,13 +1,13 @@
 -- What the compiling program writes for a text.
-use Rattle.std.specs.Prelude.{◌≡◌, ◌+◌, ◌*◌, ◌<◌, ℕ, List, Option, length, take}
+use Rattle.std.specs.Prelude.{◌≡◌, ◌+◌, ◌*◌, ◌<◌, ℕ, List, Option, Result, Ok, Err, length, take}
 use Rattle.std.specs.Io.KnownBytes.{Keeps, Consumes, Appends, IsAtEnd}
 use Rattle.automata.specs.Format.{narrow}
 use Rattle.compiler.specs.Outcome.{outcome}
 use Rattle.compiler.specs.declared.Compiled.{Compiled}
 use Rattle.driver.specs.Entry.{documented, Answers}
 use Rattle.report.specs.Shown.{Shows}
-use Rattle.compile.specs.declared.Ending.{Ending}
-use Rattle.compile.specs.declared.Ending.TheVariants.{Whole, NotRead, NotWritten}
+use Rattle.stream.specs.declared.Failure.{Failure}
+use Rattle.stream.specs.declared.Failure.TheVariants.{NotRead, NotWritten}
 
 -- The longest card's length: the contents, 26 letters, a marks byte for each of 120 states and a move for each state and letter.
 abbrev pub card_room : ℕ
@@ -41,7 +41,7 @@ pub record CompilesInput (input input' output output' : Option (List ℕ)) : Typ
   pub printed : Printed text output output'
 
 -- Where the text can't be read nothing is written.
-abbrev pub Compiles : Option (List ℕ) → Option (List ℕ) → Option (List ℕ) → Option (List ℕ) → Ending → Type 0
-Compiles input input' output output' Whole = CompilesInput input input' output output'
-Compiles input input' output output' NotRead = Keeps output output'
-Compiles input input' output output' NotWritten = Unit {0}
+abbrev pub Compiles : Option (List ℕ) → Option (List ℕ) → Option (List ℕ) → Option (List ℕ) → Result Unit Failure → Type 0
+Compiles input input' output output' (Ok t) = CompilesInput input input' output output'
+Compiles input input' output output' (Err NotRead) = Keeps output output'
+Compiles input input' output output' (Err NotWritten) = Unit {0}

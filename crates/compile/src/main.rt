@@ -6,14 +6,7 @@ ghost use Rattle.compile.specs.Prints.{Prints, Printed, Compiles};
 
 use std::io;
 use std::io::{Read, Write};
-
-// How compiling ended: with what is to be written; or before it, since a read or a write failed.
-#[derive(Clone, Copy)]
-pub enum Ending {
-    Whole,
-    NotRead,
-    NotWritten,
-}
+use stream::Failure;
 
 // Compiles a text with buffers of its own.
 fn compile(text: &[u8], card: &mut [u8; 3278]) -> usize
@@ -52,25 +45,24 @@ fn print<W: Write>(output: &mut W, text: &[u8]) -> io::Result<()>
 }
 
 // A text is read one byte past the longest one, so that a longer one is refused. A read that fails is not the end of the text.
-fn compile_all<R: Read, W: Write>(input: &mut R, output: &mut W) -> Ending
+fn compile_all<R: Read, W: Write>(input: &mut R, output: &mut W) -> Result<(), Failure>
     ensures { Compiles (R.remaining input.old) (R.remaining input.new) (W.contents output.old) (W.contents output.new) result }
 {
     let mut text = [0u8; 16385];
-    let stream::Input::Whole(size) = stream::read_all(input, &mut text) else {
-        return Ending::NotRead;
+    let Ok(size) = stream::read_full(input, &mut text) else {
+        return Err(Failure::NotRead);
     };
-    if print(output, &text[..size]).is_err() {
-        return Ending::NotWritten;
-    }
-    Ending::Whole
+    let Ok(()) = print(output, &text[..size]) else {
+        return Err(Failure::NotWritten);
+    };
+    Ok(())
 }
 
 fn main(rt: HostRuntime) -> io::Result<()> {
     let mut input = rt.stdin();
     let mut output = rt.stdout();
     match compile_all(&mut input, &mut output) {
-        Ending::NotRead => eprintln!(rt; "compile: standard input cannot be read"),
-        Ending::NotWritten => eprintln!(rt; "compile: standard output cannot be written"),
-        Ending::Whole => Ok(()),
+        Ok(()) => Ok(()),
+        Err(failure) => eprintln!(rt; "compile: {failure}"),
     }
 }

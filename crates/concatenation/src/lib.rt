@@ -33,7 +33,7 @@ fn first_flags(a: &[u16], flags: &mut [u8]) -> usize
     requires flags_nonzero { (0 < length flags.old) × (length flags.old < 65537) }
     ensures { (flags.new ≡ with_zero (flag_at a.now 0) (replicate (length flags.old) 0)) × Summed 2 flags.new result }
 {
-    bits::clear(flags);
+    flags.fill(0);
     gain(a, 0, 0, flags)
 }
 
@@ -45,17 +45,13 @@ fn next_flags(
     c: usize,
     x: usize,
     members: &[u16],
-    held: usize,
     flags: &mut [u8],
 ) -> usize
     requires x_in_bounds { (x < length a.now) × (0 < length flags.old) }
-    requires pours { Pours s.bb s.nb s.k c held 2 b.now members.now flags.old }
-    ensures { (flags.new ≡ with_zero (flag_at a.now x) (flag_row (led_by members.now (cell s.bb s.k c b.now) held) (length flags.old))) × Summed 2 flags.new result }
+    requires pours { Pours s.bb s.nb s.k c (length members.now) 2 b.now members.now flags.old }
+    ensures { (flags.new ≡ with_zero (flag_at a.now x) (flag_row (led_by members.now (cell s.bb s.k c b.now) (length members.now)) (length flags.old))) × Summed 2 flags.new result }
 {
-    let k = s.k;
-    let bb = s.bb;
-    let nb = s.nb;
-    let poured = bits::lead(b, bb, nb, k, c, members, held, 2, flags);
+    let poured = bits::lead(b, s.bb, s.nb, s.k, c, members, 2, flags);
     gain(a, x, poured.sum, flags)
 }
 
@@ -79,19 +75,16 @@ pub fn next(
     c: usize,
     from: &[u8],
     members: &[u16],
-    held: usize,
     row: &mut [u8],
 ) -> usize
     requires step { Step s a.now b.now c from.now row.old }
     requires op_value { operation_of s.op ≡ concatenation }
-    requires lists { Lists (λ q. flag_at from.now (2 + q)) s.nb held members.now }
+    requires lists { Lists (λ q. flag_at from.now (2 + q)) s.nb (length members.now) members.now }
     ensures { (row.new ≡ (rows_for s a.now b.now).step from.now c) × (result ≡ row_sum 0 row.new) }
 {
-    let k = s.k;
-    let ba = s.ba;
     let p = number::read(from, 0);
-    let x = table::step(a, ba, k, p, c);
-    let sum = next_flags(a, b, s, c, x, members, held, &mut row[2..]);
+    let x = table::step(a, s.ba, s.k, p, c);
+    let sum = next_flags(a, b, s, c, x, members, &mut row[2..]);
     number::write(row, 0, x);
     sum::with_number(x, 0, sum)
 }
@@ -103,6 +96,5 @@ pub fn accepts(a: &[u16], b: &[u16], s: Shape, from: &[u8]) -> bool
     requires op_value { operation_of s.op ≡ concatenation }
     ensures { result ≡ (rows_for s a.now b.now).accepting from.now }
 {
-    let nb = s.nb;
-    bits::some_accepting(b, &from[2..], nb)
+    bits::some_accepting(b, &from[2..], s.nb)
 }

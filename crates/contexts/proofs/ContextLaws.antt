@@ -2,72 +2,41 @@
 use mathlib.Core.Path.{◌≡◌, refl, sym, ap, ◌∙◌}
 use mathlib.Core.Bool.{Bool, true, false}
 use mathlib.Core.Logic.{inl, inr}
-use mathlib.Core.List.{List, [], ◌∷◌, ◌++◌, append_assoc, append-nil}
-use Prim.Native.Nat.{ℕ, zero, suc, ◌+◌, ◌<◌, ◌≤◌}
-use native.Mathlib.Numerals.{add-one}
+use mathlib.Core.List.{List, [], ◌∷◌, ◌++◌, append_assoc}
+use Prim.Native.Nat.{ℕ, zero, suc, ◌+◌, ◌≤◌}
 use native.Mathlib.Omega.{arith}
 use borrow.Author.Tests.{eq-eqb, ne_eqb}
 use lib.Dec.{eqb}
-use lib.ListN.{length, take, drop, get_or, set, length-append, length-set}
-use lib.Seq.{take-suc, take-suc-set, take-length}
+use lib.ListN.{length, take, drop, length-append}
 use Rattle.automata.specs.Booleans.{choose}
 use Rattle.automata.specs.Basics.{nat_test, SameCases, same_cases}
-use Rattle.language.specs.Restriction.{RuleKind, restricts, forbids, obliges, Some, Enough}
+use Rattle.std.specs.Prelude.{Option, None, Some}
+use Rattle.language.specs.Restriction as restriction
+use Rattle.language.specs.Restriction.{RuleKind, restricts, forbids, obliges, Enough}
 use Rattle.language.specs.Expression.{Expr}
-use Rattle.book.specs.Kind.{kind_of, space_kind, slash_kind, underscore_kind, line_end_kind}
+use Rattle.book.specs.Kind.{kind_of, space_kind, slash_kind, underscore_kind}
 use Rattle.book.specs.Reader.{got, bad, read_choice}
 use Rattle.book.proofs.Grammar.{reader_sound}
 use Rattle.book.specs.Text.{tokens, count_of, Form, rule, malformed, form_of, contexts_of, on_read, tail_at, unless}
 use Rattle.book.specs.Program.{postfix, context_program, contexts_program, program}
 use Rattle.lexer.specs.Token.{At, kind_ahead}
 use Rattle.signs.specs.Buffer.{Grown}
-use Rattle.signs.specs.BufferLaws.{grown_none, grown_byte, grown_more}
+use Rattle.signs.specs.BufferLaws.{grown_more}
 use Rattle.signs.specs.Spots.{left}
 use Rattle.signs.specs.Steps.{Put}
 use Rattle.choice.specs.Reading.{To, a_choice}
 use Rattle.choice.specs.ReadingLaws.{choice_got}
 use Rattle.signs.specs.declared.Spot.{Spot}
 use Rattle.lexer.specs.declared.Cursor.{Cursor}
-use Rattle.choice.specs.declared.Made.{Made}
-use Rattle.choice.specs.declared.Made.TheVariants.{Done, Refused}
 use Rattle.contexts.specs.Contexts.{Row, ReadsThen, right_of, ReadsRight, context_of, Context, ReadsContext, Ruled, MayEnd, ReadsContexts}
-
--- ---- rows of codes
-
--- i codes of the row are written
-pub record Filled (o₀ row : List ℕ) (pos : ℕ) (o : List ℕ) (i : ℕ) : Type 0 where
-  pub within : i ≤ length row
-  pub same : length o ≡ length o₀
-  pub code : take (pos + i) o ≡ take pos o₀ ++ take i row
-  pub grown : Grown o₀ pos o (pos + i)
-
-pub row_start : (o row : List ℕ) (pos : ℕ) → Filled o row pos o 0
-row_start o row pos = let z : pos + 0 ≡ pos = omega arith in record { within = omega arith; same = refl; code = rw (z, append-nil); grown = rw z (grown_none o pos) }
-
-pub row_next : (o₀ row : List ℕ) (pos : ℕ) (o : List ℕ) (i : ℕ) → pos + length row ≤ length o₀ → i < length row → Filled o₀ row pos o i → Filled o₀ row pos (set o (pos + i) (get_or row i 0)) (i + 1)
-row_next o₀ row pos o i r l d =
-    let z : pos + (i + 1) ≡ suc (pos + i) = omega arith in
-    let h : pos + i < length o = omega (arith, d.same) in
-    let w : pos + (i + 1) ≡ pos + i + 1 = omega arith in
-    record {
-      within = omega arith;
-      same = length-set o (pos + i) (get_or row i 0) ∙ d.same;
-      code = rw (z, take-suc-set o (pos + i) (get_or row i 0) h, d.code, add-one, take-suc row i 0 l) (append_assoc (take pos o₀) (take i row) (get_or row i 0 ∷ []));
-      grown = rw w (grown_more d.grown (grown_byte o (pos + i) (get_or row i 0)));
-    }
-
-pub row_end : (o₀ row : List ℕ) (pos : ℕ) (o : List ℕ) (i : ℕ) → length row ≤ i → Filled o₀ row pos o i → Row o₀ pos row o (pos + i)
-row_end o₀ row pos o i l d =
-    let z : i ≡ length row = omega (arith, d.within) in
-    record { end_is = ap (λ x. pos + x) z; code = d.code ∙ ap (λ x. take pos o₀ ++ take x row) z ∙ rw take-length; grown = d.grown }
 
 -- ---- a choice, and a row behind its code
 
-pub then_bad : {s o : List ℕ} {c : Spot} {row o' : List ℕ} → read_choice (left s c) ≡ bad → ReadsThen s o c row o' Refused
+pub then_bad : {s o : List ℕ} {c : Spot} {row o' : List ℕ} → read_choice (left s c) ≡ bad → ReadsThen s o c row o' None
 then_bad e = record { says = e }
 
 pub then_done : {s o : List ℕ} {c : Spot} {o₁ : List ℕ} {m : Spot} {row o' : List ℕ} {end : ℕ} → To a_choice s o c o₁ m → Row o₁ m.pos row o' end
-    → ReadsThen s o c row o' (Done (record { cursor = m.cursor; pos = end }))
+    → ReadsThen s o c row o' (Some (record { cursor = m.cursor; pos = end }))
 then_done {o = o} {c = c} {row = row} t r = record {
   says = record {
     expr = t.expr;
@@ -118,7 +87,7 @@ no_sign : (x : ℕ) (ts : List ℕ) (f : List ℕ → Form) → (kind_ahead ts �
 no_sign x [] f h = refl
 no_sign x (b ∷ ts) f h = rw (ne_eqb (kind_of b) x h)
 
-pub right_other : {s o : List ℕ} {c : Spot} {o' : List ℕ} (k : ℕ) → k ≡ kind_ahead (left s c) → (k ≡ underscore_kind → ⊥) → ReadsRight s o c o' Refused
+pub right_other : {s o : List ℕ} {c : Spot} {o' : List ℕ} (k : ℕ) → k ≡ kind_ahead (left s c) → (k ≡ underscore_kind → ⊥) → ReadsRight s o c o' None
 right_other {s} {o} {c} k q h = record { says = λ f. no_sign underscore_kind (left s c) _ (λ e. h (q ∙ e)) }
 
 module _ {s : List ℕ} {at k b : ℕ} {next : Cursor} (x : At s at k b next.at) (h : k ≡ underscore_kind) where
@@ -131,9 +100,9 @@ module _ {s : List ℕ} {at k b : ℕ} {next : Cursor} (x : At s at k b next.at)
   counted : count_of underscore_kind (tokens (drop at s)) ≡ suc (count_of underscore_kind (tokens (drop next.at s)))
   counted = ap (count_of underscore_kind) x.rest_is ∙ rw sign
 
-pub right_read : {s o : List ℕ} {c : Spot} {o' : List ℕ} {k b : ℕ} {next : Cursor} → At s c.cursor.at k b next.at → k ≡ underscore_kind → (r : Made)
+pub right_read : {s o : List ℕ} {c : Spot} {o' : List ℕ} {k b : ℕ} {next : Cursor} → At s c.cursor.at k b next.at → k ≡ underscore_kind → (r : Option Spot)
     → ReadsThen s o (record { cursor = next; pos = c.pos }) context_program o' r → ReadsRight s o c o' r
-right_read {s} {next = next} x h (Done n) d =
+right_read {s} {next = next} x h (Some n) d =
     let u = d.says in
     record {
       says = record {
@@ -147,17 +116,17 @@ right_read {s} {next = next} x h (Done n) d =
         room = omega (arith, u.room, x.falls);
       };
     }
-right_read x h Refused d = record { says = λ f. past x h f ∙ ap (λ R. on_read R f) d.says }
+right_read x h None d = record { says = λ f. past x h f ∙ ap (λ R. on_read R f) d.says }
 
-pub context_none : (s o : List ℕ) (c : Spot) (row o' : List ℕ) → read_choice (left s c) ≡ bad → ReadsContext s o c row o' Refused
+pub context_none : (s o : List ℕ) (c : Spot) (row o' : List ℕ) → read_choice (left s c) ≡ bad → ReadsContext s o c row o' None
 context_none s o c row o' e = record { says = λ f. ap (λ R. on_read R (λ l us. right_of us (f l))) e }
 
 module _ {s o : List ℕ} {c : Spot} {o₁ : List ℕ} {m : Spot} (t : To a_choice s o c o₁ m) where
   went : (f : Expr → Expr → List ℕ → Form) → context_of (left s c) f ≡ right_of (left s m) (f t.expr)
   went f = ap (λ R. on_read R (λ l us. right_of us (f l))) (choice_got t)
 
-  pub context_read : {o' : List ℕ} (r : Made) → ReadsRight s o₁ m o' r → ReadsContext s o c context_program o' r
-  context_read (Done n) d =
+  pub context_read : {o' : List ℕ} (r : Option Spot) → ReadsRight s o₁ m o' r → ReadsContext s o c context_program o' r
+  context_read (Some n) d =
       let u = d.says in
       record {
         says = record {
@@ -172,16 +141,16 @@ module _ {s o : List ℕ} {c : Spot} {o₁ : List ℕ} {m : Spot} (t : To a_choi
           room = omega (arith, t.room, u.room);
         };
       }
-  context_read Refused d = record { says = λ f. went f ∙ d.says (f t.expr) }
+  context_read None d = record { says = λ f. went f ∙ d.says (f t.expr) }
 
 regroup : (a e f r z : List ℕ) → (a ++ (e ++ (f ++ r))) ++ z ≡ a ++ (e ++ (f ++ (r ++ z)))
 regroup a e f r z = simp append_assoc
 
 -- a context with one code more
-pub further_none : {s o : List ℕ} {c : Spot} {row o₁ : List ℕ} (row' o' : List ℕ) → ReadsContext s o c row o₁ Refused → ReadsContext s o c row' o' Refused
+pub further_none : {s o : List ℕ} {c : Spot} {row o₁ : List ℕ} (row' o' : List ℕ) → ReadsContext s o c row o₁ None → ReadsContext s o c row' o' None
 further_none row' o' d = record { says = d.says }
 
-pub further_done : {s o : List ℕ} {c : Spot} {row o₁ : List ℕ} {m : Spot} {b : ℕ} {o' : List ℕ} {n : Spot} → Context s o c row o₁ m → Put o₁ m b o' n → ReadsContext s o c (row ++ (b ∷ [])) o' (Done n)
+pub further_done : {s o : List ℕ} {c : Spot} {row o₁ : List ℕ} {m : Spot} {b : ℕ} {o' : List ℕ} {n : Spot} → Context s o c row o₁ m → Put o₁ m b o' n → ReadsContext s o c (row ++ (b ∷ [])) o' (Some n)
 further_done {s} {o} {c} {row} {m = m} {b = b} {n = n} d p =
     let same : left s n ≡ left s m = ap (λ i. tokens (drop i s)) p.at_is in
     record {
@@ -217,7 +186,7 @@ module _ {kind : RuleKind} {contexts : List (Expr × Expr)} {next : List (Expr �
       d.form ∙ e ∙ rw (ne_eqb (kind_of b) slash_kind (λ w. h (q ∙ ap kind_ahead z ∙ w)))
 
   module _ {k b : ℕ} {after : Cursor} (x : At s c.cursor.at k b after.at) where
-    pub rule_half : {row o₁ : List ℕ} → k ≡ slash_kind → ReadsContext s o (record { cursor = after; pos = c.pos }) row o₁ Refused → form_of s ≡ malformed
+    pub rule_half : {row o₁ : List ℕ} → k ≡ slash_kind → ReadsContext s o (record { cursor = after; pos = c.pos }) row o₁ None → form_of s ≡ malformed
     rule_half h r =
         let (g, q, e) = met_slash x.rest_is d.fuel d.enough in
         d.form ∙ e ∙ rw (eq-eqb (kind_of b) slash_kind (sym x.kind_is ∙ h)) (r.says (after_slash g))
@@ -245,7 +214,7 @@ module _ {kind : RuleKind} {contexts : List (Expr × Expr)} {next : List (Expr �
         slash : count_of underscore_kind (b ∷ tokens (drop after.at s)) ≡ count_of underscore_kind (tokens (drop after.at s))
         slash = rw (ne_eqb (kind_of b) underscore_kind (λ w. omega (arith, x.kind_is)))
 
-some_more : {A : Type 0} (cs : List A) (c : A) → Some (cs ++ (c ∷ []))
+some_more : {A : Type 0} (cs : List A) (c : A) → restriction.Some (cs ++ (c ∷ []))
 some_more [] c = tt
 some_more (x ∷ cs) c = tt
 
@@ -256,14 +225,14 @@ enough_more obliges cs c = some_more cs c
 
 -- further contexts
 module _ {s o : List ℕ} {c : Spot} {operator : ℕ} (g : MayEnd s o c operator) where
-  pub may_end : {o₀ : List ℕ} {c₀ : Spot} → left s c ≡ [] → Grown o₀ c₀.pos o c.pos → ReadsContexts s o₀ c₀ operator o (Done c)
+  pub may_end : {o₀ : List ℕ} {c₀ : Spot} → left s c ≡ [] → Grown o₀ c₀.pos o c.pos → ReadsContexts s o₀ c₀ operator o (Some c)
   may_end e w = record { says = record { ruled = g; none = e; grown = w } }
 
-  pub further_other : {o₀ o' : List ℕ} {c₀ : Spot} {b k : ℕ} {ts : List ℕ} → left s c ≡ b ∷ ts → k ≡ kind_ahead (left s c) → (k ≡ slash_kind → ⊥) → ReadsContexts s o₀ c₀ operator o' Refused
+  pub further_other : {o₀ o' : List ℕ} {c₀ : Spot} {b k : ℕ} {ts : List ℕ} → left s c ≡ b ∷ ts → k ≡ kind_ahead (left s c) → (k ≡ slash_kind → ⊥) → ReadsContexts s o₀ c₀ operator o' None
   further_other z q h = record { says = rule_other g.ruled z q h }
 
   module _ {k b : ℕ} {after : Cursor} (x : At s c.cursor.at k b after.at) (h : k ≡ slash_kind) where
-    pub further_half : {o₀ row o₁ o' : List ℕ} {c₀ : Spot} → ReadsContext s o (record { cursor = after; pos = c.pos }) row o₁ Refused → ReadsContexts s o₀ c₀ operator o' Refused
+    pub further_half : {o₀ row o₁ o' : List ℕ} {c₀ : Spot} → ReadsContext s o (record { cursor = after; pos = c.pos }) row o₁ None → ReadsContexts s o₀ c₀ operator o' None
     further_half r = record { says = rule_half g.ruled x h r }
 
     pub further_next : (o' : List ℕ) (m : Spot) → Context s o (record { cursor = after; pos = c.pos }) (context_program ++ (operator ∷ [])) o' m → length o' ≡ length o → MayEnd s o' m operator
@@ -278,13 +247,11 @@ module _ {s o : List ℕ} {c : Spot} {operator : ℕ} (g : MayEnd s o c operator
 
 -- ---- what reading a context answers
 
-module _ {s o : List ℕ} {c : Spot} {row o' : List ℕ} {r : Made} (d : ReadsContext s o c row o' r) where
-  pub context_to : {n : Spot} → r ≡ Done n → Context s o c row o' n
+module _ {s o : List ℕ} {c : Spot} {row o' : List ℕ} {r : Option Spot} (d : ReadsContext s o c row o' r) where
+  pub context_to : {n : Spot} → r ≡ Some n → Context s o c row o' n
   context_to e = rw e at d.says
 
-  pub context_not : r ≡ Refused → ReadsContext s o c row o' Refused
+  pub context_not : r ≡ None → ReadsContext s o c row o' None
   context_not e = record { says = rw e at d.says }
 
 -- a `/` is a token
-pub slash_token : (k : ℕ) → k ≡ slash_kind → k ≡ line_end_kind → ⊥
-slash_token k h e = omega arith

@@ -1,5 +1,5 @@
 -- What the functions that read a rule's contexts promise: the contexts of the definitions, and their code in the lent buffer, past which nothing changed.
-use Rattle.std.specs.Prelude.{◌≡◌, List, [], ◌++◌, ℕ, suc, ◌+◌, ◌*◌, ◌-◌, ◌≤◌, length, take}
+use Rattle.std.specs.Prelude.{◌≡◌, Option, None, Some, List, [], ◌++◌, ℕ, suc, ◌+◌, ◌*◌, ◌-◌, ◌≤◌, length, take}
 use Rattle.automata.specs.Stages.{Pairing}
 use Rattle.language.specs.Restriction.{RuleKind, Enough}
 use Rattle.language.specs.Expression.{Expr}
@@ -10,8 +10,6 @@ use Rattle.book.specs.Program.{pair_code, postfix, context_program, contexts_pro
 use Rattle.signs.specs.Buffer.{Grown}
 use Rattle.signs.specs.Spots.{left}
 use Rattle.signs.specs.declared.Spot.{Spot}
-use Rattle.choice.specs.declared.Made.{Made}
-use Rattle.choice.specs.declared.Made.TheVariants.{Done, Refused}
 
 -- a row of codes behind the code so far
 pub record Row (o : List ℕ) (pos : ℕ) (row o' : List ℕ) (end : ℕ) : Type 0 where
@@ -30,11 +28,11 @@ pub record Then (s o : List ℕ) (c : Spot) (row o' : List ℕ) (n : Spot) : Typ
   pub falls : suc (length s - n.cursor.at) ≤ length s - c.cursor.at
   pub room : n.pos + 2 * (length s - n.cursor.at) ≤ c.pos + 2 * (length s - c.cursor.at) + length row
 
-abbrev pub ThenSays : List ℕ → List ℕ → Spot → List ℕ → List ℕ → Made → Type 0
-ThenSays s o c row o' (Done n) = Then s o c row o' n
-ThenSays s o c row o' Refused = read_choice (left s c) ≡ bad
+abbrev pub ThenSays : List ℕ → List ℕ → Spot → List ℕ → List ℕ → Option Spot → Type 0
+ThenSays s o c row o' (Some n) = Then s o c row o' n
+ThenSays s o c row o' None = read_choice (left s c) ≡ bad
 
-pub record ReadsThen (s o : List ℕ) (c : Spot) (row o' : List ℕ) (r : Made) : Type 0 where
+pub record ReadsThen (s o : List ℕ) (c : Spot) (row o' : List ℕ) (r : Option Spot) : Type 0 where
   pub says : ThenSays s o c row o' r
 
 -- ---- contexts
@@ -57,11 +55,11 @@ pub record Right (s o : List ℕ) (c : Spot) (o' : List ℕ) (n : Spot) : Type 0
   pub falls : suc (length s - n.cursor.at) ≤ length s - c.cursor.at
   pub room : n.pos + 2 * (length s - n.cursor.at) ≤ c.pos + 2 * (length s - c.cursor.at) + length context_program
 
-abbrev pub RightSays : List ℕ → List ℕ → Spot → List ℕ → Made → Type 0
-RightSays s o c o' (Done n) = Right s o c o' n
-RightSays s o c o' Refused = (f : Expr → List ℕ → Form) → right_of (left s c) f ≡ malformed
+abbrev pub RightSays : List ℕ → List ℕ → Spot → List ℕ → Option Spot → Type 0
+RightSays s o c o' (Some n) = Right s o c o' n
+RightSays s o c o' None = (f : Expr → List ℕ → Form) → right_of (left s c) f ≡ malformed
 
-pub record ReadsRight (s o : List ℕ) (c : Spot) (o' : List ℕ) (r : Made) : Type 0 where
+pub record ReadsRight (s o : List ℕ) (c : Spot) (o' : List ℕ) (r : Option Spot) : Type 0 where
   pub says : RightSays s o c o' r
 
 -- a context, and a row of codes behind its sides
@@ -76,11 +74,11 @@ pub record Context (s o : List ℕ) (c : Spot) (row o' : List ℕ) (n : Spot) : 
   pub falls : suc (length s - n.cursor.at) ≤ length s - c.cursor.at
   pub room : n.pos + 2 * (length s - n.cursor.at) ≤ c.pos + 2 * (length s - c.cursor.at) + length row
 
-abbrev pub ContextSays : List ℕ → List ℕ → Spot → List ℕ → List ℕ → Made → Type 0
-ContextSays s o c row o' (Done n) = Context s o c row o' n
-ContextSays s o c row o' Refused = (f : Expr → Expr → List ℕ → Form) → context_of (left s c) f ≡ malformed
+abbrev pub ContextSays : List ℕ → List ℕ → Spot → List ℕ → List ℕ → Option Spot → Type 0
+ContextSays s o c row o' (Some n) = Context s o c row o' n
+ContextSays s o c row o' None = (f : Expr → Expr → List ℕ → Form) → context_of (left s c) f ≡ malformed
 
-pub record ReadsContext (s o : List ℕ) (c : Spot) (row o' : List ℕ) (r : Made) : Type 0 where
+pub record ReadsContext (s o : List ℕ) (c : Spot) (row o' : List ℕ) (r : Option Spot) : Type 0 where
   pub says : ContextSays s o c row o' r
 
 -- A rule read up to c: its pattern, the contexts so far, and what is left to read of them. `next` is the program of contexts that stand further on.
@@ -109,9 +107,9 @@ pub record Ended (s o : List ℕ) (c : Spot) (operator : ℕ) (o' : List ℕ) (n
   pub none : left s n ≡ []
   pub grown : Grown o c.pos o' n.pos
 
-abbrev pub ContextsSay : List ℕ → List ℕ → Spot → ℕ → List ℕ → Made → Type 0
-ContextsSay s o c operator o' (Done n) = Ended s o c operator o' n
-ContextsSay s o c operator o' Refused = form_of s ≡ malformed
+abbrev pub ContextsSay : List ℕ → List ℕ → Spot → ℕ → List ℕ → Option Spot → Type 0
+ContextsSay s o c operator o' (Some n) = Ended s o c operator o' n
+ContextsSay s o c operator o' None = form_of s ≡ malformed
 
-pub record ReadsContexts (s o : List ℕ) (c : Spot) (operator : ℕ) (o' : List ℕ) (r : Made) : Type 0 where
+pub record ReadsContexts (s o : List ℕ) (c : Spot) (operator : ℕ) (o' : List ℕ) (r : Option Spot) : Type 0 where
   pub says : ContextsSay s o c operator o' r

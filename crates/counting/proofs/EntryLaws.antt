@@ -44,19 +44,19 @@ module _ (c : List ℕ) (m n : ℕ) (R : Ready c m n) (k : ℕ) where
   refused_many e = sym (answers_only narrow c k (refused 31) (count_too_large R.loads (inr (rw R.letters (fits_false (m ^ k) e)))))
 
   -- else the plans can be counted
-  pub countable : (here next : List ℕ) → k ≤ longest_plan → true ≡ fits (m ^ k) → length here ≡ n → length next ≡ n → Countable c m n k here next
-  countable here next h e a b = record { ready = R; short = h; few = fits_true (m ^ k) e; here_long = a; next_long = b }
+  pub countable : (here next : List ℕ) → k ≤ longest_plan → true ≡ fits (m ^ k) → length here ≡ n → length next ≡ n → Countable m n k here next
+  countable here next h e a b = record { short = h; few = fits_true (m ^ k) e; here_long = a; next_long = b }
 
-module _ (c : List ℕ) (m n k : ℕ) (here next : List ℕ) (C : Countable c m n k here next) where
+module _ (c : List ℕ) (m n k : ℕ) (here next : List ℕ) (R : Ready c m n) (C : Countable m n k here next) where
   l : Loaded narrow c
-  l = load_loaded narrow c C.ready.loads
+  l = load_loaded narrow c R.loads
 
   pub parts : Counted narrow c m n
-  parts = ready_counted c m n C.ready
+  parts = ready_counted c m n R
 
   module _ (ms bs : List ℕ) (f : ms ≡ marks_of narrow c) (e : bs ≡ moves_of narrow c) where
     many : length ms ≡ n
-    many = states_many c m n parts ms f ∙ C.ready.states
+    many = states_many c m n parts ms f ∙ R.states
 
     table : Table 120 m ms bs
     table = card_table c m n parts ms f bs e l.inside
@@ -76,10 +76,10 @@ module _ (c : List ℕ) (m n k : ℕ) (here next : List ℕ) (C : Countable c m 
       -- A sum by marks byte is the number of plans that end so,
       ending_sum : (mark : ℕ) → weighed (mark_weight ms mark) row ≡ ending narrow c mark k 0
       ending_sum mark = A.sum (mark_weight ms mark)
-          ∙ sym (ending_earlier c l m n parts ms bs f e mark k 0 l.contents.states_some ∙ ap (λ x. earlier bs x k (mark_weight ms mark) 0) C.ready.letters)
+          ∙ sym (ending_earlier c l m n parts ms bs f e mark k 0 l.contents.states_some ∙ ap (λ x. earlier bs x k (mark_weight ms mark) 0) R.letters)
 
       -- and the three are the answer.
       pub counted : sums_of row ms ≡ census narrow c k
       counted =
           (λ t. counts ((ending_sum 1 ∙ sym (allowed_ending narrow c l k)) t) ((ending_sum 0 ∙ sym (unfinished_ending narrow c l k)) t) ((ending_sum 2 ∙ sym (hopeless_ending narrow c l k)) t))
-          ∙ sym (answers_only narrow c k _ (are_counts C.ready.loads (C.short, rw C.ready.letters C.few) _ _ _ (loaded_counted narrow c l k)))
+          ∙ sym (answers_only narrow c k _ (are_counts R.loads (C.short, rw R.letters C.few) _ _ _ (loaded_counted narrow c l k)))

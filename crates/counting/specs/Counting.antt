@@ -1,12 +1,10 @@
 -- What the parts of counting require and leave.
 use Rattle.std.specs.Prelude.{◌≡◌, List, ℕ, ◌^◌, ◌≤◌, length}
 use Rattle.census.specs.Census.{longest_plan, most_plans, Census, counts}
-use Rattle.run.specs.Walk.{Ready}
 use Rattle.arrivals.specs.Weights.{weighed, mark_weight}
 
--- A card that loads, a length within the bounds, and two rows with a number for each state.
-pub record Countable (c : List ℕ) (m n k : ℕ) (here next : List ℕ) : Type 0 where
-  pub ready : Ready c m n
+-- A length within the bounds for m letters, and two rows with a number for each of n states.
+pub record Countable (m n k : ℕ) (here next : List ℕ) : Type 0 where
   pub short : k ≤ longest_plan
   pub few : m ^ k ≤ most_plans
   pub here_long : length here ≡ n

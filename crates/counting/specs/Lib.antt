@@ -1,3 +1,4 @@
 -- What counting promises.
+pub mod Refusals
 pub mod Reading
 pub mod Counting

@@ -1,77 +1,77 @@
 // How many plans of a length a card allows, leaves unfinished and finds hopeless: states times letters times the length, and no lent buffer.
 #![tactic(auto)]
 
+pub mod refusals;
+
 ghost use Rattle.std.specs.Prelude.{◌≡◌};
 ghost use Rattle.automata.specs.Format.{narrow};
 ghost use Rattle.census.specs.Census.{census};
-ghost use Rattle.run.specs.Walk.{Ready};
+ghost use Rattle.run.specs.Cards.{bytes_of, letters_in, states_in};
 ghost use Rattle.arrivals.specs.Rounds.{Countable as Summable};
-ghost use Rattle.counting.specs.Reading.{answer_of};
+ghost use Rattle.counting.specs.Reading.{census_in, answer_of};
 ghost use Rattle.counting.specs.Counting.{Countable, sums_of};
+
+use moves::Mark;
+pub use refusals::Refusal;
+use run::Card;
 
 // "k exceeds 4,096"
 const LONGEST: usize = 4096;
 
-// "past counting"
-const COUNT_TOO_LARGE: u8 = 31;
-
-// A marks byte is "1 where a plan may end, 2 where no continuation is allowed, else 0".
-const ACCEPTING: u8 = 1;
-
-const UNFINISHED: u8 = 0;
-
-const DEAD: u8 = 2;
-
-// How many plans are allowed, unfinished and hopeless; or the number of a refusal.
-#[derive(Clone, Copy)]
-pub enum Answer {
-    Counts(u64, u64, u64),
-    Refused(u8),
+// How many plans are allowed, unfinished and hopeless.
+#[derive(Clone, Copy, Debug, PartialEq, Eq)]
+pub struct Census {
+    pub allowed: u64,
+    pub unfinished: u64,
+    pub hopeless: u64,
 }
 
 // The three sums by marks byte.
-fn sums(words: &[u64], marks: &[u8]) -> Answer
+fn sums(words: &[u64], marks: &[u8]) -> Census
     requires { Summable words.now marks.now }
-    ensures { answer_of result ≡ sums_of words.now marks.now }
+    ensures { census_in result ≡ sums_of words.now marks.now }
 {
-    let allowed = arrivals::total(words, marks, ACCEPTING);
-    let unfinished = arrivals::total(words, marks, UNFINISHED);
-    let hopeless = arrivals::total(words, marks, DEAD);
-    Answer::Counts(allowed, unfinished, hopeless)
+    let allowed = arrivals::total(words, marks, Mark::Accepting as u8);
+    let unfinished = arrivals::total(words, marks, Mark::Unfinished as u8);
+    let hopeless = arrivals::total(words, marks, Mark::Dead as u8);
+    Census {
+        allowed,
+        unfinished,
+        hopeless,
+    }
 }
 
 // A card that loads, and a length within the bounds: how many plans lead to each state, then the sums.
-fn count(card: &[u8], m: usize, n: usize, k: usize, here: &mut [u64], next: &mut [u64]) -> Answer
-    requires { Countable card.now m n k here.old next.old }
-    ensures { answer_of result ≡ census narrow card.now k }
+fn count(card: &Card, k: usize, here: &mut [u64], next: &mut [u64]) -> Census
+    requires { Countable (letters_in card.now) (states_in card.now) k here.old next.old }
+    ensures { census_in result ≡ census narrow (bytes_of card.now) k }
 {
-    let marks = fields::marks(card, m, n);
-    arrivals::arrive(fields::moves(card, m, n), m, k, here, next);
+    let m = card.layout.counts.letters;
+    let marks = card.layout.marks();
+    arrivals::arrive(card.layout.moves(), m, k, here, next);
     sums(&here[..], marks)
 }
 
 // A card that loads: the bounds are tested, then the plans are counted.
-fn on_card(card: &[u8], m: usize, n: usize, k: usize) -> Answer
-    requires { Ready card.now m n }
-    ensures { answer_of result ≡ census narrow card.now k }
+fn on_card(card: &Card, k: usize) -> Result<Census, Refusal>
+    ensures { answer_of result ≡ census narrow (bytes_of card.now) k }
 {
     if LONGEST < k {
-        return Answer::Refused(COUNT_TOO_LARGE);
+        return Err(Refusal::CountTooLarge);
     }
-    if arrivals::power::fits(m, k) {
-        let mut here = [0u64; 120];
-        let mut next = [0u64; 120];
-        return count(card, m, n, k, &mut here[..n], &mut next[..n]);
+    if !arrivals::power::fits(card.layout.counts.letters, k) {
+        return Err(Refusal::CountTooLarge);
     }
-    Answer::Refused(COUNT_TOO_LARGE)
+    let n = card.layout.counts.states;
+    let mut here = [0u64; 120];
+    let mut next = [0u64; 120];
+    Ok(count(card, k, &mut here[..n], &mut next[..n]))
 }
 
 // The card is tested, then the length, then the plans of so many letters are counted.
-pub fn of_length(card: &[u8], k: usize) -> Answer
-    ensures { answer_of result ≡ census narrow card.now k }
+pub fn of_length(bytes: &[u8], k: usize) -> Result<Census, Refusal>
+    ensures { answer_of result ≡ census narrow bytes.now k }
 {
-    match board::load(card) {
-        board::Loaded::Refused(number) => Answer::Refused(number),
-        board::Loaded::Accepted(m, n) => on_card(card, m, n, k),
-    }
+    let card = board::load(bytes)?;
+    on_card(&card, k)
 }

@@ -15,8 +15,8 @@ use Rattle.compiler.specs.Book.{done, stopped, compile_book}
 use Rattle.compiler.proofs.BookLaws.{accepted_right}
 use Rattle.compiler.specs.Outcome.{stop, written, outcome, enough}
 use Rattle.lines.specs.Lines.{Lent, LinesSay, CompilesLines}
-use Rattle.progress.specs.declared.Ended.{Ended}
-use Rattle.progress.specs.declared.Ended.TheVariants as ended
+use Rattle.compiler.specs.declared.Refusal.{Refusal}
+use Rattle.std.specs.Prelude.{Result, Ok, Err}
 use Rattle.driver.specs.Entry.{documented, lent_lengths, Answers, Ready, PutsSay, Puts}
 use Rattle.frame.proofs.FrameLaws.{stops}
 use Rattle.frame.specs.Frame.{Writable, card_or_stop, PutsCard, Headed, FirstLine, OpensSay, Opens}
@@ -27,14 +27,14 @@ use Rattle.frame.specs.declared.Opened.TheVariants as opened
 
 -- ---- the lines
 
-module _ (text ls : List ℕ) (next : ℕ) (T : Headed text ls next) (registers : List ℕ) (r : Ended) (C : CompilesLines text ls next registers r) where
-  said : (q : Ended) → r ≡ q → LinesSay text ls next registers q
+module _ (text ls : List ℕ) (next : ℕ) (T : Headed text ls next) (registers : List ℕ) (r : Result ℕ Refusal) (C : CompilesLines text ls next registers r) where
+  said : (q : Result ℕ Refusal) → r ≡ q → LinesSay text ls next registers q
   said q e = subst (LinesSay text ls next registers) e C.says
 
   -- the machine of a book that was compiled
-  writable : (p : ℕ) → r ≡ ended.Done p → Writable ls registers
+  writable : (p : ℕ) → r ≡ Ok p → Writable ls registers
   writable p q =
-      let (d, e, _, H) = said (ended.Done p) q in
+      let (d, e, _, H) = said (Ok p) q in
       let R : Right (length ls) d.kept (allows text) = accepted_right narrow text ls d (T.is ∙ e) in
       record {
         machine = d.kept;
@@ -47,36 +47,36 @@ module _ (text ls : List ℕ) (next : ℕ) (T : Headed text ls next) (registers 
   pub ready : Ready ls registers r
   ready = go r refl
     where
-      go : (q : Ended) → r ≡ q → Ready ls registers q
-      go (ended.Done p) e = writable p e
-      go (ended.Refused n l) e = tt
+      go : (q : Result ℕ Refusal) → r ≡ q → Ready ls registers q
+      go (Ok p) e = writable p e
+      go (Err n) e = tt
 
-  lines_put : (p : ℕ) (old new : List ℕ) (x : Compiled) → r ≡ ended.Done p → PutsCard ls registers p old new x → Answers (written narrow (length old) (compile_book narrow text)) old new x
+  lines_put : (p : ℕ) (old new : List ℕ) (x : Compiled) → r ≡ Ok p → PutsCard ls registers p old new x → Answers (written narrow (length old) (compile_book narrow text)) old new x
   lines_put p old new x q P =
-      let (d, e, m, H) = said (ended.Done p) q in
+      let (d, e, m, H) = said (Ok p) q in
       let z : compile_book narrow text ≡ done ls d = T.is ∙ e in
       rw z (subst (λ p. Answers (card_or_stop ls d.kept p (length old)) old new x) m (P.says d.kept H))
 
-  lines_stop : (n l : ℕ) (old : List ℕ) → r ≡ ended.Refused n l → Answers (written narrow (length old) (compile_book narrow text)) old old (Refused n l)
-  lines_stop n l old q =
-      let z : compile_book narrow text ≡ stopped n l = T.is ∙ said (ended.Refused n l) q in
-      rw z (stops n l old)
+  lines_stop : (n : Refusal) (old : List ℕ) → r ≡ Err n → Answers (written narrow (length old) (compile_book narrow text)) old old (Refused n.number n.line)
+  lines_stop n old q =
+      let z : compile_book narrow text ≡ stopped n.number n.line = T.is ∙ said (Err n) q in
+      rw z (stops n.number n.line old)
 
   -- what the lines say, with the card, is the book's outcome
   pub lines_answer : (old new : List ℕ) (x : Compiled) → Puts ls registers r old new x → Answers (written narrow (length old) (compile_book narrow text)) old new x
   lines_answer old new x P = go r refl P.says
     where
-      go : (q : Ended) → r ≡ q → PutsSay ls registers q old new x → Answers (written narrow (length old) (compile_book narrow text)) old new x
-      go (ended.Done p) e S = lines_put p old new x e S
-      go (ended.Refused n l) e (f, g) =
+      go : (q : Result ℕ Refusal) → r ≡ q → PutsSay ls registers q old new x → Answers (written narrow (length old) (compile_book narrow text)) old new x
+      go (Ok p) e S = lines_put p old new x e S
+      go (Err n) e (f, g) =
           subst (λ new. Answers (written narrow (length old) (compile_book narrow text)) old new x) (sym f)
-          (subst (Answers (written narrow (length old) (compile_book narrow text)) old old) (sym g) (lines_stop n l old e))
+          (subst (Answers (written narrow (length old) (compile_book narrow text)) old old) (sym g) (lines_stop n old e))
 
 -- what the lines say, in place of an equation
-pub ready_at : (ls slot : List ℕ) (e q : Ended) → e ≡ q → Ready ls slot e → Ready ls slot q
+pub ready_at : (ls slot : List ℕ) (e q : Result ℕ Refusal) → e ≡ q → Ready ls slot e → Ready ls slot q
 ready_at ls slot e q f R = subst (Ready ls slot) f R
 
-pub puts_at : (ls slot : List ℕ) (e q : Ended) → e ≡ q → (old new : List ℕ) (x : Compiled) → PutsSay ls slot q old new x → Puts ls slot e old new x
+pub puts_at : (ls slot : List ℕ) (e q : Result ℕ Refusal) → e ≡ q → (old new : List ℕ) (x : Compiled) → PutsSay ls slot q old new x → Puts ls slot e old new x
 puts_at ls slot e q f old new x S = record { says = subst (λ e. PutsSay ls slot e old new x) (sym f) S }
 
 -- ---- 1 and 2

@@ -6,18 +6,17 @@ ghost use Rattle.automata.specs.Format.{narrow};
 ghost use Rattle.compiler.specs.Outcome.{outcome};
 ghost use Rattle.driver.specs.Entry.{documented, lent_lengths, Answers, Ready, Puts};
 
-use compiler::Compiled;
+use compiler::{Compiled, Refusal};
 use frame::Opened;
-use progress::Ended;
 
 // What the lines say: the card of the machine in a slot, or their refusal.
-fn put(ended: Ended, letters: &[u8], slot: &[u8], card: &mut [u8]) -> Compiled
+fn put(ended: Result<usize, Refusal>, letters: &[u8], slot: &[u8], card: &mut [u8]) -> Compiled
     requires { Ready letters.now slot.now ended }
     ensures { Puts letters.now slot.now ended card.old card.new result }
 {
     match ended {
-        Ended::Done(peak) => frame::put_card(letters, peak, slot, card),
-        Ended::Refused(n, line) => Compiled::Refused(n, line),
+        Ok(peak) => frame::put_card(letters, peak, slot, card),
+        Err(refusal) => Compiled::Refused(refusal.number, refusal.line),
     }
 }
 
@@ -36,9 +35,7 @@ pub fn compile(
 ) -> Compiled
     ensures { Answers (outcome narrow documented text.now (lent_lengths low.old high.old registers.old stack.old rows.old table.old work.old code.old) (length card.old)) card.old card.new result }
 {
-    let kinds = lexer::kinds::table();
     match frame::opening(
-        &kinds,
         text,
         low.len(),
         high.len(),
@@ -52,7 +49,6 @@ pub fn compile(
         Opened::Lines(from, end) => {
             let letters = &text[from..end];
             let ended = lines::lines(
-                &kinds,
                 text,
                 letters,
                 end + 1,

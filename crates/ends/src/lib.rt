@@ -5,21 +5,17 @@
 ghost use Rattle.std.specs.Prelude.{◌≤◌, ◌<◌, length};
 ghost use Rattle.ends.specs.Ends.{DeadState, Filled, Stepping, Stepped};
 
-// A marks byte "2 where no continuation is allowed"
-const DEAD: u8 = 2;
+use moves::Mark;
 
 // The first dead state, or the number of states.
+// Stays: as a place, for which there is an entry more, so that each letter writes it without a test.
 pub fn dead_state(marks: &[u8]) -> usize
     ensures { DeadState marks.now result }
 {
-    let mut q = 0;
-    while q < marks.len() {
-        if marks[q] == DEAD {
-            return q;
-        }
-        q += 1;
-    }
-    q
+    marks
+        .iter()
+        .position(|mark| *mark == Mark::Dead as u8)
+        .unwrap_or(marks.len())
 }
 
 // No letter: the dead state is dead here, the others nowhere.
@@ -27,11 +23,7 @@ pub fn fill(ends: &mut [usize], n: usize, dead: usize, here: usize, never: usize
     requires { (n < length ends.old) × (dead ≤ n) }
     ensures { Filled n dead here never ends.old ends.new }
 {
-    let mut q = 0;
-    while q < n {
-        ends[q] = never;
-        q += 1;
-    }
+    ends[..n].fill(never);
     ends[dead] = here;
 }
 
@@ -52,17 +44,11 @@ pub fn step(
     ensures { Stepped moves.now m n column dead from to here ends.old ends.new result }
 {
     let mut last = 0;
-    let mut at = column;
-    let mut q = 0;
-    while q < n {
-        let next = moves[at] as usize;
+    for q in 0..n {
+        let next = moves[q * m + column] as usize;
         let end = ends[from + next];
         ends[to + q] = end;
-        if last < end {
-            last = end;
-        }
-        at += m;
-        q += 1;
+        last = last.max(end);
     }
     ends[to + dead] = here;
     last

@@ -1,24 +1,14 @@
 -- Laws of entries: flags as 0 or 1, cells of a table, lists after a store.
-use mathlib.Core.Path.{◌≡◌, refl, sym, ◌∙◌}
+use mathlib.Core.Path.{◌≡◌, refl, sym}
 use mathlib.Core.Bool.{Bool, true, false}
-use mathlib.Core.Logic.{inl, inr}
-use mathlib.Core.List.{List}
-use Prim.Native.Nat.{ℕ, ◌+◌, ◌*◌, ◌≤◌, ◌<◌}
+use Prim.Native.Nat.{ℕ, ◌+◌, ◌*◌, ◌<◌}
 use native.Mathlib.Omega.{arith}
-use lib.ListN.{length, get_or, set}
-use lib.Seq.{get_or-set_same, get_or-set_other}
-use borrow.Author.Tests.{ne_eqb}
-use Rattle.automata.specs.Basics.{LtCases, lt_cases}
+use lib.ListN.{get_or}
+use Rattle.automata.specs.Machine.{size, automaton, WellFormed}
 use Rattle.automata.specs.Partition.{bit}
-use Rattle.automata.specs.Rows.{cell_below}
-use Rattle.automata.specs.Table.{flag_of, ClosedTable, table_step}
-use Rattle.entries.specs.Entries.{Target}
-
-pub bit_none : (x : ℕ) → x ≡ 0 → 0 ≡ bit (flag_of x)
-bit_none x e = rw e
-
-pub bit_some : (x : ℕ) → (x ≡ 0 → ⊥) → 1 ≡ bit (flag_of x)
-bit_some x h = rw (ne_eqb x 0 h)
+use Rattle.automata.specs.Table.{flag_of, table_step, table_size, table_accepting, table_formed}
+use Rattle.entries.specs.declared.table.Table.{Table}
+use Rattle.entries.specs.Entries.{Target, machine_of}
 
 pub bit_same : (a b : Bool) → bit a ≡ bit b → a ≡ b
 bit_same true true e = refl
@@ -26,23 +16,17 @@ bit_same true false e = absurd (omega arith)
 bit_same false true e = absurd (omega arith)
 bit_same false false e = refl
 
--- a cell of a table lies in its list
-pub cell_inside : (base n k : ℕ) (t : List ℕ) (p c : ℕ) → ClosedTable base n k t → p < n → c < k → base + (p * k + c) < length t
-cell_inside base n k t p c C h b = omega (arith, cell_below n k p c h b, C.long)
-
 -- what stands there is the state that the column leads to
-pub cell_target : (base n k : ℕ) (t : List ℕ) (p c r : ℕ) → ClosedTable base n k t → p < n → c < k → r ≡ get_or t (base + (p * k + c)) 0 → Target base n k t p c r
-cell_target base n k t p c r C h b e = record { step = e ∙ sym (table_step base n k t C p c h b); inside = rw e (C.inside p c h b) }
+pub cell_target : (T : Table) (p c : ℕ) → p < T.states → c < T.columns → Target T p c (get_or T.cells.now (T.base + (p * T.columns + c)) 0)
+cell_target T p c h b = record { step = sym (table_step T.base T.states T.columns T.cells.now T.closed p c h b); inside = T.closed.inside p c h b }
 
--- ---- arrays that are filled from the front
+-- ---- the machine of a table
 
-pub filled_more : (w w' : List ℕ) (i v : ℕ) (g : ℕ → ℕ) → w' ≡ set w i v → i < length w → ((p : ℕ) → p < i → get_or w p 0 ≡ g p) → v ≡ g i
-    → (p : ℕ) → p < i + 1 → get_or w' p 0 ≡ g p
-filled_more w w' i v g s h f e p b = rw s (go (lt_cases p i))
-  where
-    go : LtCases p i → get_or (set w i v) p 0 ≡ g p
-    go (inl x) = get_or-set_other w i p v 0 (omega (arith, x.0)) ∙ f p x.0
-    go (inr x) = let z : p ≡ i = omega arith in rw z (get_or-set_same w i v 0 h ∙ e)
+pub machine_size : (T : Table) → size (machine_of T) ≡ T.states
+machine_size T = table_size T.base T.states T.columns T.cells.now T.closed
 
-pub filled_past : (w w' : List ℕ) (i v n : ℕ) (g : ℕ → ℕ) → w' ≡ set w i v → i < n → ((q : ℕ) → n ≤ q → get_or w q 0 ≡ g q) → (q : ℕ) → n ≤ q → get_or w' q 0 ≡ g q
-filled_past w w' i v n g s h f q b = rw s (get_or-set_other w i q v 0 (omega arith) ∙ f q b)
+pub machine_accepting : (T : Table) (p : ℕ) → p < T.states → (automaton (machine_of T)).accepting p ≡ flag_of (get_or T.cells.now p 0)
+machine_accepting T = table_accepting T.base T.states T.columns T.cells.now T.closed
+
+pub machine_formed : (T : Table) → WellFormed T.columns (machine_of T)
+machine_formed T = table_formed T.base T.states T.columns T.cells.now T.closed

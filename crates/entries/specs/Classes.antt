@@ -3,8 +3,8 @@
 use Rattle.std.specs.Prelude.{◌≡◌, cond, List, ℕ, zero, suc, ◌+◌, ◌≤◌, ◌<◌, length, get_or, take, eqb}
 use Rattle.automata.specs.Machine.{Machine, automaton}
 use Rattle.automata.specs.Refinement.{Coarse}
-use Rattle.automata.specs.Table.{table_machine, ClosedTable}
-use Rattle.entries.specs.Entries.{class_of}
+use Rattle.entries.specs.declared.table.Table.{Table}
+use Rattle.entries.specs.Entries.{class_of, machine_of}
 
 -- The second array.
 abbrev pub next : ℕ → List ℕ → ℕ → ℕ
@@ -25,14 +25,13 @@ leaders g zero = zero
 leaders g (suc m) = let r = leaders g m in cond (eqb (g m) m) (suc r) r
 
 -- The table, and a list with room for the three arrays.
-pub record Sized (base n k : ℕ) (t w : List ℕ) : Type 0 where
-  pub closed : ClosedTable base n k t
-  pub room : n + (n + n) ≤ length w
-  pub few : n < 65536
+pub record Sized (T : Table) (w : List ℕ) : Type 0 where
+  pub room : T.states + (T.states + T.states) ≤ length w
+  pub few : T.states < 65536
 
 -- Classes on the way, so many of them at least: each goes by its first state, equivalent states share one, and states that share one answer alike.
-pub record Refining (base n k : ℕ) (t w : List ℕ) (count : ℕ) : Type 0 where
-  pub led : Led n (class_of (take n w))
-  pub coarse : Coarse k (table_machine base n k t) (class_of (take n w))
-  pub told : Told n (table_machine base n k t) (class_of (take n w))
-  pub counted : count ≤ leaders (class_of (take n w)) n
+pub record Refining (T : Table) (w : List ℕ) (count : ℕ) : Type 0 where
+  pub led : Led T.states (class_of (take T.states w))
+  pub coarse : Coarse T.columns (machine_of T) (class_of (take T.states w))
+  pub told : Told T.states (machine_of T) (class_of (take T.states w))
+  pub counted : count ≤ leaders (class_of (take T.states w)) T.states

@@ -19,11 +19,8 @@ pub fn start(a: &[u16], b: &[u16], s: Shape, row: &mut [u8]) -> usize
     requires op_value { operation_of s.op ≡ erase }
     ensures { (row.new ≡ (rows_for s a.now b.now).start) × (result ≡ row_sum 0 row.new) }
 {
-    let k = s.k;
-    let ba = s.ba;
-    let na = s.na;
-    bits::clear(row);
-    closure::chase(a, ba, k, na, 0, 0, row)
+    row.fill(0);
+    closure::chase(a, s.ba, s.k, s.na, 0, 0, row)
 }
 
 // The row that `from` leads to by the column c, where its members are listed: by the mark, the empty one. Its sum.
@@ -34,20 +31,16 @@ pub fn next(
     c: usize,
     from: &[u8],
     members: &[u16],
-    held: usize,
     row: &mut [u8],
 ) -> usize
     requires step { Step s a.now b.now c from.now row.old }
     requires op_value { operation_of s.op ≡ erase }
-    requires lists { Lists (flag_at from.now) s.na held members.now }
+    requires lists { Lists (flag_at from.now) s.na (length members.now) members.now }
     ensures { (row.new ≡ (rows_for s a.now b.now).step from.now c) × (result ≡ row_sum 0 row.new) }
 {
-    let k = s.k;
-    let ba = s.ba;
-    let na = s.na;
-    bits::clear(row);
-    if c + 1 != k {
-        return closure::lead(a, ba, k, c, members, held, na, row);
+    row.fill(0);
+    if c + 1 != s.k {
+        return closure::lead(a, s.ba, s.k, c, members, s.na, row);
     }
     0
 }
@@ -59,6 +52,5 @@ pub fn accepts(a: &[u16], b: &[u16], s: Shape, from: &[u8]) -> bool
     requires op_value { operation_of s.op ≡ erase }
     ensures { result ≡ (rows_for s a.now b.now).accepting from.now }
 {
-    let na = s.na;
-    bits::some_accepting(a, from, na)
+    bits::some_accepting(a, from, s.na)
 }

@@ -1,5 +1,5 @@
 -- A line's program over the lent buffers makes what the line's stages make: the machine is left in front of the stack.
-use Rattle.std.specs.Prelude.{◌≡◌, refl, List, [], ◌∷◌, ◌++◌, ℕ, suc, ◌*◌, ◌-◌, true, eqb, length, take, drop}
+use Rattle.std.specs.Prelude.{◌≡◌, refl, List, [], ◌∷◌, ◌++◌, Result, Ok, Err, ℕ, suc, ◌*◌, ◌-◌, true, eqb, length, drop}
 use Rattle.std.proofs.Common.{ap, ◌∙◌, subst, append-nil, append_assoc, arith}
 use Rattle.automata.specs.Format.{Format}
 use Rattle.automata.specs.Machine.{Machine}
@@ -17,33 +17,32 @@ use Rattle.slots.specs.Slot.{Slot, slot_machine}
 use Rattle.codes.specs.Execute.{Store, Ran, ran, execute}
 use Rattle.evaluate.specs.ExecuteLaws.{AllLeaves, top_of, rule_leaves, define_leaves}
 use Rattle.operations.specs.Apply.{format_of, greatest}
-use Rattle.evaluate.specs.Steps.{store_of, book_in, Gives, Stands, Shelved}
+use Rattle.evaluate.specs.Steps.{store_of, book_in, number_of, Gives, Stands, Shelved}
 use Rattle.evaluate.specs.Run.{height_of, AllStood, Runs}
 use Rattle.operands.specs.declared.Layout.{Layout}
-use Rattle.operations.specs.declared.apply.Stepped.{Stepped}
-use Rattle.operations.specs.declared.apply.Stepped.TheVariants.{Next, Refused, Stuck}
-use Rattle.evaluate.specs.declared.run.Evaluated.{Evaluated}
-use Rattle.evaluate.specs.declared.run.Evaluated.TheVariants.{Made as Peak, Refused as Stopped}
+use Rattle.evaluate.specs.declared.run.Stepped.{Stepped}
+use Rattle.evaluate.specs.declared.run.Failure.{Failure}
+use Rattle.evaluate.specs.declared.run.Failure.TheVariants.{TooMany, Stuck}
 
 -- What an answer says of what is made: the counts with their greatest, and the machine in front of the stack; or the refusal.
-abbrev pub Answered : Layout → ℕ → List ℕ → Evaluated → Made → Type 0
-Answered l m stack (Peak p) X = (counts : List ℕ) × (greatest counts ≡ p) × (X ≡ made counts (slot_machine l.states (suc m) stack)) × Slot l.states (suc m) stack
-Answered l m stack (Stopped n) X = X ≡ refused n
+abbrev pub Answered : Layout → ℕ → List ℕ → Result ℕ Failure → Made → Type 0
+Answered l m stack (Ok p) X = (counts : List ℕ) × (greatest counts ≡ p) × (X ≡ made counts (slot_machine l.limits.states (suc m) stack)) × Slot l.limits.states (suc m) stack
+Answered l m stack (Err e) X = X ≡ refused (number_of e)
 
 abbrev pub top_made : Layout → List ℕ → List (ℕ × Machine) → Machine → List ℕ → Machine → Machine → Made
 top_made l ls env kept q P R = top_of (execute (format_of l) ls env kept q (record { stack = []; pattern = P; right = R }))
 
 -- What the program leaves on top of an empty stack, whatever stands in the registers of pattern and right side; the book so far stays.
-pub record Evaluates (l : Layout) (ls first second code : List ℕ) (len : ℕ) (registers₀ registers stack : List ℕ) (r : Evaluated) : Type 0 where
+pub record Evaluates (l : Layout) (ls first second code registers₀ registers stack : List ℕ) (r : Result ℕ Failure) : Type 0 where
   pub pattern : Machine
   pub right : Machine
-  pub makes : (env : List (ℕ × Machine)) → AllStood l (length ls) first second env code len
-      → Answered l (length ls) stack r (top_made l ls env (book_in l (length ls) registers₀) (take len code) pattern right)
+  pub makes : (env : List (ℕ × Machine)) → AllStood l (length ls) first second env code
+      → Answered l (length ls) stack r (top_made l ls env (book_in l (length ls) registers₀) code pattern right)
   pub shelved : Shelved l (length ls) registers₀ registers
 
 -- ---- from a run
 
-module _ {l : Layout} {ls first second code : List ℕ} {len : ℕ} {registers₀ stack₀ registers stack : List ℕ} {r : Stepped} (R : Runs l ls first second code len registers₀ stack₀ registers stack r) where
+module _ {l : Layout} {ls first second code registers₀ stack₀ registers stack : List ℕ} {r : Result Stepped Failure} (R : Runs l ls first second code registers₀ stack₀ registers stack r) where
   abbrev m : ℕ
   m = length ls
 
@@ -51,14 +50,14 @@ module _ {l : Layout} {ls first second code : List ℕ} {len : ℕ} {registers�
   s = store_of l m 0 stack₀ registers₀
 
   abbrev whole : List (ℕ × Machine) → Ran
-  whole env = execute (format_of l) ls env (book_in l m registers₀) (take len code) s
+  whole env = execute (format_of l) ls env (book_in l m registers₀) code s
 
   front : drop (0 * l.size) stack ≡ stack
   front = let z : 0 * l.size ≡ 0 = omega arith in ap (λ n. drop n stack) z
 
-  pub run_made : (h p : ℕ) → r ≡ Next h p → height_of 0 (take len code) ≡ 1 → Evaluates l ls first second code len registers₀ registers stack (Peak p)
-  run_made h p e w =
-      let (a, S) = subst (λ r. Stands l m stack r (height_of 0 (take len code))) e R.stands in
+  pub run_made : (x : Stepped) → r ≡ Ok x → height_of 0 code ≡ 1 → Evaluates l ls first second code registers₀ registers stack (Ok x.sets)
+  run_made x e w =
+      let (a, S) = subst (λ r. Stands l m stack r (height_of 0 code)) e R.stands in
       record {
         pattern = s.pattern;
         right = s.right;
@@ -66,17 +65,18 @@ module _ {l : Layout} {ls first second code : List ℕ} {len : ℕ} {registers�
             let (counts, g, y) = subst (λ r. Gives l m registers stack r (whole env)) e (R.gives env N) in (
               counts,
               g,
-              ap top_of (y ∙ ap (λ n. ran counts (store_of l m n stack registers)) (a ∙ w)) ∙ ap (λ t. made counts (slot_machine l.states (suc m) t)) front,
-              subst (Slot l.states (suc m)) front (S.held 0 (omega arith)),
+              ap top_of (y ∙ ap (λ n. ran counts (store_of l m n stack registers)) (a ∙ w)) ∙ ap (λ t. made counts (slot_machine l.limits.states (suc m) t)) front,
+              subst (Slot l.limits.states (suc m)) front (S.held 0 (omega arith)),
             );
         shelved = R.shelved;
       }
 
-  pub run_refused : (n : ℕ) → r ≡ Refused n → Evaluates l ls first second code len registers₀ registers stack (Stopped n)
-  run_refused n e = record { pattern = s.pattern; right = s.right; makes = λ env N. ap top_of (subst (λ r. Gives l m registers stack r (whole env)) e (R.gives env N)); shelved = R.shelved }
-
-  pub run_stuck : r ≡ Stuck → Evaluates l ls first second code len registers₀ registers stack (Stopped 0)
-  run_stuck e = record { pattern = s.pattern; right = s.right; makes = λ env N. ap top_of (subst (λ r. Gives l m registers stack r (whole env)) e (R.gives env N)); shelved = R.shelved }
+  pub run_stops : (e : Failure) → r ≡ Err e → Evaluates l ls first second code registers₀ registers stack (Err e)
+  run_stops e i = record { pattern = s.pattern; right = s.right; makes = λ env N. stops e (whole env) (subst (λ r. Gives l m registers stack r (whole env)) i (R.gives env N)); shelved = R.shelved }
+    where
+      stops : (e : Failure) (X : Ran) → Gives l m registers stack (Err e) X → top_of X ≡ refused (number_of e)
+      stops (TooMany e) X y = ap top_of y
+      stops Stuck X y = ap top_of y
 
 -- ---- a line's program leaves one machine
 
@@ -150,10 +150,10 @@ line_leaves fmt ls env kept n (rule kind p cs) t (a, s, x) P R = rule_leaves fmt
 line_leaves fmt ls env kept n malformed t s P R = absurd t
 
 -- Running the program of a line answers what the line's stages make.
-pub line_answered : {l : Layout} {ls first second code : List ℕ} {len : ℕ} {registers₀ registers stack : List ℕ} {r : Evaluated} → Evaluates l ls first second code len registers₀ registers stack r
-    → (n : ℕ) (F : Form) → Formed F → FormHeld n F → take len code ≡ program F → (env : List (ℕ × Machine)) → AllStood l (length ls) first second env code len
+pub line_answered : {l : Layout} {ls first second code registers₀ registers stack : List ℕ} {r : Result ℕ Failure} → Evaluates l ls first second code registers₀ registers stack r
+    → (n : ℕ) (F : Form) → Formed F → FormHeld n F → code ≡ program F → (env : List (ℕ × Machine)) → AllStood l (length ls) first second env code
     → Answered l (length ls) stack r (line_made (format_of l) ls env (book_in l (length ls) registers₀) F)
-line_answered {l} {ls} {first} {second} {code} {len} {registers₀} {registers} {stack} {r} E n F t s e env N =
+line_answered {l} {ls} {first} {second} {code} {registers₀} {registers} {stack} {r} E n F t s e env N =
     subst (Answered l (length ls) stack r)
     (ap (λ q. top_made l ls env (book_in l (length ls) registers₀) q E.pattern E.right) e ∙ line_leaves (format_of l) ls env (book_in l (length ls) registers₀) n F t s E.pattern E.right)
     (E.makes env N)

@@ -1,6 +1,6 @@
 -- From a line that was read, buffers that are long enough and slots that hold machines to what running the line's program asks.
 use Rattle.std.specs.Prelude.{◌≡◌, true, false, List, ℕ, suc, ◌+◌, ◌-◌, ◌*◌, ◌≤◌, ◌<◌, leb, length, get_or, take}
-use Rattle.std.proofs.Common.{sym, ap, ◌∙◌, subst, inl, inr, add-one, arith, le-leb}
+use Rattle.std.proofs.Common.{refl, sym, ap, ◌∙◌, subst, inl, inr, add-one, arith, le-leb}
 use Rattle.std.proofs.lemmas.Bool.{lt-leb}
 use Rattle.automata.specs.Basics.{LtCases, lt_cases}
 use Rattle.automata.specs.Machine.{Machine}
@@ -8,11 +8,14 @@ use Rattle.book.specs.Kind.{is_name}
 use Rattle.book.specs.Text.{define, rule}
 use Rattle.book.specs.StackLaws.{highest}
 use Rattle.book.proofs.StackLaws.{program_highest}
-use Rattle.reader.specs.Answers.{ReadsNext}
+use Rattle.reader.specs.Answers.{program_length, ReadsNext}
 use Rattle.reader.specs.AnswerLaws.{name_read, rule_read}
 use Rattle.reader.specs.declared.names.Names.{Names}
-use Rattle.reader.specs.declared.line.LineAnswer.{LineAnswer}
-use Rattle.reader.specs.declared.line.LineAnswer.TheVariants.{Define, Rule}
+use Rattle.std.specs.Prelude.{Result, Ok}
+use Rattle.book.specs.declared.refusal.Refusal.{Refusal}
+use Rattle.forms.specs.declared.Code.{Code}
+use Rattle.forms.specs.declared.Code.TheVariants.{Define, Rule}
+use Rattle.reader.specs.declared.line.Line.{Line}
 use Rattle.reader.proofs.SymbolLaws.{name_byte}
 use Rattle.slots.specs.Slot.{Slot, Holds, Written}
 use Rattle.operands.specs.Stack.{Slots, Below, slots_below, slots_more}
@@ -24,16 +27,17 @@ use Rattle.evaluate_run.specs.Ready.{Coded}
 
 -- ---- a line that was read
 
-module _ {s : List ℕ} {at : ℕ} {letters : List ℕ} {f : Names} {o₀ o : List ℕ} {r : LineAnswer} (d : ReadsNext s at letters f o₀ o r) where
-  pub read_name : (x : ℕ) {len next : ℕ} → r ≡ Define x len next → Coded o len × (at < next)
-  read_name x e =
-      let (W, n) = name_read d e in
-      (record { form = define x W.body; formed = tt; held = W.written.held; code_is = W.written.code; fits = W.written.fits }, omega (arith, d.ends.from, n))
-
-  pub read_rule : {len next : ℕ} → r ≡ Rule len next → Coded o len × (at < next)
-  read_rule e =
-      let (W, n) = rule_read d e in
-      (record { form = rule W.kind W.pattern W.contexts; formed = tt; held = W.written.held; code_is = W.written.code; fits = W.written.fits }, omega (arith, d.ends.from, n))
+module _ {s : List ℕ} {at : ℕ} {letters : List ℕ} {f : Names} {o₀ o : List ℕ} {r : Result Line Refusal} (d : ReadsNext s at letters f o₀ o r) where
+  pub line_coded : {n : Line} → r ≡ Ok n → (program_length n.code ≤ length o) × Coded (take (program_length n.code) o) × (at < n.next)
+  line_coded {n} e = go n.code n.next e
+    where
+      go : (x : Code) (next : ℕ) → r ≡ Ok (record { code = x; next = next }) → (program_length x ≤ length o) × Coded (take (program_length x) o) × (at < next)
+      go (Define x len) next e =
+          let (W, n) = name_read d e refl in
+          (W.written.fits, record { form = define x W.body; formed = tt; held = W.written.held; code_is = W.written.code }, omega (arith, d.ends.from, n))
+      go (Rule len) next e =
+          let (W, n) = rule_read d e refl in
+          (W.written.fits, record { form = rule W.kind W.pattern W.contexts; formed = tt; held = W.written.held; code_is = W.written.code }, omega (arith, d.ends.from, n))
 
 -- ---- slots
 
@@ -60,12 +64,12 @@ name_slot_lem names S x t = go (lt_cases 77 x)
 
 -- the limits of 01, and the bytes of a slot
 abbrev pub layout : Layout
-layout = record { sets = 512; states = 120; size = 3362 }
+layout = record { limits = record { sets = 512; states = 120 }; size = 3362 }
 
-module _ {code : List ℕ} {len : ℕ} (C : Coded code len) where
+module _ {code : List ℕ} (C : Coded code) where
   pub running : (letters names registers stack rows table work : List ℕ) → 2 ≡ length letters → Slots 120 3 3362 13 names → Slots 120 3 3362 3 registers
       → 43706 ≡ length names → 10086 ≡ length registers → 63878 ≡ length stack → 62464 ≡ length rows → 14336 ≡ length table → 6720 ≡ length work
-      → Running layout letters names names registers code len stack rows table work
+      → Running layout letters names names registers code stack rows table work
   running letters names registers stack rows table work two N S a b c d e f = record {
     shelves = record { states = omega arith; letters = omega arith; slot = omega arith; first_long = omega arith; second_long = omega arith; registers_long = omega arith };
     lent = record {
@@ -79,10 +83,9 @@ module _ {code : List ℕ} {len : ℕ} (C : Coded code len) where
       classes_long = (omega arith, omega arith);
     };
     held = subst (λ m. Slots 120 (suc m) 3362 3 registers) two S;
-    whole = C.fits;
     height = subst (λ p. highest 0 p ≤ 19) (sym C.code_is) (program_highest 17 C.form (omega arith) C.held);
     names = λ i h t. subst (λ m. Slot 120 (suc m) (name_slot 3362 names names (get_or code i 0))) two (name_slot_lem names N (get_or code i 0) t);
   }
 
-  pub one_machine : height_of 0 (take len code) ≡ 1
+  pub one_machine : height_of 0 code ≡ 1
   one_machine = ap (height_of 0) C.code_is ∙ program_height 17 C.form C.formed C.held

@@ -4,15 +4,14 @@
 #![tactic(auto)]
 
 ghost use Rattle.std.specs.Prelude.{◌≡◌, ◌*◌, ◌<◌, ◌≤◌, length, IfOk};
-ghost use Rattle.lexer.specs.Kinds.{Kinds};
 ghost use Rattle.operands.specs.Stack.{Slots};
 ghost use Rattle.evaluate_run.specs.Ready.{Coded};
 
+use answers::Limits;
 use evaluate::run;
-use evaluate::run::Evaluated;
-use lexer::kinds::KindTable;
+use evaluate::run::Failure;
 use operands::Layout;
-use reader::line::{LineAnswer, read_line};
+use reader::line::{program_length, read_line};
 use reader::names::Names;
 use slots::{given, slot};
 use std::io;
@@ -22,11 +21,9 @@ fn fill(n: usize, slots: &mut [u8])
     requires { (n ≤ 13) × (n * 3362 ≤ length slots.old) }
     ensures { Slots 120 3 3362 n slots.new }
 {
-    let mut i = 0;
-    while i < n {
+    for i in 0..n {
         let at = i * 3362;
         given::all(&mut slots[at..at + 3362], 120, 2);
-        i += 1;
     }
 }
 
@@ -35,15 +32,15 @@ fn say_refused(rt: &impl Print, n: u8) -> io::Result<()> {
 }
 
 // What was made; its machine is in front of the stack.
-fn say(rt: &impl Print, r: Evaluated, stack: &[u8]) -> io::Result<()>
+fn say(rt: &impl Print, r: Result<usize, Failure>, stack: &[u8]) -> io::Result<()>
     requires { 2 ≤ length stack.now }
 {
     match r {
-        Evaluated::Made(peak) => {
+        Ok(peak) => {
             let states = slot::number(stack, 0);
             println!(rt; "{peak} sets {states} states")
         }
-        Evaluated::Refused(n) => say_refused(rt, n),
+        Err(failure) => say_refused(rt, failure.number()),
     }
 }
 
@@ -81,8 +78,8 @@ fn work() -> [u16; 6720] {
 }
 
 // A line's program, run.
-fn make(rt: &impl Print, code: &[u8], len: usize, letters: &[u8]) -> io::Result<()>
-    requires coded { Coded code.now len }
+fn make(rt: &impl Print, code: &[u8], letters: &[u8]) -> io::Result<()>
+    requires coded { Coded code.now }
     requires value { 2 ≡ length letters.now }
 {
     let names = names();
@@ -92,13 +89,14 @@ fn make(rt: &impl Print, code: &[u8], len: usize, letters: &[u8]) -> io::Result<
     let mut table = table();
     let mut work = work();
     let l = Layout {
-        sets: 512,
-        states: 120,
+        limits: Limits {
+            sets: 512,
+            states: 120,
+        },
         size: 3362,
     };
     let r = run::run(
         code,
-        len,
         l,
         letters,
         &names,
@@ -117,30 +115,19 @@ fn code() -> [u8; 32832] {
 }
 
 // The line that starts at `at`, with no names above it: where the next line starts. A line that is refused as it is read is the last.
-fn line(
-    rt: &impl Print,
-    kinds: &KindTable,
-    text: &[u8],
-    at: usize,
-    letters: &[u8],
-) -> io::Result<usize>
-    requires kinds { Kinds kinds.now }
+fn line(rt: &impl Print, text: &[u8], at: usize, letters: &[u8]) -> io::Result<usize>
     requires at_in_bounds { (at < length text.now) × (length text.now ≤ 4096) }
     requires value { 2 ≡ length letters.now }
     ensures { IfOk result (λ next. at < next) }
 {
     let mut code = code();
-    match read_line(kinds, text, at, letters, Names::none(), &mut code) {
-        LineAnswer::Define(_name, len, next) => {
-            make(rt, &code, len, letters)?;
-            Ok(next)
+    match read_line(text, at, letters, Names::none(), &mut code) {
+        Ok(line) => {
+            make(rt, &code[..program_length(line.code)], letters)?;
+            Ok(line.next)
         }
-        LineAnswer::Rule(len, next) => {
-            make(rt, &code, len, letters)?;
-            Ok(next)
-        }
-        LineAnswer::Refused(n) => {
-            say_refused(rt, n)?;
+        Err(refusal) => {
+            say_refused(rt, refusal.number())?;
             Ok(text.len())
         }
     }
@@ -150,10 +137,10 @@ fn lines(rt: &impl Print, text: &[u8], letters: &[u8]) -> io::Result<()>
     requires text_len_bound { length text.now ≤ 4096 }
     requires value { 2 ≡ length letters.now }
 {
-    let kinds = lexer::kinds::table();
     let mut at = 0;
+    // Stays: where a line ends tells where the next begins, no index is counted.
     while at < text.len() {
-        at = line(rt, &kinds, text, at, letters)?;
+        at = line(rt, text, at, letters)?;
     }
     Ok(())
 }

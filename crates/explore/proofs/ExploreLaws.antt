@@ -19,8 +19,7 @@ use Rattle.sets.specs.Operations.{operation_of}
 use Rattle.sets.specs.declared.Shape.{Shape}
 use Rattle.sets.proofs.FitLaws.{reach_fits}
 use Rattle.turns.specs.Partial.{Room, Partial, Turning, Turned}
-use Rattle.turns.specs.declared.Explored.{Explored}
-use Rattle.turns.specs.declared.Explored.TheVariants.{Sets, TooMany}
+use Rattle.std.specs.Prelude.{Option, Some, None}
 use Rattle.turns.proofs.LoopLaws.{partial_start, partial_wrap}
 use Rattle.readings.specs.Flagged.{Flagging, Flagged}
 use Rattle.turns.specs.Exploring.{Explores, AllRows}
@@ -102,12 +101,12 @@ module _ (s : Shape) (a b rows row table heads : List ℕ) (count p c q : ℕ) (
     pub run_less : s.limit * s.k - (q + 1) < s.limit * s.k - q
     run_less = omega (arith, run_below)
 
-    module _ (rows' row' table' heads' : List ℕ) (x : length rows' ≡ length rows) (y : length row' ≡ length row) (z : length table' ≡ length table) (r : Explored)
+    module _ (rows' row' table' heads' : List ℕ) (x : length rows' ≡ length rows) (y : length row' ≡ length row) (z : length table' ≡ length table) (r : Option ℕ)
         (t : Turned (rows_for s a b) s.k s.w s.limit count p c rows' table' heads' r) where
       -- the next column
-      pub run_on_lem : (n : ℕ) → r ≡ Sets n → (c + 1 ≡ s.k → ⊥) → Running s a b rows' row' table' heads' n p (c + 1) (q + 1)
+      pub run_on_lem : (n : ℕ) → r ≡ Some n → (c + 1 ≡ s.k → ⊥) → Running s a b rows' row' table' heads' n p (c + 1) (q + 1)
       run_on_lem n e o =
-          let v : Turned (rows_for s a b) s.k s.w s.limit count p c rows' table' heads' (Sets n) = rw e at t in
+          let v : Turned (rows_for s a b) s.k s.w s.limit count p c rows' table' heads' (Some n) = rw e at t in
           record {
             fits = R.fits;
             room = room_kept R.room rows' row' table' x y z;
@@ -118,9 +117,9 @@ module _ (s : Shape) (a b rows row table heads : List ℕ) (count p c q : ℕ) (
           }
 
       -- the next row
-      pub run_wrap : (n : ℕ) → r ≡ Sets n → c + 1 ≡ s.k → Running s a b rows' row' table' heads' n (p + 1) 0 (q + 1)
+      pub run_wrap : (n : ℕ) → r ≡ Some n → c + 1 ≡ s.k → Running s a b rows' row' table' heads' n (p + 1) 0 (q + 1)
       run_wrap n e o =
-          let v : Turned (rows_for s a b) s.k s.w s.limit count p c rows' table' heads' (Sets n) = rw e at t in
+          let v : Turned (rows_for s a b) s.k s.w s.limit count p c rows' table' heads' (Some n) = rw e at t in
           let m : (p + 1) * s.k ≡ p * s.k + s.k = rw (add-one, suc-mul) in
           record {
             fits = R.fits;
@@ -131,7 +130,7 @@ module _ (s : Shape) (a b rows row table heads : List ℕ) (count p c q : ℕ) (
             partial = partial_wrap (rows_for s a b) s.k s.w s.limit n p (c + 1) rows' table' heads' o v.1;
           }
 
-      pub run_many : r ≡ TooMany → MoreThan s.k (rows_for s a b) s.limit
+      pub run_many : r ≡ None → MoreThan s.k (rows_for s a b) s.limit
       run_many e = rw e at t
 
   module _ (h : count ≤ p) where

@@ -8,9 +8,8 @@ ghost use Rattle.turns.specs.Exploring.{Explores, Answers};
 use repeats::columns;
 use rows::chains;
 pub use sets::Shape;
-pub use turns::Explored;
 
-// All sets that are reached, each once, with their transitions and flags.
+// All sets that are reached, each once, with their transitions and flags: how many there are, or none where they are more than the limit.
 pub fn explore(
     a: &[u16],
     b: &[u16],
@@ -19,14 +18,14 @@ pub fn explore(
     row: &mut [u8],
     members: &mut [u16],
     table: &mut [u16],
-) -> Explored
+) -> Option<usize>
     requires explores { Explores s a.now b.now rows.old row.old table.old }
     requires listing { Listing s members.old }
     ensures { Answers (rows_for s a.now b.now) s.k s.w s.limit rows.new table.new result }
 {
     let k = s.k;
     let w = s.w;
-    let mut twins = [255; 64];
+    let mut twins = [None; 64];
     columns::twins(a, b, s, &mut twins);
     let mut heads = [0; 512];
     let sum = dispatch::start_row(a, b, s, row);
@@ -38,10 +37,11 @@ pub fn explore(
     let mut column = 0;
     let mut q = 0;
     let mut held = 0;
+    // Stays: a queue, its end moves while it is read.
     while state < count {
         held = readings::list(s, &rows[..], state, column, held, members);
         let twin = columns::twin(&twins, column);
-        let Explored::Sets(n) = advance::advance(
+        count = advance::advance(
             a,
             b,
             s,
@@ -49,17 +49,13 @@ pub fn explore(
             row,
             table,
             &mut heads,
-            &members[..],
-            held,
+            &members[..held],
             count,
             state,
             column,
             twin,
             q,
-        ) else {
-            return Explored::TooMany;
-        };
-        count = n;
+        )?;
         q += 1;
         column += 1;
         if column == k {
@@ -68,5 +64,5 @@ pub fn explore(
         }
     }
     readings::flag_rows(a, b, s, &rows[..], table, count);
-    Explored::Sets(count)
+    Some(count)
 }

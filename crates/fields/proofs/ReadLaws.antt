@@ -1,30 +1,36 @@
 -- The readers of a card: its contents by their numbers, its parts as parts of its bytes, the column of a letter.
-use mathlib.Core.Path.{◌≡◌, refl, sym, ap₂, ◌∙◌}
+use mathlib.Core.Path.{◌≡◌, refl, sym, ap, ap₂, ◌∙◌}
 use mathlib.Core.Bool.{true, false}
 use mathlib.Core.Logic.{◌⊎◌, inl, inr, ◌≢◌}
 use mathlib.Core.List.{List}
 use Prim.Native.Nat.{ℕ, ◌+◌, ◌*◌, ◌-◌, ◌≤◌, ◌<◌}
-use native.Mathlib.Nat.{mul-le-mul, mul-one, not-suc-le-zero}
+use native.Mathlib.Nat.{mul-le-mul, mul-one}
 use native.Mathlib.Omega.{arith}
-use lib.ListN.{length, get_or, take, drop, length-drop}
+use lib.ListN.{length, take, drop, length-drop}
 use lib.Seq.{take_all}
 use Rattle.automata.specs.Booleans.{bool_cases, not_true}
-use Rattle.automata.specs.Basics.{LtCases, lt_cases, nat_test, find_le, find_at, find_least}
+use Rattle.automata.specs.Basics.{LtCases, lt_cases, nat_test, find, find_le, find_at, find_least}
 use Rattle.automata.specs.Format.{narrow}
 use Rattle.card.specs.Number.{number_at}
 use Rattle.card.specs.Layout.{letter_count, state_count, letters_of, marks_of, moves_of, Contents, contents_test}
 use Rattle.card.proofs.LayoutLaws.{contents_sound, contents_whole, moves_one}
 use Rattle.card.specs.Alphabet.{column}
 use Rattle.fields.specs.Counts.{Counted, counts_of}
-use Rattle.fields.specs.declared.Counts.TheVariants.{Of, Bad}
+use Rattle.std.specs.Prelude.{Option, Some, None}
+use Rattle.std.specs.List.{AllWithin, HoldsAt}
+use Rattle.std.specs.Option.{MatchOption, unwrap_or}
+use Rattle.fields.specs.declared.Counts.{Counts}
 
 -- ---- the contents
 
-pub counts_bad : (c : List ℕ) → (Contents narrow c → ⊥) → Bad ≡ counts_of narrow c
+abbrev pub counts : ℕ → ℕ → Counts
+counts m n = record { letters = m; states = n }
+
+pub counts_bad : (c : List ℕ) → (Contents narrow c → ⊥) → None ≡ counts_of narrow c
 unfolding counts_of
 counts_bad c f = rw (not_true (contents_test narrow c) (λ e. f (contents_sound narrow c e)))
 
-pub counts_of_lem : (c : List ℕ) → Contents narrow c → counts_of narrow c ≡ Of (letter_count narrow c) (state_count narrow c)
+pub counts_of_lem : (c : List ℕ) → Contents narrow c → counts_of narrow c ≡ Some (counts (letter_count narrow c) (state_count narrow c))
 unfolding counts_of
 counts_of_lem c r = rw (contents_whole narrow c r)
 
@@ -40,8 +46,8 @@ module _ (c : List ℕ) (m n : ℕ) (a : m ≡ number_at 2 c 2) (b : n ≡ numbe
 
   -- the numbers, one by one
   pub counts_right : m ≤ 26 → 1 ≤ n → n ≤ 120 → number_at 2 c 0 ≡ 12 → number_at 2 c 4 ≡ 12 + m → number_at 2 c 8 ≡ 12 + m + n → number_at 2 c 10 ≡ n * m
-      → length c ≡ 12 + m + n + n * m → Of m n ≡ counts_of narrow c
-  counts_right um ln un w₀ w₄ w₈ w₁₀ l = ap₂ Of a b ∙ sym (counts_of_lem c (record {
+      → length c ≡ 12 + m + n + n * m → Some (counts m n) ≡ counts_of narrow c
+  counts_right um ln un w₀ w₄ w₈ w₁₀ l = ap₂ (λ x y. Some (counts x y)) a b ∙ sym (counts_of_lem c (record {
     letters_least = omega arith;
     letters_most = rw (← a) um;
     states_some = rw (← b) ln;
@@ -57,20 +63,28 @@ module _ (c : List ℕ) (m n : ℕ) (a : m ≡ number_at 2 c 2) (b : n ≡ numbe
 pub cells_most : (m n : ℕ) → m ≤ 26 → n ≤ 120 → n * m ≤ 3120
 cells_most m n a b = mul-le-mul b a
 
+abbrev letters_in : Option Counts → ℕ
+letters_in None = 0
+letters_in (Some k) = k.letters
+
+abbrev states_in : Option Counts → ℕ
+states_in None = 0
+states_in (Some k) = k.states
+
 -- For callers: what the counts say.
-pub of_counted : (c : List ℕ) (m n : ℕ) → Of m n ≡ counts_of narrow c → Counted narrow c m n
+pub of_counted : (c : List ℕ) (m n : ℕ) → Some (counts m n) ≡ counts_of narrow c → Counted narrow c m n
 unfolding counts_of
 of_counted c m n e = go (bool_cases (contents_test narrow c))
   where
     go : (contents_test narrow c ≡ true) ⊎ (contents_test narrow c ≡ false) → Counted narrow c m n
     go (inl t) =
         let r : Contents narrow c = contents_sound narrow c t in
-        let f : Of m n ≡ Of (letter_count narrow c) (state_count narrow c) = e ∙ counts_of_lem c r in
-        record { right = r; letters = cc; states = cc }
-    go (inr t) = let f : Of m n ≡ Bad = rw t at e in absurd (let z : ◌≡◌ {A = ℕ} 0 1 = cc in omega arith)
+        let f : Some (counts m n) ≡ Some (counts (letter_count narrow c) (state_count narrow c)) = e ∙ counts_of_lem c r in
+        record { right = r; letters = sym (ap letters_in f); states = sym (ap states_in f) }
+    go (inr t) = let f : Some (counts m n) ≡ None = rw t at e in absurd (let z : ◌≡◌ {A = ℕ} 0 1 = cc in omega arith)
 
-pub bad_counted : (c : List ℕ) → Bad ≡ counts_of narrow c → Contents narrow c → ⊥
-bad_counted c e r = let f : Bad ≡ Of (letter_count narrow c) (state_count narrow c) = e ∙ counts_of_lem c r in let z : ◌≡◌ {A = ℕ} 0 1 = cc in omega arith
+pub bad_counted : (c : List ℕ) → None ≡ counts_of narrow c → Contents narrow c → ⊥
+bad_counted c e r = let f : None ≡ Some (counts (letter_count narrow c) (state_count narrow c)) = e ∙ counts_of_lem c r in let z : ◌≡◌ {A = ℕ} 0 1 = cc in omega arith
 
 -- ---- the parts
 
@@ -91,30 +105,17 @@ module _ (c : List ℕ) (m n : ℕ) (r : Counted narrow c m n) where
 
 -- ---- the column of a letter
 
--- None of the first i letters is l.
-pub record NotBefore (ls : List ℕ) (l i : ℕ) : Type 0 where
-  pub other : (j : ℕ) → j < i → get_or ls j 0 ≢ l
-
-pub before_start : (ls : List ℕ) (l : ℕ) → NotBefore ls l 0
-before_start ls l = record { other = λ j h. absurd (not-suc-le-zero h) }
-
-module _ (ls : List ℕ) (l i : ℕ) (u : NotBefore ls l i) where
-  pub before_next : (get_or ls i 0 ≡ l → ⊥) → NotBefore ls l (i + 1)
-  before_next d = record { other = λ j h. go j h (lt_cases j i) }
-    where
-      go : (j : ℕ) → j < i + 1 → LtCases j i → get_or ls j 0 ≢ l
-      go j h (inl x) = u.other j x.0
-      go j h (inr x) = let z : j ≡ i = omega arith in λ e. d (rw z at e)
-
-  later : i ≤ length ls → i ≤ column ls l
-  later h = go (lt_cases (column ls l) i)
-    where
-      go : LtCases (column ls l) i → i ≤ column ls l
-      go (inl x) = absurd (u.other (column ls l) x.0 (find_at nat_test 0 l ls (omega (arith, x.0))))
-      go (inr x) = x.0
-
-  pub column_here : i < length ls → get_or ls i 0 ≡ l → i ≡ column ls l
-  column_here h e = omega (arith, later (omega arith), find_least nat_test 0 l ls i h e)
-
-  pub column_end : i ≡ length ls → i ≡ column ls l
-  column_end e = omega (arith, later (omega arith), find_le nat_test l ls)
+-- no letter before the first one found is l, and that one is; or none is
+pub column_first : (ls : List ℕ) (l : ℕ) (r : Option ℕ)
+    → MatchOption r (AllWithin (λ x. x ≢ l) ls 0 (length ls)) (λ i. (i < length ls) × HoldsAt (λ x. x ≡ l) ls i × AllWithin (λ x. x ≢ l) ls 0 i)
+    → unwrap_or r (length ls) ≡ column ls l
+column_first ls l None h = go (lt_cases (find nat_test l ls) (length ls))
+  where
+    go : LtCases (find nat_test l ls) (length ls) → length ls ≡ column ls l
+    go (inl p) = absurd (h (find nat_test l ls) 0 (omega arith) p.0 (find_at nat_test 0 l ls p.0))
+    go (inr p) = omega (arith, p.0, find_le nat_test l ls)
+column_first ls l (Some i) (b, e, n) = go (lt_cases (find nat_test l ls) i)
+  where
+    go : LtCases (find nat_test l ls) i → i ≡ column ls l
+    go (inl p) = absurd (n (find nat_test l ls) 0 (omega arith) p.0 (find_at nat_test 0 l ls (omega (arith, p.0, b))))
+    go (inr p) = omega (arith, p.0, find_least nat_test 0 l ls i b (e 0))

@@ -2,17 +2,20 @@
 use mathlib.Core.Path.{◌≡◌, refl, sym, ap, ◌∙◌}
 use mathlib.Core.Bool.{Bool, true, false, ◌&&◌, ◌||◌, not, false≢true}
 use mathlib.Core.Logic.{inl, inr}
-use mathlib.Core.List.{List}
+use mathlib.Core.List.{List, [], ◌∷◌}
 use Prim.Native.Nat.{ℕ, zero, suc, ◌+◌, ◌<◌, ◌≤◌}
+use native.Mathlib.Nat.{not-suc-le-zero, le_of_suc-le-suc}
 use native.Mathlib.Numerals.{add-one}
 use native.Mathlib.Omega.{arith}
 use lib.Dec.{eqb}
-use lib.ListN.{length, get_or, set, replicate, length-set, length-replicate, get_or-replicate}
+use lib.ListN.{length, get_or, set, replicate, take, length-set, length-replicate, get_or-replicate}
 use lib.Seq.{ext_get_or, get_or-set_same, get_or-set_other}
 use borrow.Author.Tests.{eq-eqb, ne_eqb}
+use Rattle.std.specs.List.{zip, list_any}
+use Rattle.automata.specs.Table.{flag_of}
 use Rattle.automata.specs.Booleans.{choose, not_true}
 use Rattle.automata.specs.Basics.{length_tab, get_or_tab, SameCases, same_cases, nat_test}
-use Rattle.automata.specs.Decide.{any_below, any_below_lem, below_any}
+use Rattle.automata.specs.Decide.{any_below, any_below_lem}
 use Rattle.rows.specs.Rows.{bit, flag_at}
 use Rattle.flags.specs.Flags.{flag_row, leads_to, some_accepting}
 
@@ -76,27 +79,37 @@ module _ (member : ℕ → Bool) (next : ℕ → ℕ) (m q : ℕ) {row : List �
 
 -- ---- an accepting member
 
-pub accepting_here : (r a : List ℕ) (n q : ℕ) → q < n → (get_or r q 0 ≡ 0 → ⊥) → (get_or a q 0 ≡ 0 → ⊥) → true ≡ some_accepting (flag_at r) (flag_at a) n
-accepting_here r a n q h x y = sym (below_any (λ p. flag_at r p && flag_at a p) n q h (rw (flag_set r q x, flag_set a q y)))
+or_choose : (a b c : Bool) → choose b (λ _. true) (λ _. a || c) ≡ a || choose b (λ _. true) (λ _. c)
+or_choose true true c = refl
+or_choose true false c = refl
+or_choose false true c = refl
+or_choose false false c = refl
 
--- the states before q are not both in the row and accepting
-abbrev pub NoneYet : List ℕ → List ℕ → ℕ → Type 0
-NoneYet r a q = (p : ℕ) → p < q → flag_at r p && flag_at a p ≡ false
-
-pub none_out : (r a : List ℕ) (q : ℕ) → get_or r q 0 ≡ 0 → flag_at r q && flag_at a q ≡ false
-none_out r a q e = rw (flag_clear r q e)
-
-pub none_no : (r a : List ℕ) (q : ℕ) → get_or a q 0 ≡ 0 → flag_at r q && flag_at a q ≡ false
-none_no r a q e = rw (flag_clear a q e) (go (flag_at r q))
+any_front : (f : ℕ → Bool) (n : ℕ) → any_below f (suc n) ≡ f 0 || any_below (λ i. f (suc i)) n
+any_front f zero = go (f 0)
   where
-    go : (b : Bool) → b && false ≡ false
+    go : (b : Bool) → choose b (λ _. true) (λ _. false) ≡ b || false
     go true = refl
     go false = refl
+any_front f (suc n) = ap (λ (v : Bool). choose (f (suc n)) (λ _. true) (λ _. v)) (any_front f n) ∙ or_choose (f 0) (f (suc n)) (any_below (λ i. f (suc i)) n)
 
-pub accepting_none : (r a : List ℕ) (n q : ℕ) → n ≤ q → NoneYet r a q → false ≡ some_accepting (flag_at r) (flag_at a) n
-accepting_none r a n q h f = sym (not_true (some_accepting (flag_at r) (flag_at a) n) λ e.
+-- a flag beside an accepting state
+abbrev pub both : ℕ × ℕ → Bool
+both p = flag_of p.0 && flag_of p.1
+
+pub both_any : (n : ℕ) (r a : List ℕ) → n ≤ length r → n ≤ length a → list_any both (zip (take n r) a) ≡ some_accepting (flag_at r) (flag_at a) n
+both_any zero r a h g = refl
+both_any (suc n) [] a h g = absurd (not-suc-le-zero h)
+both_any (suc n) (x ∷ r) [] h g = absurd (not-suc-le-zero g)
+both_any (suc n) (x ∷ r) (y ∷ a) h g =
+    ap (λ (v : Bool). both (x, y) || v) (both_any n r a (le_of_suc-le-suc h) (le_of_suc-le-suc g))
+    ∙ sym (any_front (λ q. flag_at (x ∷ r) q && flag_at (y ∷ a) q) n)
+
+-- no state is in the row
+pub accepting_none : (r a : List ℕ) (n : ℕ) → ((p : ℕ) → p < n → flag_at r p && flag_at a p ≡ false) → false ≡ some_accepting (flag_at r) (flag_at a) n
+accepting_none r a n f = sym (not_true (some_accepting (flag_at r) (flag_at a) n) λ e.
     let (p, b, x) = any_below_lem (λ p. flag_at r p && flag_at a p) n e in
-    false≢true (sym (f p (omega arith)) ∙ x))
+    false≢true (sym (f p b) ∙ x))
 
 -- ---- a flag is set besides
 

@@ -14,47 +14,33 @@ pub struct Poured {
     pub accepting: bool,
 }
 
-// No flag is set.
-pub fn clear(row: &mut [u8])
-    ensures { row.new ≡ replicate (length row.old) 0 }
-{
-    let mut i = 0;
-    while i < row.len() {
-        row[i] = 0;
-        i += 1;
-    }
-}
-
 // The members among the first n states of a short row, listed; how many there are.
 fn gather_short(from: &[u8], n: usize, members: &mut [u16]) -> usize
     requires { (n ≤ length from.now) × (n ≤ length members.old) × (n ≤ 65536) }
     ensures { Lists (flag_at from.now) n result members.new }
 {
     let mut count = 0;
-    let mut q = 0;
-    while q < n {
-        if from[q] != 0 {
+    for (q, flag) in from[..n].iter().enumerate() {
+        if *flag != 0 {
             members[count] = q as u16;
             count += 1;
         }
-        q += 1;
     }
     count
 }
 
 // The same for a long row: each state is written, and counts only where it is a member, so that nothing waits for a guess which flags are set.
+// Stays: two functions, each the quicker one for its rows; in one loop a short row would write states that are no members.
 fn gather_long(from: &[u8], n: usize, members: &mut [u16]) -> usize
     requires { (n ≤ length from.now) × (n ≤ length members.old) × (n ≤ 65536) }
     ensures { Lists (flag_at from.now) n result members.new }
 {
     let mut count = 0;
-    let mut q = 0;
-    while q < n {
+    for (q, flag) in from[..n].iter().enumerate() {
         members[count] = q as u16;
-        if from[q] != 0 {
+        if *flag != 0 {
             count += 1;
         }
-        q += 1;
     }
     count
 }
@@ -70,7 +56,7 @@ pub fn gather(from: &[u8], n: usize, members: &mut [u16]) -> usize
     gather_long(from, n, members)
 }
 
-// Sets the flags of the states that the first `count` members lead to by the column c, of a table of n states.
+// Sets the flags of the states that the members lead to by the column c, of a table of n states.
 fn pour(
     t: &[u16],
     base: usize,
@@ -78,33 +64,26 @@ fn pour(
     k: usize,
     c: usize,
     members: &[u16],
-    count: usize,
     first: usize,
     row: &mut [u8],
 ) -> Poured
-    requires pours { Pours base n k c count first t.now members.now row.old }
+    requires pours { Pours base n k c (length members.now) first t.now members.now row.old }
     requires row_value { row.old ≡ replicate (length row.old) 0 }
-    ensures { Filled base n k c count first t.now members.now (length row.old) row.new result }
+    ensures { Filled base n k c (length members.now) first t.now members.now (length row.old) row.new result }
 {
     let mut sum = 0;
     let mut accepting = false;
-    let mut i = 0;
-    while i < count {
-        let q = members[i] as usize;
-        let to = table::step(t, base, k, q, c);
+    for q in members {
+        let to = table::step(t, base, k, *q as usize, c);
         sum = sum::flag(row, first, to, sum);
         if table::accepting(t, to) {
             accepting = true;
         }
-        i += 1;
     }
-    Poured {
-        sum: sum,
-        accepting: accepting,
-    }
+    Poured { sum, accepting }
 }
 
-// The flags of the states that the first `count` members lead to by the column c.
+// The flags of the states that the members lead to by the column c.
 pub fn lead(
     t: &[u16],
     base: usize,
@@ -112,15 +91,14 @@ pub fn lead(
     k: usize,
     c: usize,
     members: &[u16],
-    count: usize,
     first: usize,
     row: &mut [u8],
 ) -> Poured
-    requires { Pours base n k c count first t.now members.now row.old }
-    ensures { Filled base n k c count first t.now members.now (length row.old) row.new result }
+    requires { Pours base n k c (length members.now) first t.now members.now row.old }
+    ensures { Filled base n k c (length members.now) first t.now members.now (length row.old) row.new result }
 {
-    clear(row);
-    pour(t, base, n, k, c, members, count, first, row)
+    row.fill(0);
+    pour(t, base, n, k, c, members, first, row)
 }
 
 // Whether one of the first n states of the row is accepting.
@@ -129,14 +107,8 @@ pub fn some_accepting(t: &[u16], row: &[u8], n: usize) -> bool
     requires n_in_bounds_2 { n ≤ length row.now }
     ensures { result ≡ some_accepting (flag_at row.now) (flag_at t.now) n }
 {
-    let mut q = 0;
-    while q < n {
-        if t[q] != 0 {
-            if row[q] != 0 {
-                return true;
-            }
-        }
-        q += 1;
-    }
-    false
+    row[..n]
+        .iter()
+        .zip(t)
+        .any(|(flag, accepting)| *flag != 0 && *accepting != 0)
 }

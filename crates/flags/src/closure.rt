@@ -1,5 +1,5 @@
 // Rows of flags closed under the last column: a set gains whatever its members reach by one mark or more.
-ghost use Rattle.std.specs.Prelude.{◌≡◌, ◌-◌, ◌<◌, ◌≤◌, replicate};
+ghost use Rattle.std.specs.Prelude.{◌≡◌, ◌-◌, ◌<◌, ◌≤◌, length, replicate};
 ghost use Rattle.rows.specs.Sums.{Summed};
 ghost use Rattle.flags.specs.Closure.{Closes, Chased, Gains};
 ghost use Rattle.flags.specs.Flags.{cell};
@@ -26,6 +26,7 @@ pub fn chase(
     let m = k - 1;
     let mut all = sum;
     let mut q = p;
+    // Stays: a walk along transitions until a flagged state, no index is counted.
     while row[q] == 0 {
         all = sum::flag(row, 0, q, all);
         q = table::step(t, base, k, q, m);
@@ -33,7 +34,7 @@ pub fn chase(
     all
 }
 
-// Flags the states that the first `count` members lead to by the column c, and all that those lead to by marks: the row is closed all the time, so that
+// Flags the states that the members lead to by the column c, and all that those lead to by marks: the row is closed all the time, so that
 // where a flagged state is met, what it leads to is flagged too. The row's sum then.
 pub fn lead(
     t: &[u16],
@@ -41,23 +42,19 @@ pub fn lead(
     k: usize,
     c: usize,
     members: &[u16],
-    count: usize,
     n: usize,
     row: &mut [u8],
 ) -> usize
     requires closes { Closes base n k t.now row.old }
     requires c_lt_k { (c < k) × (n ≤ 65536) }
-    requires counted { Counted n count members.now }
+    requires counted { Counted n (length members.now) members.now }
     requires row_value { row.old ≡ replicate n 0 }
-    ensures { Gains (cell base k (k - 1) t.now) n (led_by members.now (cell base k c t.now) count) row.new × Summed 0 row.new result }
+    ensures { Gains (cell base k (k - 1) t.now) n (led_by members.now (cell base k c t.now) (length members.now)) row.new × Summed 0 row.new result }
 {
     let mut sum = 0;
-    let mut i = 0;
-    while i < count {
-        let q = members[i] as usize;
-        let to = table::step(t, base, k, q, c);
+    for q in members {
+        let to = table::step(t, base, k, *q as usize, c);
         sum = chase(t, base, k, n, to, sum, row);
-        i += 1;
     }
     sum
 }

@@ -1,11 +1,12 @@
 -- From what the parts leave to the reply of the definitions.
-use mathlib.Core.Path.{◌≡◌, sym, ◌∙◌, subst}
+use mathlib.Core.Path.{◌≡◌, sym, ap, ◌∙◌, subst}
 use mathlib.Core.List.{List}
 use Prim.Native.Nat.{ℕ, ◌+◌, ◌≤◌, ◌<◌}
 use native.Mathlib.Omega.{arith}
 use lib.ListN.{length}
 use Rattle.automata.specs.Format.{narrow}
 use Rattle.card.specs.Layout.{letters_of}
+use Rattle.card.specs.Alphabet.{Known}
 use Rattle.card.proofs.Alphabet.{at_known}
 use Rattle.card.specs.Load.{Tested}
 use Rattle.card.proofs.LoadLaws.{tested}
@@ -14,11 +15,12 @@ use Rattle.card.specs.Answer.{load, rejected}
 use Rattle.card.specs.Reply.{answered, refused, no_card, unknown_letter, is_answered}
 use Rattle.factor.specs.Shortest.{shortest}
 use Rattle.factor.proofs.CardLaws.{replies_only}
-use Rattle.run.specs.Walk.{Ready, ColumnTable, KnownTo}
+use Rattle.std.specs.Prelude.{Option}
+use Rattle.run.specs.Walk.{Ready, KnownTo}
 use Rattle.board.proofs.EntryLaws.{rejected_test, rejected_some}
-use Rattle.forbidden.specs.declared.Answer.{Answer}
-use Rattle.forbidden.specs.Reading.{answer_of}
-use Rattle.forbidden.specs.Pass.{most_places, Searchable, Searched}
+use Rattle.forbidden.specs.declared.Stretch.{Stretch}
+use Rattle.forbidden.specs.Reading.{shortest_in}
+use Rattle.forbidden.specs.Pass.{most_places, Searched}
 
 -- a card that does not load
 pub refused_card : (c plan : List ℕ) (k : ℕ) → rejected k ≡ load narrow c → refused k 0 ≡ shortest narrow c plan
@@ -29,14 +31,14 @@ module _ (c : List ℕ) (m n : ℕ) (R : Ready c m n) (plan : List ℕ) where
   pub refused_letter : (k : ℕ) → KnownTo (letters_of narrow c) plan 0 k → k < length plan → refused 27 k ≡ shortest narrow c plan
   refused_letter k K h = sym (replies_only narrow c plan (refused 27 k) (unknown_letter R.loads k h (λ i b. K.known i (omega arith) b) (K.unknown h)))
 
-  -- All letters are on the card: the pass can be made,
-  pub searchable : (table : List ℕ) (k : ℕ) → ColumnTable (letters_of narrow c) table → KnownTo (letters_of narrow c) plan 0 k → length plan ≤ k → Searchable c m n table plan
-  searchable table k t K h = record { ready = R; columns = t; known = at_known (letters_of narrow c) plan (λ j b. K.known j (omega arith) (omega arith)) }
+  -- all letters are on the card
+  pub all_known : (k : ℕ) → KnownTo (letters_of narrow c) plan 0 k → length plan ≤ k → Known (letters_of narrow c) plan
+  all_known k K h = at_known (letters_of narrow c) plan (λ j b. K.known j (omega arith) (omega arith))
 
-  -- with room for the places,
+  -- there is room for the places
   pub room : n + n + 2 ≤ most_places
   room = omega (arith, (load_loaded narrow c R.loads).contents.states_most, R.states)
 
-  -- and its answer is the reply.
-  pub searched_reply : (table : List ℕ) (a : Answer) → Searchable c m n table plan → Searched c plan a → answer_of a ≡ shortest narrow c plan
-  searched_reply table a S A = A.is ∙ sym (replies_only narrow c plan (answered A.answer) (is_answered R.loads S.known A.answer A.right))
+  -- THE ANSWER of the pass is the reply.
+  pub searched_reply : (a : Option Stretch) → Known (letters_of narrow c) plan → Searched c plan a → answered (shortest_in a) ≡ shortest narrow c plan
+  searched_reply a known A = ap answered A.is ∙ sym (replies_only narrow c plan (answered A.answer) (is_answered R.loads known A.answer A.right))

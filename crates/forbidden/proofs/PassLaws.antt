@@ -11,7 +11,7 @@ use mir.Val.{Fits}
 use Rattle.automata.specs.Format.{narrow}
 use Rattle.card.specs.Layout.{letter_count, state_count, letters_of, marks_of, moves_of}
 use Rattle.card.proofs.LayoutLaws.{letters_length, marks_of_length, moves_length, moves_at}
-use Rattle.card.specs.Alphabet.{column}
+use Rattle.card.specs.Alphabet.{column, Known}
 use Rattle.card.proofs.Alphabet.{known_at}
 use Rattle.card.specs.Loads.{Loaded}
 use Rattle.card.proofs.Loads.{load_loaded}
@@ -19,9 +19,12 @@ use Rattle.card.specs.Judge.{card_allows}
 use Rattle.factor.specs.Factor.{Inside, none, at}
 use Rattle.ends.specs.Ends.{DeadState, Filled, Stepping, Stepped}
 use Rattle.fields.specs.Counts.{Counted}
-use Rattle.forbidden.specs.declared.Answer.TheVariants.{None, At}
+use Rattle.std.specs.Prelude.{Some, None}
+use Rattle.run.specs.Walk.{Ready, ColumnTable}
+use Rattle.run.specs.Cards.{bytes_of, letters_in, states_in, ready_of}
+use Rattle.run.specs.declared.loaded.Card.{Card}
 use Rattle.forbidden.specs.declared.Best.{Best}
-use Rattle.forbidden.specs.Pass.{Searchable, Searched, Bettered}
+use Rattle.forbidden.specs.Pass.{Searched, Bettered}
 use Rattle.forbidden.proofs.PlacesLaws.{Places, something, nothing, places_start, places_step, last_low, last_inside, last_start}
 use Rattle.forbidden.proofs.BestLaws.{BestFrom, best_start, best_next, best_none, best_at}
 
@@ -34,6 +37,17 @@ one_less i h = omega arith
 -- a row and an entry more fit
 pub row_fits : (n l : ℕ) → n + n + 2 ≤ l → n < l
 row_fits n l h = omega arith
+
+-- A card that loads, with its table of columns, and a plan of its letters.
+pub record Searchable (c : List ℕ) (m n : ℕ) (table plan : List ℕ) : Type 0 where
+  pub ready : Ready c m n
+  pub columns : ColumnTable (letters_of narrow c) table
+  pub known : Known (letters_of narrow c) plan
+
+-- what the pass is given
+pub searchable_of : (card : Card) (table plan : List ℕ) → ColumnTable (letters_of narrow (bytes_of card)) table → Known (letters_of narrow (bytes_of card)) plan
+    → Searchable (bytes_of card) (letters_in card) (states_in card) table plan
+searchable_of card table plan t k = record { ready = ready_of card; columns = t; known = k }
 
 pub record Under (c : List ℕ) (m n : ℕ) (table plan moves : List ℕ) (dead never room i from : ℕ) (places : List ℕ) (b : Best) : Type 0 where
   pub searchable : Searchable c m n table plan
@@ -63,7 +77,7 @@ module _ (c : List ℕ) (m n : ℕ) (table plan : List ℕ) (S : Searchable c m 
     dead_most = omega (arith, dead_first.most, marks_of_length narrow c loaded.contents, S.ready.states)
 
     -- a card that allows nothing
-    pub pass_nothing : d ≡ 0 → Searched c plan (At 0 0)
+    pub pass_nothing : d ≡ 0 → Searched c plan (Some (record { start = 0; length = 0 }))
     pass_nothing z = record { answer = at 0 0; is = refl; right = nothing c loaded plan S.known d dead_first z }
 
     pub under_start : (moves old new : List ℕ) → d ≢ 0 → moves ≡ moves_of narrow c → n + n + 2 ≤ length old → Filled n d (length plan) (length plan + 1) old new
@@ -190,7 +204,7 @@ module _ (c : List ℕ) (m n : ℕ) (table plan moves : List ℕ) (d never room 
     pub under_none : b.length ≡ never → Searched c plan None
     under_none e = record { answer = none; is = refl; right = best_none (card_allows narrow c) plan (suc (length plan)) b whole_plan (e ∙ U.far) }
 
-    pub under_at : b.length ≢ never → Searched c plan (At b.start b.length)
+    pub under_at : b.length ≢ never → Searched c plan (Some (record { start = b.start; length = b.length }))
     under_at f = record {
       answer = at b.start b.length;
       is = refl;

@@ -4,20 +4,30 @@
 ghost use Rattle.std.specs.Prelude.{◌≡◌, ◌+◌, ◌≤◌, length};
 ghost use Rattle.automata.specs.Format.{narrow};
 ghost use Rattle.factor.specs.Shortest.{shortest as shortest_of};
-ghost use Rattle.run.specs.Walk.{Ready};
+ghost use Rattle.card.specs.Layout.{letters_of};
+ghost use Rattle.card.specs.Alphabet.{Known};
+ghost use Rattle.run.specs.Cards.{bytes_of, states_in};
+ghost use Rattle.run.specs.Walk.{ColumnTable};
 ghost use Rattle.forbidden.specs.Reading.{answer_of};
-ghost use Rattle.forbidden.specs.Pass.{Searchable, Searched, Bettered};
+ghost use Rattle.forbidden.specs.Pass.{Searched, Bettered};
+
+use board::Refusal;
+use run::{Card, UnknownLetter};
 
 // Two rows of places: 120 states, and an entry more where no state is dead.
 const PLACES: usize = 242;
 
-// A factor's start and length, or none; or the number of a refusal and, for 27, how many letters precede the first that is not on the card.
-#[derive(Clone, Copy)]
-pub enum Answer {
-    None,
-    At(usize, usize),
-    Refused(u8, usize),
+// A factor of a plan: where it starts, and its length.
+#[derive(Clone, Copy, Debug, PartialEq, Eq)]
+pub struct Stretch {
+    pub start: usize,
+    pub length: usize,
 }
+
+const EMPTY: Stretch = Stretch {
+    start: 0,
+    length: 0,
+};
 
 // The best stretch so far: its start and length; a length past the plan's where there is none.
 #[derive(Clone, Copy)]
@@ -43,21 +53,18 @@ fn better(best: Best, i: usize, last: usize, never: usize) -> Best
 }
 
 // The pass, over two rows of places with an entry for each state and one more.
-fn pass(
-    card: &[u8],
-    m: usize,
-    n: usize,
-    table: &[u8; 256],
-    plan: &[u8],
-    places: &mut [usize],
-) -> Answer
-    requires { Searchable card.now m n table.now plan.now × (n + n + 2 ≤ length places.old) }
-    ensures { Searched card.now plan.now result }
+fn pass(card: &Card, table: &[u8; 256], plan: &[u8], places: &mut [usize]) -> Option<Stretch>
+    requires columns { ColumnTable (letters_of narrow (bytes_of card.now)) table.now }
+    requires known { Known (letters_of narrow (bytes_of card.now)) plan.now }
+    requires room { states_in card.now + states_in card.now + 2 ≤ length places.old }
+    ensures { Searched (bytes_of card.now) plan.now result }
 {
-    let moves = fields::moves(card, m, n);
-    let dead = ends::dead_state(fields::marks(card, m, n));
+    let m = card.layout.counts.letters;
+    let n = card.layout.counts.states;
+    let moves = card.layout.moves();
+    let dead = ends::dead_state(card.layout.marks());
     if dead == 0 {
-        return Answer::At(0, 0);
+        return Some(EMPTY);
     }
     let never = plan.len() + 1;
     ends::fill(places, n, dead, plan.len(), never);
@@ -66,9 +73,7 @@ fn pass(
         start: 0,
         length: never,
     };
-    let mut i = plan.len();
-    while 0 < i {
-        i -= 1;
+    for i in (0..plan.len()).rev() {
         let b = plan[i] as usize;
         let column = table[b] as usize;
         let to = n + 1 - from;
@@ -79,31 +84,28 @@ fn pass(
     let length = best.length;
     let start = best.start;
     if length == never {
-        return Answer::None;
+        return None;
     }
-    Answer::At(start, length)
+    Some(Stretch { start, length })
 }
 
 // A card that loads: the letters are tested, then the pass is made.
-fn on_card(card: &[u8], m: usize, n: usize, plan: &[u8]) -> Answer
-    requires { Ready card.now m n }
-    ensures { answer_of result ≡ shortest_of narrow card.now plan.now }
+fn on_card(card: &Card, plan: &[u8]) -> Result<Option<Stretch>, Refusal>
+    ensures { answer_of result ≡ shortest_of narrow (bytes_of card.now) plan.now }
 {
-    let table = run::table(card, m, n);
-    let k = run::known(card, m, n, &table, plan, 0);
-    if k < plan.len() {
-        return Answer::Refused(27, k);
+    let table = run::table(card);
+    let before = run::known(card, &table, plan, 0);
+    if before < plan.len() {
+        return Err(Refusal::Letter(UnknownLetter { before }));
     }
     let mut places = [0usize; PLACES];
-    pass(card, m, n, &table, plan, &mut places[..])
+    Ok(pass(card, &table, plan, &mut places[..]))
 }
 
-// The card is tested, then all letters, then the plan's factors.
-pub fn shortest(card: &[u8], plan: &[u8]) -> Answer
-    ensures { answer_of result ≡ shortest_of narrow card.now plan.now }
+// The card is tested, then all letters, then the plan's factors: the shortest that lies inside no allowed plan, if there is one.
+pub fn shortest(bytes: &[u8], plan: &[u8]) -> Result<Option<Stretch>, Refusal>
+    ensures { answer_of result ≡ shortest_of narrow bytes.now plan.now }
 {
-    match board::load(card) {
-        board::Loaded::Refused(number) => Answer::Refused(number, 0),
-        board::Loaded::Accepted(m, n) => on_card(card, m, n, plan),
-    }
+    let card = board::load(bytes)?;
+    on_card(&card, plan)
 }

@@ -24,13 +24,11 @@ use Rattle.choice.specs.Reading.{To, a_choice}
 use Rattle.choice.specs.ReadingLaws.{choice_got}
 use Rattle.signs.specs.declared.Spot.{Spot}
 use Rattle.lexer.specs.declared.Cursor.{Cursor}
-use Rattle.choice.specs.declared.Made.{Made}
-use Rattle.choice.specs.declared.Made.TheVariants.{Done, Refused}
+use Rattle.std.specs.Prelude.{Option, None, Some}
 use Rattle.contexts.specs.Contexts.{Row, Then, ReadsThen, Context, Ruled, MayEnd, Ended, ReadsContexts}
 use Rattle.contexts.proofs.ContextLaws.{count_drop, count_read, rule_other, rule_next, enough_more}
 use Rattle.forms.specs.Forms.{Room, ReadsForm, ReadsRest, store_program, Sister}
-use Rattle.forms.specs.declared.Code.{Code}
-use Rattle.forms.specs.declared.Code.TheVariants.{Define, Rule, Malformed}
+use Rattle.forms.specs.declared.Code.TheVariants.{Define, Rule}
 
 -- ---- rules
 
@@ -43,7 +41,7 @@ form_rule forbids (b ∷ s) e = rw e
 form_rule obliges [] e = absurd (omega arith)
 form_rule obliges (b ∷ s) e = rw e
 
-pub rule_none : {o o' : List ℕ} (kind : RuleKind) (s : List ℕ) → kind_of (get_or s 0 0) ≡ kind_of (rule_sign kind) → read_choice (tokens (drop 1 s)) ≡ bad → ReadsForm s o o' Malformed
+pub rule_none : {o o' : List ℕ} (kind : RuleKind) (s : List ℕ) → kind_of (get_or s 0 0) ≡ kind_of (rule_sign kind) → read_choice (tokens (drop 1 s)) ≡ bad → ReadsForm s o o' None
 rule_none kind s k e = record { says = form_rule kind s k ∙ ap (λ R. on_read R (λ p us. contexts_of kind (length us) p [] us)) e }
 
 -- what stands behind the pattern, up to the program of the contexts
@@ -71,7 +69,7 @@ rule_start kind next s o row o₁ p k few room same short b t = record {
 }
 
 pub rule_end : {s o : List ℕ} {c n : Spot} {operator : ℕ} (o' : List ℕ) (end : ℕ) {o₁ : List ℕ} → Ended s o c operator o₁ n → Row o₁ n.pos finish_program o' end → end ≤ length o'
-    → ReadsRest s o c o' (Rule end)
+    → ReadsRest s o c o' (Some end)
 rule_end {s} o' end e r h =
     let g = e.ruled in
     let d = g.ruled in
@@ -87,19 +85,17 @@ rule_end {s} o' end e r h =
       };
     }
 
-pub rule_not : {s o : List ℕ} {c : Spot} {o' : List ℕ} → form_of s ≡ malformed → ReadsRest s o c o' Malformed
+pub rule_not : {s o : List ℕ} {c : Spot} {o' : List ℕ} → form_of s ≡ malformed → ReadsRest s o c o' None
 rule_not e = record { says = e }
 
-pub form_not : {s o o' : List ℕ} → form_of s ≡ malformed → ReadsForm s o o' Malformed
+pub form_not : {s o o' : List ℕ} → form_of s ≡ malformed → ReadsForm s o o' None
 form_not e = record { says = e }
 
 -- a rule from its beginning on
-pub from_rest : {s o₀ o : List ℕ} {c : Spot} {o' : List ℕ} (r : Code) → Grown o₀ 0 o c.pos → ReadsRest s o c o' r → ReadsForm s o₀ o' r
-from_rest (Define x len) g d = absurd d.says
-from_rest (Rule len) g d =
+pub from_rest : {s o₀ o : List ℕ} {c : Spot} {o' : List ℕ} {len : ℕ} → Grown o₀ 0 o c.pos → ReadsRest s o c o' (Some len) → ReadsForm s o₀ o' (Some (Rule len))
+from_rest g d =
     let u = d.says in
     record { says = record { kind = u.kind; pattern = u.pattern; contexts = u.contexts; form = u.form; code = u.code; grown = grown_more g u.grown; fits = u.fits } }
-from_rest Malformed g d = record { says = d.says }
 
 -- a rule that may end here
 pub none_needed : {s o : List ℕ} {c : Spot} → Ruled restricts [] (contexts_program without) s o c → MayEnd s o c without_code
@@ -160,7 +156,7 @@ no_name [] h = refl
 no_name (b ∷ ts) h = rw (ne_eqb (kind_of b) name_kind h)
 
 module _ (s : List ℕ) (is : kind_of (get_or s 0 0) ≡ equals_kind) where
-  pub define_other : {o o' : List ℕ} {k : ℕ} → k ≡ kind_ahead (tokens (drop 1 s)) → (k ≡ name_kind → ⊥) → ReadsForm s o o' Malformed
+  pub define_other : {o o' : List ℕ} {k : ℕ} → k ≡ kind_ahead (tokens (drop 1 s)) → (k ≡ name_kind → ⊥) → ReadsForm s o o' None
   define_other q h = record { says = form_define s is ∙ no_name (tokens (drop 1 s)) (λ e. h (q ∙ e)) }
 
   module _ {k x : ℕ} {next : Cursor} (a : At s 1 k x next.at) where
@@ -170,27 +166,27 @@ module _ (s : List ℕ) (is : kind_of (get_or s 0 0) ≡ equals_kind) where
     define_body : k ≡ name_kind → form_of s ≡ on_read (read_choice (tokens (drop next.at s))) (define_as x)
     define_body h = form_define s is ∙ ap define_of a.rest_is ∙ ap (λ t. choose t (λ _. on_read (read_choice (tokens (drop next.at s))) (define_as x)) (λ _. malformed)) (named h)
 
-    pub define_bad : {o o' : List ℕ} → k ≡ name_kind → read_choice (tokens (drop next.at s)) ≡ bad → ReadsForm s o o' Malformed
+    pub define_bad : {o o' : List ℕ} → k ≡ name_kind → read_choice (tokens (drop next.at s)) ≡ bad → ReadsForm s o o' None
     define_bad h e = record { says = define_body h ∙ ap (λ R. on_read R (define_as x)) e }
 
     module _ {o o' : List ℕ} {m : Spot} (h : k ≡ name_kind) (t : To a_choice s o (record { cursor = next; pos = 0 }) o' m) where
       read : form_of s ≡ define_as x t.expr (left s m)
       read = define_body h ∙ ap (λ R. on_read R (define_as x)) (choice_got t)
 
-      pub define_more : {b : ℕ} {ts : List ℕ} → left s m ≡ b ∷ ts → ReadsForm s o o' Malformed
+      pub define_more : {b : ℕ} {ts : List ℕ} → left s m ≡ b ∷ ts → ReadsForm s o o' None
       define_more e = record { says = read ∙ ap (define_as x t.expr) e }
 
-      pub define_whole : left s m ≡ [] → m.pos ≤ length o' → ReadsForm s o o' (Define x m.pos)
+      pub define_whole : left s m ≡ [] → m.pos ≤ length o' → ReadsForm s o o' (Some (Define x m.pos))
       define_whole e f = record { says = record { body = t.expr; named = named h; form = read ∙ ap (define_as x t.expr) e; code = t.code; grown = t.grown; fits = f } }
 
 -- ---- lines of neither form
 
-pub form_empty : {o o' : List ℕ} (s : List ℕ) → length s < 1 → ReadsForm s o o' Malformed
+pub form_empty : {o o' : List ℕ} (s : List ℕ) → length s < 1 → ReadsForm s o o' None
 unfolding form_of
 form_empty [] h = record { says = refl }
 form_empty (b ∷ s) h = absurd (omega arith)
 
-pub form_neither : {o o' : List ℕ} (s : List ℕ) (k : ℕ) → k ≡ kind_of (get_or s 0 0) → (k ≡ equals_kind → ⊥) → (k ≡ greater_kind → ⊥) → (k ≡ less_kind → ⊥) → (k ≡ caret_kind → ⊥) → ReadsForm s o o' Malformed
+pub form_neither : {o o' : List ℕ} (s : List ℕ) (k : ℕ) → k ≡ kind_of (get_or s 0 0) → (k ≡ equals_kind → ⊥) → (k ≡ greater_kind → ⊥) → (k ≡ less_kind → ⊥) → (k ≡ caret_kind → ⊥) → ReadsForm s o o' None
 unfolding form_of
 form_neither [] k q m n l h = record { says = refl }
 form_neither (b ∷ s) k q m n l h = record {
@@ -199,16 +195,16 @@ form_neither (b ∷ s) k q m n l h = record {
 
 -- ---- what the functions answer, case by case
 
-module _ {s o : List ℕ} {c : Spot} {row o' : List ℕ} {r : Made} (d : ReadsThen s o c row o' r) where
-  pub then_to : {n : Spot} → r ≡ Done n → Then s o c row o' n
+module _ {s o : List ℕ} {c : Spot} {row o' : List ℕ} {r : Option Spot} (d : ReadsThen s o c row o' r) where
+  pub then_to : {n : Spot} → r ≡ Some n → Then s o c row o' n
   then_to e = rw e at d.says
 
-  pub then_not : r ≡ Refused → read_choice (left s c) ≡ bad
+  pub then_not : r ≡ None → read_choice (left s c) ≡ bad
   then_not e = rw e at d.says
 
-module _ {s o : List ℕ} {c : Spot} {operator : ℕ} {o' : List ℕ} {r : Made} (d : ReadsContexts s o c operator o' r) where
-  pub contexts_to : {n : Spot} → r ≡ Done n → Ended s o c operator o' n
+module _ {s o : List ℕ} {c : Spot} {operator : ℕ} {o' : List ℕ} {r : Option Spot} (d : ReadsContexts s o c operator o' r) where
+  pub contexts_to : {n : Spot} → r ≡ Some n → Ended s o c operator o' n
   contexts_to e = rw e at d.says
 
-  pub contexts_not : r ≡ Refused → form_of s ≡ malformed
+  pub contexts_not : r ≡ None → form_of s ≡ malformed
   contexts_not e = rw e at d.says

@@ -1,5 +1,5 @@
 -- What the functions that read a line's form promise: the form of the definitions, and its program in the lent buffer, past which nothing changed.
-use Rattle.std.specs.Prelude.{◌≡◌, true, List, [], ◌∷◌, ℕ, ◌+◌, ◌*◌, ◌≤◌, length, take, get_or}
+use Rattle.std.specs.Prelude.{◌≡◌, true, Option, None, Some, List, [], ◌∷◌, ℕ, ◌+◌, ◌*◌, ◌≤◌, length, take, get_or}
 use Rattle.language.specs.Restriction.{RuleKind, restricts, forbids, obliges}
 use Rattle.language.specs.Expression.{Expr}
 use Rattle.book.specs.Kind.{kind_of, is_name}
@@ -9,7 +9,7 @@ use Rattle.book.specs.Program.{store_pattern_code, complement_code, program}
 use Rattle.signs.specs.Buffer.{Grown}
 use Rattle.signs.specs.declared.Spot.{Spot}
 use Rattle.forms.specs.declared.Code.{Code}
-use Rattle.forms.specs.declared.Code.TheVariants.{Define, Rule, Malformed}
+use Rattle.forms.specs.declared.Code.TheVariants.{Define, Rule}
 
 -- the bytes that the programs of a line's rows take at most: those of the pattern, of four contexts and one that may be begun, and the last three
 abbrev pub Room : List ℕ → List ℕ → Type 0
@@ -33,21 +33,20 @@ pub record Rules (s o : List ℕ) (pos : ℕ) (o' : List ℕ) (len : ℕ) : Type
   pub grown : Grown o pos o' len
   pub fits : len ≤ length o'
 
-abbrev pub FormSays : List ℕ → List ℕ → List ℕ → Code → Type 0
-FormSays s o o' (Define x len) = Defines s o o' x len
-FormSays s o o' (Rule len) = Rules s o 0 o' len
-FormSays s o o' Malformed = form_of s ≡ malformed
+abbrev pub FormSays : List ℕ → List ℕ → List ℕ → Option Code → Type 0
+FormSays s o o' (Some (Define x len)) = Defines s o o' x len
+FormSays s o o' (Some (Rule len)) = Rules s o 0 o' len
+FormSays s o o' None = form_of s ≡ malformed
 
-pub record ReadsForm (s o o' : List ℕ) (r : Code) : Type 0 where
+pub record ReadsForm (s o o' : List ℕ) (r : Option Code) : Type 0 where
   pub says : FormSays s o o' r
 
 -- a rule, from its contexts on
-abbrev pub RestSays : List ℕ → List ℕ → Spot → List ℕ → Code → Type 0
-RestSays s o c o' (Define x len) = ⊥
-RestSays s o c o' (Rule len) = Rules s o c.pos o' len
-RestSays s o c o' Malformed = form_of s ≡ malformed
+abbrev pub RestSays : List ℕ → List ℕ → Spot → List ℕ → Option ℕ → Type 0
+RestSays s o c o' (Some len) = Rules s o c.pos o' len
+RestSays s o c o' None = form_of s ≡ malformed
 
-pub record ReadsRest (s o : List ℕ) (c : Spot) (o' : List ℕ) (r : Code) : Type 0 where
+pub record ReadsRest (s o : List ℕ) (c : Spot) (o' : List ℕ) (r : Option ℕ) : Type 0 where
   pub says : RestSays s o c o' r
 
 -- what stands behind the pattern: "For `^`: q = `.*-p` first"

@@ -6,7 +6,6 @@
 ghost use Rattle.std.specs.Prelude.{◌≡◌, ◌≤◌, get_or};
 ghost use Rattle.book.specs.Kind.{kind_of, equals_kind, greater_kind, underscore_kind};
 ghost use Rattle.book.specs.Text.{count_of};
-ghost use Rattle.lexer.specs.Kinds.{Kinds};
 ghost use Rattle.contexts.specs.Contexts.{MayEnd};
 ghost use Rattle.forms.specs.Forms.{Room, ReadsRest, Sister, ReadsForm};
 
@@ -14,11 +13,9 @@ use book::codes::{
     ALL_CODE, COMPLEMENT_CODE, EITHER_CODE, ERASE_CODE, JOIN_CODE, MARK_CODE, MEET_CODE,
     PATTERN_CODE, STORE_PATTERN_CODE, WITHOUT_CODE,
 };
-use book::kinds::{CARET_KIND, EQUALS_KIND, GREATER_KIND, LESS_KIND, NAME_KIND, SLASH_KIND};
-use choice::Made;
 use contexts::{choice_then, context, contexts, put_row};
 use lexer::Cursor;
-use lexer::kinds::{KindTable, kind};
+use lexer::kinds::Kind;
 use signs::Spot;
 
 // What stands behind the pattern, by specs/Program.antt of `book`: of `>`, where the pattern is stored and `pattern_program` follows; of `<` and of `^`, which
@@ -42,132 +39,99 @@ const OBLIGING_PROGRAM: [u8; 2] = [COMPLEMENT_CODE, STORE_PATTERN_CODE];
 
 const FINISH_PROGRAM: [u8; 3] = [ERASE_CODE, COMPLEMENT_CODE, MEET_CODE];
 
-// A name with the length of its program, the length of a rule's program, or that the line is of neither form.
-#[derive(Clone, Copy)]
+// A definition's name with the length of its program, or the length of a rule's program.
+#[derive(Clone, Copy, Debug)]
 pub enum Code {
-    Define(u8, usize),
-    Rule(usize),
-    Malformed,
+    Define { name: u8, length: usize },
+    Rule { length: usize },
 }
 
-// The contexts up to the line's end, and the last codes of a rule.
-fn rest(kinds: &KindTable, line: &[u8], out: &mut [u8], c: Spot, operator: u8) -> Code
-    requires kinds { Kinds kinds.now }
-    requires may_end { MayEnd line.now out.old c operator }
+// Behind the sign that a line begins with.
+const START: Spot = Spot {
+    cursor: Cursor { at: 1 },
+    pos: 0,
+};
+
+// The contexts up to the line's end, and the last codes of a rule: the length of its program.
+fn rest(line: &[u8], out: &mut [u8], c: Spot, operator: u8) -> Option<usize>
+    requires { MayEnd line.now out.old c operator }
     ensures { ReadsRest line.now out.old c out.new result }
 {
-    let Made::Done(n) = contexts(kinds, line, out, c, operator) else {
-        return Code::Malformed;
-    };
-    let last = FINISH_PROGRAM;
-    Code::Rule(put_row(out, n.pos, &last))
+    let n = contexts(line, out, c, operator)?;
+    Some(put_row(out, n.pos, &FINISH_PROGRAM))
 }
 
 // "a rule, `>`, a choice, then per context ..": behind the `>`
-fn rule(kinds: &KindTable, line: &[u8], out: &mut [u8]) -> Code
-    requires kinds { Kinds kinds.now }
+fn rule(line: &[u8], out: &mut [u8]) -> Option<Code>
     requires room { Room line.now out.old }
     requires line_value { kind_of (get_or line.now 0 0) ≡ greater_kind }
     requires line_bound { count_of underscore_kind line.now ≤ 4 }
     ensures { ReadsForm line.now out.old out.new result }
 {
-    let start = Spot {
-        cursor: Cursor { at: 1 },
-        pos: 0,
-    };
-    let row = RESTRICTING_PROGRAM;
-    let Made::Done(p) = choice_then(kinds, line, out, start, &row) else {
-        return Code::Malformed;
-    };
-    rest(kinds, line, out, p, WITHOUT_CODE)
+    let p = choice_then(line, out, START, &RESTRICTING_PROGRAM)?;
+    let length = rest(line, out, p, WITHOUT_CODE)?;
+    Some(Code::Rule { length })
 }
 
 // "A line `<` in a rule's form", "a line `^`": behind that sign, with the row of codes that stands behind the pattern. "Both need at least one context."
-fn sister(kinds: &KindTable, line: &[u8], out: &mut [u8], row: &[u8]) -> Code
-    requires kinds { Kinds kinds.now }
+fn sister(line: &[u8], out: &mut [u8], row: &[u8]) -> Option<Code>
     requires room { Room line.now out.old }
     requires sister { Sister line.now row.now }
     requires line_bound { count_of underscore_kind line.now ≤ 4 }
     ensures { ReadsForm line.now out.old out.new result }
 {
-    let start = Spot {
-        cursor: Cursor { at: 1 },
-        pos: 0,
-    };
-    let Made::Done(p) = choice_then(kinds, line, out, start, row) else {
-        return Code::Malformed;
-    };
-    let behind = p.cursor;
-    let t = behind.token(kinds, line);
-    let k = t.kind;
-    if k != SLASH_KIND {
-        return Code::Malformed;
+    let p = choice_then(line, out, START, row)?;
+    let t = p.cursor.token(line);
+    if t.kind != Kind::Slash {
+        return None;
     }
-    let cursor = t.next;
-    let pos = p.pos;
-    let Made::Done(n) = context(kinds, line, out, Spot { cursor, pos }) else {
-        return Code::Malformed;
+    let behind = Spot {
+        cursor: t.next,
+        ..p
     };
-    rest(kinds, line, out, n, EITHER_CODE)
+    let n = context(line, out, behind)?;
+    let length = rest(line, out, n, EITHER_CODE)?;
+    Some(Code::Rule { length })
 }
 
 // "a definition, `=`, a name, a choice": behind the `=`
-fn definition(kinds: &KindTable, line: &[u8], out: &mut [u8]) -> Code
-    requires kinds { Kinds kinds.now }
+fn definition(line: &[u8], out: &mut [u8]) -> Option<Code>
     requires room { Room line.now out.old }
     requires line_value { kind_of (get_or line.now 0 0) ≡ equals_kind }
     ensures { ReadsForm line.now out.old out.new result }
 {
-    let t = (Cursor { at: 1 }).token(kinds, line);
-    let k = t.kind;
-    if k != NAME_KIND {
-        return Code::Malformed;
+    let t = START.cursor.token(line);
+    if t.kind != Kind::Name {
+        return None;
     }
-    let name = t.byte;
-    let body = t.next;
-    let Made::Done(n) = choice::choice(
-        kinds,
-        line,
-        out,
-        Spot {
-            cursor: body,
-            pos: 0,
-        },
-    ) else {
-        return Code::Malformed;
+    let body = Spot {
+        cursor: t.next,
+        pos: 0,
     };
-    let behind = n.cursor;
-    let end = behind.skip(kinds, line);
-    if end.at < line.len() {
-        return Code::Malformed;
+    let n = choice::choice(line, out, body)?;
+    if n.cursor.skip(line).at < line.len() {
+        return None;
     }
-    Code::Define(name, n.pos)
+    Some(Code::Define {
+        name: t.byte,
+        length: n.pos,
+    })
 }
 
-// The form of a line whose brackets and contexts are counted already.
-pub fn form(kinds: &KindTable, line: &[u8], out: &mut [u8]) -> Code
-    requires kinds { Kinds kinds.now }
+// The form of a line whose brackets and contexts are counted already; a malformed line has none.
+pub fn form(line: &[u8], out: &mut [u8]) -> Option<Code>
     requires room { Room line.now out.old }
     requires line_bound { count_of underscore_kind line.now ≤ 4 }
     ensures { ReadsForm line.now out.old out.new result }
 {
-    if line.len() < 1 {
-        return Code::Malformed;
+    if line.is_empty() {
+        return None;
     }
-    let k = kind(kinds, line[0]);
-    if k == EQUALS_KIND {
-        return definition(kinds, line, out);
+    match Kind::of(line[0]) {
+        Kind::Equals => definition(line, out),
+        Kind::Greater => rule(line, out),
+        Kind::Less => sister(line, out, &FORBIDDING_PROGRAM),
+        Kind::Caret => sister(line, out, &OBLIGING_PROGRAM),
+        _ => None,
     }
-    if k == GREATER_KIND {
-        return rule(kinds, line, out);
-    }
-    if k == LESS_KIND {
-        let row = FORBIDDING_PROGRAM;
-        return sister(kinds, line, out, &row);
-    }
-    if k == CARET_KIND {
-        let row = OBLIGING_PROGRAM;
-        return sister(kinds, line, out, &row);
-    }
-    Code::Malformed
 }

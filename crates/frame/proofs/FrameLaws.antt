@@ -1,18 +1,17 @@
 -- Line 1, the card, and the refusals 1, 2 and 11.
 use mathlib.Core.Path.{◌≡◌, refl, sym, ap, ◌∙◌, subst}
-use mathlib.Core.Bool.{Bool, true, false, ◌&&◌}
+use mathlib.Core.Bool.{Bool, true, false}
 use mathlib.Core.Logic.{inl, inr}
 use mathlib.Core.List.{List, [], ◌∷◌, ◌++◌}
 use Prim.Native.Nat.{ℕ, zero, suc, ◌-◌, ◌≤◌, ◌<◌}
 use native.Mathlib.Nat.{not-suc-le-zero}
 use native.Mathlib.Omega.{arith}
-use lib.Dec.{ltb, leb}
+use lib.Dec.{ltb}
 use lib.ListN.{length, drop, take, length-drop}
 use lib.Seq.{take_all}
 use native.Mathlib.Numerals.{add-one}
 use Rattle.automata.specs.Format.{narrow}
 use Rattle.automata.specs.Booleans.{choose}
-use borrow.Author.Tests.{le-leb, lt-leb}
 use Rattle.automata.specs.Basics.{LtCases, lt_cases, lt_ltb, ltb_false}
 use Rattle.automata.specs.Machine.{Machine}
 use Rattle.rows.specs.Rows.{number_at}
@@ -27,12 +26,12 @@ use Rattle.compiler.specs.Outcome.{card, stop, outcome, enough}
 use Rattle.slots.specs.Slot.{slot_machine}
 use Rattle.writer.specs.Written.{Kept, kept_card}
 use Rattle.writer.specs.Written as W
-use Rattle.writer.specs.declared.Wrote.{Wrote}
-use Rattle.writer.specs.declared.Wrote.TheVariants.{Length, TooShort}
+use Rattle.std.proofs.Common.{Option, Some, None}
 use Rattle.scans.specs.Lines.{line_of, line_at, Ends}
 use Rattle.scans.specs.Head.{head_of}
-use Rattle.scans.specs.declared.head.Head.{Head}
-use Rattle.scans.specs.declared.head.Head as head
+use Rattle.std.specs.Prelude.{Result, Ok, Err}
+use Rattle.book.specs.Refusals.{refusal_number}
+use Rattle.book.specs.declared.refusal.Refusal.{Refusal}
 use Rattle.kept.specs.Stored.{InSlot}
 use Rattle.compiler.specs.Reading.{Answers}
 use Rattle.compiler.specs.Rest.{lines_from}
@@ -50,22 +49,22 @@ stops n at old = record { answer = refl; buffer = refl }
 -- ---- the card
 
 -- what the writer's answer becomes
-abbrev compiled_of : ℕ → Wrote → Compiled
-compiled_of peak (Length l) = Card l peak
-compiled_of peak TooShort = Refused 11 0
+abbrev compiled_of : ℕ → Option ℕ → Compiled
+compiled_of peak (Some l) = Card l peak
+compiled_of peak None = Refused 11 0
 
-put : (c old new : List ℕ) (peak : ℕ) (w : Wrote) → W.Written c old new w → Answers (choose (ltb (length old) (length c)) (λ _. stop 11 0) (λ _. card c peak)) old new (compiled_of peak w)
+put : (c old new : List ℕ) (peak : ℕ) (w : Option ℕ) → W.Written c old new w → Answers (choose (ltb (length old) (length c)) (λ _. stop 11 0) (λ _. card c peak)) old new (compiled_of peak w)
 put c old new peak w R = go (lt_cases (length old) (length c))
   where
     go : LtCases (length old) (length c) → Answers (choose (ltb (length old) (length c)) (λ _. stop 11 0) (λ _. card c peak)) old new (compiled_of peak w)
     go (inl p) =
         let e : ltb (length old) (length c) ≡ true = p.1 in
-        let z : w ≡ TooShort = rw e at R.result in
+        let z : w ≡ None = rw e at R.result in
         let y : new ≡ old = rw e at R.buffer in
         rw (e, z) (record { answer = refl; buffer = y })
     go (inr p) =
         let e : ltb (length old) (length c) ≡ false = p.1 in
-        let z : w ≡ Length (length c) = rw e at R.result in
+        let z : w ≡ Some (length c) = rw e at R.result in
         let y : new ≡ c ++ drop (length c) old = rw e at R.buffer in
         rw (e, z) (record { answer = refl; buffer = y })
 
@@ -95,16 +94,16 @@ module _ (ls slot : List ℕ) (n : ℕ) (e : n ≡ number_at slot 0) where
         unmarked = rw (e, z) K.unmarked;
       })
 
-  puts : (peak : ℕ) (old new : List ℕ) (w : Wrote) → W.Written (kept_card n ls table) old new w → PutsCard ls slot peak old new (compiled_of peak w)
+  puts : (peak : ℕ) (old new : List ℕ) (w : Option ℕ) → W.Written (kept_card n ls table) old new w → PutsCard ls slot peak old new (compiled_of peak w)
   puts peak old new w R = record {
     says = λ M H. subst (λ c. Answers (choose (ltb (length old) (length c)) (λ _. stop 11 0) (λ _. card c peak)) old new (compiled_of peak w)) (held_card M H)
         (put (kept_card n ls table) old new peak w R);
   }
 
-  pub puts_card : (peak l : ℕ) (old new : List ℕ) (w : Wrote) → W.Written (kept_card n ls table) old new w → w ≡ Length l → PutsCard ls slot peak old new (Card l peak)
+  pub puts_card : (peak l : ℕ) (old new : List ℕ) (w : Option ℕ) → W.Written (kept_card n ls table) old new w → w ≡ Some l → PutsCard ls slot peak old new (Card l peak)
   puts_card peak l old new w R q = subst (λ w. PutsCard ls slot peak old new (compiled_of peak w)) q (puts peak old new w R)
 
-  pub puts_none : (peak : ℕ) (old new : List ℕ) (w : Wrote) → W.Written (kept_card n ls table) old new w → w ≡ TooShort → PutsCard ls slot peak old new (Refused 11 0)
+  pub puts_none : (peak : ℕ) (old new : List ℕ) (w : Option ℕ) → W.Written (kept_card n ls table) old new w → w ≡ None → PutsCard ls slot peak old new (Refused 11 0)
   puts_none peak old new w R q = subst (λ w. PutsCard ls slot peak old new (compiled_of peak w)) q (puts peak old new w R)
 
 -- ---- line 1
@@ -160,7 +159,7 @@ module _ (text : List ℕ) (end : ℕ) (E : Ends text 0 end) (h : 0 < length tex
   unfolding compile_book compile_text compile_head
   book_head = ap (compile_text narrow) (E.lines h)
 
-  pub headed : (m : ℕ) (x : Head) → read_head narrow (line_at text 0 end) ≡ head_of (line_at text 0 end).bytes x → x ≡ head.TheVariants.Letters m → length text ≤ 16384
+  pub headed : (m : ℕ) (x : Result ℕ Refusal) → read_head narrow (line_at text 0 end) ≡ head_of (line_at text 0 end).bytes x → x ≡ Ok m → length text ≤ 16384
       → Heads text (opened.Lines 1 end)
   headed m x e q s =
       let f : read_head narrow (line_at text 0 end) ≡ letters (take m (drop 1 (line_at text 0 end).bytes)) = rw q at e in
@@ -185,9 +184,9 @@ module _ (text : List ℕ) (end : ℕ) (E : Ends text 0 end) (h : 0 < length tex
       some zero h = absurd (omega arith)
       some (suc e) h = omega arith
 
-  pub head_stops : (n : ℕ) (x : Head) → read_head narrow (line_at text 0 end) ≡ head_of (line_at text 0 end).bytes x → x ≡ head.TheVariants.Refused n → Heads text (opened.Refused n 1)
+  pub head_stops : (n : Refusal) (x : Result ℕ Refusal) → read_head narrow (line_at text 0 end) ≡ head_of (line_at text 0 end).bytes x → x ≡ Err n → Heads text (opened.Refused (refusal_number n) 1)
   head_stops n x e q =
-      let f : read_head narrow (line_at text 0 end) ≡ L.HeadRead.stops n = rw q at e in
+      let f : read_head narrow (line_at text 0 end) ≡ L.HeadRead.stops (refusal_number n) = rw q at e in
       record { says = book_head ∙ ap (λ r. after_head r (λ ls. lines_from narrow text ls (suc end))) f }
 
 -- ---- 1 and 2
@@ -206,44 +205,3 @@ module _ (text lent : List ℕ) where
   unfolding outcome
   opens (opened.Lines from end) h e H = record { says = (h, e, H.says) }
   opens (opened.Refused n l) h e H = let z : compile_book narrow text ≡ stopped n l = H.says in record { says = λ room. rw (ltb_false 16384 (length text) h, e, z) }
-
--- ---- the lengths of the lent buffers
-
-fails : (n l : ℕ) (x : Bool) → l < n → false ≡ leb n l && x
-fails n l x h = rw (lt-leb n l h)
-
-later : (b x : Bool) → false ≡ x → false ≡ b && x
-later true x e = e
-later false x e = refl
-
-module _ (low high registers stack rows table work code : ℕ) where
-  abbrev Long : Bool
-  Long = enough documented (low ∷ high ∷ registers ∷ stack ∷ rows ∷ table ∷ work ∷ code ∷ [])
-
-  pub short_1 : low < 43706 → false ≡ Long
-  short_1 h = fails 43706 low _ h
-
-  pub short_2 : high < 43706 → false ≡ Long
-  short_2 h = later (leb 43706 low) _ (fails 43706 high _ h)
-
-  pub short_3 : registers < 10086 → false ≡ Long
-  short_3 h = later (leb 43706 low) _ (later (leb 43706 high) _ (fails 10086 registers _ h))
-
-  pub short_4 : stack < 63878 → false ≡ Long
-  short_4 h = later (leb 43706 low) _ (later (leb 43706 high) _ (later (leb 10086 registers) _ (fails 63878 stack _ h)))
-
-  pub short_5 : rows < 62464 → false ≡ Long
-  short_5 h = later (leb 43706 low) _ (later (leb 43706 high) _ (later (leb 10086 registers) _ (later (leb 63878 stack) _ (fails 62464 rows _ h))))
-
-  pub short_6 : table < 14336 → false ≡ Long
-  short_6 h = later (leb 43706 low) _ (later (leb 43706 high) _ (later (leb 10086 registers) _ (later (leb 63878 stack) _ (later (leb 62464 rows) _ (fails 14336 table _ h)))))
-
-  pub short_7 : work < 6720 → false ≡ Long
-  short_7 h = later (leb 43706 low) _ (later (leb 43706 high) _ (later (leb 10086 registers) _ (later (leb 63878 stack) _ (later (leb 62464 rows) _ (later (leb 14336 table) _ (fails 6720 work _ h))))))
-
-  pub short_8 : code < 32832 → false ≡ Long
-  short_8 h = later (leb 43706 low) _ (later (leb 43706 high) _ (later (leb 10086 registers) _ (later (leb 63878 stack) _ (later (leb 62464 rows) _ (later (leb 14336 table) _ (later (leb 6720 work) _ (fails 32832 code _ h)))))))
-
-  pub all_long : 43706 ≤ low → 43706 ≤ high → 10086 ≤ registers → 63878 ≤ stack → 62464 ≤ rows → 14336 ≤ table → 6720 ≤ work → 32832 ≤ code → true ≡ Long
-  all_long a b c d e f g h =
-      rw (le-leb 43706 low a, le-leb 43706 high b, le-leb 10086 registers c, le-leb 63878 stack d, le-leb 62464 rows e, le-leb 14336 table f, le-leb 6720 work g, le-leb 32832 code h)

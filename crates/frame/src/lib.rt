@@ -1,20 +1,16 @@
 // What stands before a book's lines and behind them: the lengths of the text and the lent buffers, line 1, and the card. Parts of the compiler's entry: callers
-// give the table of kinds, and a slot that holds the book's machine.
+// give a slot that holds the book's machine.
 
 #![tactic(auto)]
 
 ghost use Rattle.std.specs.Prelude.{◌≡◌, [], ◌∷◌, ◌≤◌, length};
 ghost use Rattle.compiler.specs.Lent.{documented};
 ghost use Rattle.compiler.specs.Outcome.{enough};
-ghost use Rattle.lexer.specs.Kinds.{Kinds};
 ghost use Rattle.frame.specs.Frame.{Writable, PutsCard, Heads, Opens};
 
 use compiler::Compiled;
-use lexer::kinds::KindTable;
-use scans::head::Head;
 use scans::{ends, head};
 use slots::slot;
-use writer::Wrote;
 
 // The lengths that the lent buffers need: bytes, and for `table` and `work` 16-bit numbers.
 pub const NAMES: usize = 43706;
@@ -47,31 +43,14 @@ fn long_enough(
 ) -> bool
     ensures { result ≡ enough documented (low ∷ high ∷ registers ∷ stack ∷ rows ∷ table ∷ work ∷ code ∷ []) }
 {
-    if low < NAMES {
-        return false;
-    }
-    if high < NAMES {
-        return false;
-    }
-    if registers < REGISTERS {
-        return false;
-    }
-    if stack < STACK {
-        return false;
-    }
-    if rows < ROWS {
-        return false;
-    }
-    if table < TABLE {
-        return false;
-    }
-    if work < WORK {
-        return false;
-    }
-    if code < CODE {
-        return false;
-    }
-    true
+    NAMES <= low
+        && NAMES <= high
+        && REGISTERS <= registers
+        && STACK <= stack
+        && ROWS <= rows
+        && TABLE <= table
+        && WORK <= work
+        && CODE <= code
 }
 
 // The card of the machine in a slot.
@@ -81,8 +60,8 @@ pub fn put_card(letters: &[u8], peak: usize, slot: &[u8], card: &mut [u8]) -> Co
 {
     let n = slot::number(slot, 0);
     match writer::write(&slot[2..], n, letters, card) {
-        Wrote::Length(length) => Compiled::Card(length, peak),
-        Wrote::TooShort => Compiled::Refused(11, 0),
+        Some(length) => Compiled::Card(length, peak),
+        None => Compiled::Refused(11, 0),
     }
 }
 
@@ -94,9 +73,8 @@ pub enum Opened {
 }
 
 // Line 1.
-fn first_line(kinds: &KindTable, text: &[u8]) -> Opened
-    requires kinds { Kinds kinds.now }
-    requires text_len_bound { length text.now ≤ 16384 }
+fn first_line(text: &[u8]) -> Opened
+    requires { length text.now ≤ 16384 }
     ensures { Heads text.now result }
 {
     if text.len() == 0 {
@@ -104,15 +82,14 @@ fn first_line(kinds: &KindTable, text: &[u8]) -> Opened
     }
     let end = ends::line_end(text, 0);
     let ended = end < text.len();
-    match head::read_head(kinds, &text[0..end], ended) {
-        Head::Letters(_m) => Opened::Lines(1, end),
-        Head::Refused(n) => Opened::Refused(n, 1),
+    match head::read_head(&text[0..end], ended) {
+        Ok(_m) => Opened::Lines(1, end),
+        Err(refusal) => Opened::Refused(refusal.number(), 1),
     }
 }
 
 // The lengths of the text and the lent buffers, then line 1.
 pub fn opening(
-    kinds: &KindTable,
     text: &[u8],
     low: usize,
     high: usize,
@@ -123,7 +100,6 @@ pub fn opening(
     work: usize,
     code: usize,
 ) -> Opened
-    requires { Kinds kinds.now }
     ensures { Opens text.now (low ∷ high ∷ registers ∷ stack ∷ rows ∷ table ∷ work ∷ code ∷ []) result }
 {
     if TEXT < text.len() {
@@ -132,5 +108,5 @@ pub fn opening(
     if !long_enough(low, high, registers, stack, rows, table, work, code) {
         return Opened::Refused(2, 0);
     }
-    first_line(kinds, text)
+    first_line(text)
 }

@@ -7,30 +7,18 @@ use lib.Seq.{length-take-le}
 use Rattle.automata.specs.Format.{narrow}
 use Rattle.card.specs.Answer.{load}
 use Rattle.card.specs.Judge.{judge}
-use Rattle.run.specs.declared.Answer as R
-use Rattle.run.specs.Reading.{reply_of}
-use Rattle.board.specs.declared.Loaded as B
-use Rattle.board.specs.Answers.{loading}
 use Rattle.compiler.specs.declared.Compiled as C
-use Rattle.handing.specs.declared.BoardAnswer as S
+use Rattle.std.specs.Prelude.{Result}
+use Rattle.loading.specs.declared.Fault.{Fault}
+use Rattle.handing.specs.declared.OnCard.{OnCard}
 use Rattle.handing.specs.declared.Delivered as D
 use Rattle.handing.specs.Answers.{on_board, board_says, delivery}
 use Rattle.handing.specs.Answers as A
 use Rattle.handing.specs.Handing.{Within, handed}
 
--- ---- the board
-
-pub board_judges : (c plan : List ℕ) (l : B.Loaded) (m n : ℕ) (a : R.Answer) → l ≡ B.TheVariants.Accepted m n → loading l ≡ load narrow c → reply_of a ≡ judge narrow c plan
-    → on_board (S.TheVariants.Judged m n a) ≡ board_says (load narrow c) (judge narrow c plan)
-board_judges c plan l m n a e h j = ap₂ board_says (sym (ap loading e) ∙ h) j
-
-pub board_refuses : (c plan : List ℕ) (l : B.Loaded) (number : ℕ) → l ≡ B.TheVariants.Refused number → loading l ≡ load narrow c
-    → on_board (S.TheVariants.NotLoaded number) ≡ board_says (load narrow c) (judge narrow c plan)
-board_refuses c plan l number e h = ap (λ x. board_says x (judge narrow c plan)) (sym (ap loading e) ∙ h)
-
 -- ---- handing over
 
-pub hands_card : (buffer plan : List ℕ) (a : C.Compiled) (n p : ℕ) (b : S.BoardAnswer) → a ≡ C.TheVariants.Card n p → on_board b ≡ board_says (load narrow (take n buffer)) (judge narrow (take n buffer) plan)
+pub hands_card : (buffer plan : List ℕ) (a : C.Compiled) (n p : ℕ) (b : Result OnCard Fault) → a ≡ C.TheVariants.Card n p → on_board b ≡ board_says (load narrow (take n buffer)) (judge narrow (take n buffer) plan)
     → delivery (D.TheVariants.Card n p b) ≡ handed a buffer plan
 hands_card buffer plan a n p b e h = rw e (ap (A.card n p) h)
 

@@ -1,11 +1,12 @@
 -- The answers of the whole way, each read with the paper's numbers and values for each case.
-use Rattle.std.specs.Prelude.{ℕ}
+use Rattle.std.specs.Prelude.{ℕ, Result, Ok, Err}
 use Rattle.card.specs.Answer.{Loading, holds, rejected}
 use Rattle.card.specs.Verdict.{Verdict}
 use Rattle.card.specs.Reply.{Reply}
-use Rattle.run.specs.Reading.{reply_of}
-use Rattle.handing.specs.declared.BoardAnswer.{BoardAnswer}
-use Rattle.handing.specs.declared.BoardAnswer.TheVariants.{Judged, NotLoaded}
+use Rattle.loading.specs.declared.Fault.{Fault}
+use Rattle.loading.specs.Faults.{fault_number}
+use Rattle.board.specs.Answers.{reply_of}
+use Rattle.handing.specs.declared.OnCard.{OnCard}
 use Rattle.handing.specs.declared.Delivered.{Delivered}
 use Rattle.handing.specs.declared.Delivered.TheVariants.{Card, Refused}
 
@@ -14,9 +15,9 @@ pub data OnBoard : Type 0 where
   judged : (letters states : ℕ) (reply : Reply Verdict) → OnBoard
   not_loaded : (number : ℕ) → OnBoard
 
-abbrev pub on_board : BoardAnswer → OnBoard
-on_board (Judged m n answer) = judged m n (reply_of answer)
-on_board (NotLoaded number) = not_loaded number
+abbrev pub on_board : Result OnCard Fault → OnBoard
+on_board (Ok k) = judged k.counts.letters k.counts.states (reply_of k.answer)
+on_board (Err fault) = not_loaded (fault_number fault)
 
 -- the answer of loading, and the reply of judging where the card loads
 abbrev pub board_says : Loading → Reply Verdict → OnBoard

@@ -9,31 +9,36 @@ ghost use Rattle.card.specs.Judge.{judge};
 ghost use Rattle.handing.specs.Answers.{on_board, board_says, delivery};
 ghost use Rattle.handing.specs.Handing.{Within, handed};
 
-use board::Loaded;
+use board::Refusal;
 use compiler::Compiled;
+use fields::Counts;
+use loading::Fault;
+use run::Verdict;
 
-// What the board answers on a card and a plan: the card's letters and states, and the answer of judging; or the number of a card that does not load.
+// What the board answers on a card that loads and a plan: the card's letters and states, and the answer of judging.
 #[derive(Clone, Copy)]
-pub enum BoardAnswer {
-    Judged(usize, usize, run::Answer),
-    NotLoaded(u8),
+pub struct OnCard {
+    pub counts: Counts,
+    pub answer: Result<Verdict, Refusal>,
 }
 
 // The card's length and the peak with what the board answers; or the number of the book's refusal and its line.
 #[derive(Clone, Copy)]
 pub enum Delivered {
-    Card(usize, usize, BoardAnswer),
+    Card(usize, usize, Result<OnCard, Fault>),
     Refused(u8, usize),
 }
 
 // The board's part: the card is loaded, and the plan is judged.
-fn load_and_judge(card: &[u8], plan: &[u8]) -> BoardAnswer
-    ensures { on_board result ≡ board_says (load narrow card.now) (judge narrow card.now plan.now) }
+fn load_and_judge(bytes: &[u8], plan: &[u8]) -> Result<OnCard, Fault>
+    ensures { on_board result ≡ board_says (load narrow bytes.now) (judge narrow bytes.now plan.now) }
 {
-    match board::load(card) {
-        Loaded::Accepted(m, n) => BoardAnswer::Judged(m, n, board::judge(card, plan)),
-        Loaded::Refused(number) => BoardAnswer::NotLoaded(number),
-    }
+    let card = board::load(bytes)?;
+    let counts = card.layout.counts;
+    Ok(OnCard {
+        counts,
+        answer: board::judge(bytes, plan),
+    })
 }
 
 // The board is handed the card buffer's bytes up to the card's length, and no others.

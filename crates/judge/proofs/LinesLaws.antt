@@ -1,9 +1,8 @@
 -- Bytes as they are read: those of one read, and read after read; and what is written for them.
-use Rattle.std.specs.Prelude.{Option, Result, Ok, Err, OnOk, Bool, false}
-use Rattle.std.specs.Result.{is_err}
+use Rattle.std.specs.Prelude.{Option}
 use Rattle.std.proofs.KnownBytes.{Appends-nil, Appends-trans, Consumes-nil, Consumes-trans}
 use Rattle.std.specs.Io.KnownBytes.{Consumes, Appends, IsAtEnd}
-use Rattle.std.proofs.Common.{◌≡◌, refl, sym, ap, subst, ◌∙◌, true≢false, List, [], ◌∷◌, ◌++◌, ℕ, ◌+◌, ◌-◌, ◌*◌, ◌^◌, ◌≤◌, ◌<◌, arith, append_assoc, append-nil, length, take, drop, length-take, length-drop, length-append, take-add}
+use Rattle.std.proofs.Common.{◌≡◌, refl, sym, ap, subst, ◌∙◌, List, [], ◌∷◌, ◌++◌, ℕ, ◌+◌, ◌-◌, ◌*◌, ◌^◌, ◌≤◌, ◌<◌, arith, append_assoc, append-nil, length, take, drop, length-take, length-drop, length-append, take-add}
 use Rattle.std.proofs.lemmas.List.{take_all}
 use Rattle.automata.specs.Format.{narrow}
 use Rattle.card.specs.Judge.{judge}
@@ -14,11 +13,6 @@ use Rattle.judging.specs.declared.State.{State}
 use Rattle.judging.specs.declared.Fed.{Fed}
 use Rattle.judging.specs.Lines.{Since, Counted, Feeds, Finishes}
 use Rattle.judge.specs.Lines.{AllReplies}
-
--- what holds of each value that is no error
-pub on_ok : {A E : Type 0} (r : Result A E) (P : Type 0) {b : Bool} → b ≡ is_err r → b ≡ false → OnOk r P → P
-on_ok (Ok x) P d e p = p
-on_ok (Err y) P d e p = absurd (true≢false (sym d ∙ e))
 
 -- the lines of plans behind plans
 lines_append : (c : List ℕ) (ps qs : List (List ℕ)) → reply_lines c (ps ++ qs) ≡ reply_lines c ps ++ reply_lines c qs

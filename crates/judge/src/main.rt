@@ -16,10 +16,7 @@ fn read_card(files: &impl Files, bytes: &mut [u8; 3279]) -> usize
     let Ok(mut file) = fs::open(files, "board.bin") else {
         return 0;
     };
-    match stream::read_all(&mut file, bytes) {
-        stream::Input::Whole(size) => size,
-        stream::Input::Failed => 0,
-    }
+    stream::read_full(&mut file, bytes).unwrap_or(0)
 }
 
 fn main(rt: HostRuntime) -> io::Result<()> {
@@ -27,6 +24,8 @@ fn main(rt: HostRuntime) -> io::Result<()> {
     let size = read_card(&rt, &mut bytes);
     let mut input = rt.stdin();
     let mut output = rt.stdout();
-    let ending = lines::judge_all(&mut input, &mut output, &bytes[..size]);
-    lines::tell(&rt, ending)
+    match lines::judge_all(&mut input, &mut output, &bytes[..size]) {
+        Ok(_) => Ok(()),
+        Err(failure) => eprintln!(rt; "judge: {failure}"),
+    }
 }

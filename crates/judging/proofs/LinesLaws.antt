@@ -7,7 +7,10 @@ use native.Mathlib.Omega.{arith}
 use lib.ListN.{length, take, length-take}
 use Rattle.automata.specs.Format.{narrow}
 use Rattle.card.specs.Judge.{judge}
-use Rattle.run.specs.declared.Answer.{Answer}
+use Rattle.std.specs.Prelude.{Result, Ok}
+use Rattle.fields.specs.declared.Counts.{Counts}
+use Rattle.run.specs.declared.Verdict.{Verdict}
+use Rattle.board.specs.declared.refusals.Refusal.{Refusal}
 use Rattle.plans.specs.Plans.{ended, begun, last_plan, line_of, LineEnd}
 use Rattle.plans.proofs.PlansLaws.{line_length, ended_line, begun_line, ended_last, begun_last, begun_few}
 use Rattle.judging.specs.declared.plan.Judging.{Judging}
@@ -38,14 +41,14 @@ module _ (c s : List ℕ) (j₀ : Judging) (o₀ : Bool) where
 
   module _ (from : ℕ) (j : Judging) (o : Bool) (out : List ℕ) (at : ℕ) (x : Upto c s j₀ o₀ from j o out at) where
     -- the letters can be counted
-    pub upto_fits : (n e : ℕ) → Counted c (state j₀ o₀) n → length s ≤ n → LineEnd s from e → j.number ≡ 0 → j.run.letters + length (line_of s from e) < 2 ^ 64
-    upto_fits n e w h l z = omega (
+    pub upto_fits : (n e : ℕ) → Counted c (state j₀ o₀) n → length s ≤ n → LineEnd s from e → (k : Counts) → j.loaded ≡ Ok k → j.run.letters + length (line_of s from e) < 2 ^ 64
+    upto_fits n e w h l k z = omega (
       arith,
       w.fits,
       line_length s from e l,
       l.most,
       l.low,
-      letters_few c _ j (x.judges w.bytes w.since.judges) z,
+      letters_few c _ j (x.judges w.bytes w.since.judges) k z,
       begun_few w.bytes (take from s),
       length-take from s,
       x.inside,
@@ -56,7 +59,7 @@ module _ (c s : List ℕ) (j₀ : Judging) (o₀ : Bool) where
 
     module _ (e : ℕ) (l : LineEnd s from e) (j' : Judging) (m : More c j (line_of s from e) j') where
       -- A LINE ENDS: its plan's answer stands behind the text, and the next plan begins.
-      pub upto_line : e < length s → (a : Answer) → Answers c j' a → (out' : List ℕ) (r : ℕ) → PutLine out at a out' r → at + longest ≤ length out' → (j'' : Judging) → Judges c [] j''
+      pub upto_line : e < length s → (a : Result Verdict Refusal) → Answers c j' a → (out' : List ℕ) (r : ℕ) → PutLine out at a out' r → at + longest ≤ length out' → (j'' : Judging) → Judges c [] j''
           → Upto c s j₀ o₀ (e + 1) j'' false out' r
       upto_line h a v out' r p b j'' k = let z : e + 1 ≡ suc e = omega arith in rw z (record {
         inside = omega arith;
@@ -119,7 +122,7 @@ module _ (c s : List ℕ) (j₀ : Judging) (o₀ : Bool) where
 -- ---- the last plan
 
 module _ (c : List ℕ) (st : State) (out' : List ℕ) where
-  pub finishes_open : st.«open» ≡ true → (a : Answer) → Answers c st.judging a → (out : List ℕ) (r : ℕ) → PutLine out 0 a out' r → longest ≤ length out' → Finishes c st out' r
+  pub finishes_open : st.«open» ≡ true → (a : Result Verdict Refusal) → Answers c st.judging a → (out : List ℕ) (r : ℕ) → PutLine out 0 a out' r → longest ≤ length out' → Finishes c st out' r
   finishes_open t a v out r p h = record { within = omega (arith, p.most); text = λ u w. go u w (sym w.opened ∙ t) }
     where
       go : (u : List ℕ) → Since c u st → is_open u ≡ true → take r out' ≡ reply_lines c (last_plan u)

@@ -1,21 +1,25 @@
 -- Judging one plan after another, each in pieces, on a card that was tested once: the answer is that of judging the whole plan.
-use Rattle.std.specs.Prelude.{◌≡◌, ◌≢◌, List, ◌++◌, ℕ}
+use Rattle.std.specs.Prelude.{◌≡◌, Result, Ok, Err, List, ◌++◌, ℕ}
 use Rattle.automata.specs.Format.{narrow}
 use Rattle.card.specs.Layout.{state_count, letters_of}
 use Rattle.card.specs.Load.{load_test}
 use Rattle.card.specs.Answer.{rejected, load}
 use Rattle.card.specs.Judge.{judge}
-use Rattle.run.specs.declared.Answer.{Answer}
-use Rattle.run.specs.Reading.{reply_of}
+use Rattle.fields.specs.declared.Counts.{Counts}
+use Rattle.loading.specs.declared.Fault.{Fault}
+use Rattle.loading.specs.Faults.{fault_number}
+use Rattle.run.specs.declared.Verdict.{Verdict}
+use Rattle.board.specs.declared.refusals.Refusal.{Refusal}
+use Rattle.board.specs.Answers.{reply_of}
 use Rattle.run.specs.Walk.{Ready, Underway, ColumnTable, OwedTable}
 use Rattle.run.specs.Pieces.{After}
 use Rattle.judging.specs.declared.plan.Judging.{Judging}
 
 -- The card was tested, and the run goes on.
 pub record Tests (c : List ℕ) (j : Judging) : Type 0 where
-  pub refused : j.number ≢ 0 → rejected j.number ≡ load narrow c
-  pub ready : j.number ≡ 0 → Ready c j.m j.n
-  pub underway : j.number ≡ 0 → Underway c j.n j.run
+  pub refused : (fault : Fault) → j.loaded ≡ Err fault → rejected (fault_number fault) ≡ load narrow c
+  pub ready : (k : Counts) → j.loaded ≡ Ok k → Ready c k.letters k.states
+  pub underway : (k : Counts) → j.loaded ≡ Ok k → Underway c k.states j.run
 
 -- Where the card loads, the table has its columns.
 pub record Columns (c t : List ℕ) : Type 0 where
@@ -28,7 +32,7 @@ pub record Owed (c t : List ℕ) : Type 0 where
 -- Of the plan the letters u have come.
 pub record Judges (c u : List ℕ) (j : Judging) : Type 0 where
   pub tests : Tests c j
-  pub after : j.number ≡ 0 → After c j.n u j.run
+  pub after : (k : Counts) → j.loaded ≡ Ok k → After c k.states u j.run
 
 -- One piece more.
 pub record More (c : List ℕ) (j : Judging) (piece : List ℕ) (r : Judging) : Type 0 where
@@ -36,5 +40,5 @@ pub record More (c : List ℕ) (j : Judging) (piece : List ℕ) (r : Judging) : 
   pub judges : (u : List ℕ) → Judges c u j → Judges c (u ++ piece) r
 
 -- The answer is that of judging the letters that have come.
-pub record Answers (c : List ℕ) (j : Judging) (a : Answer) : Type 0 where
+pub record Answers (c : List ℕ) (j : Judging) (a : Result Verdict Refusal) : Type 0 where
   pub is : (u : List ℕ) → Judges c u j → reply_of a ≡ judge narrow c u

@@ -54,6 +54,7 @@ pub fn feed(
     let mut open = state.open;
     let mut at = 0;
     let mut from = 0;
+    // Stays: no index is counted; a turn takes a line, as long as there is room for an answer, so that a range over the bytes would be no plainer.
     while from < bytes.len() {
         let room = out.len() - at;
         if room < LONGEST {

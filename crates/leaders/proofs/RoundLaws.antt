@@ -1,87 +1,20 @@
 -- Laws of one round of partition refinement: comparing two states, searching the leaders of a class.
-use mathlib.Core.Path.{◌≡◌, refl, sym, ap, ◌∙◌}
-use mathlib.Core.Bool.{Bool, true, false, not, true≢false, false≢true}
+use mathlib.Core.Path.{◌≡◌, refl, sym, ◌∙◌}
+use mathlib.Core.Bool.{Bool, true, false}
 use mathlib.Core.Logic.{inl, inr, ◌≢◌}
 use mathlib.Core.List.{List}
-use Prim.Native.Nat.{ℕ, ◌+◌, ◌≤◌, ◌<◌}
-use native.Mathlib.Nat.{le_refl, le_trans, not-suc-le-zero, mul-le-mul_right}
+use Prim.Native.Nat.{ℕ, ◌≤◌, ◌<◌}
+use native.Mathlib.Nat.{le_refl}
 use native.Mathlib.Omega.{arith}
-use lib.ListN.{length, get_or, take}
+use lib.ListN.{get_or, take}
 use lib.Seq.{get_or-take}
 use Rattle.automata.specs.Basics.{LtCases, lt_cases}
-use Rattle.automata.specs.Machine.{Machine, automaton}
+use Rattle.automata.specs.Machine.{Machine}
 use Rattle.automata.specs.Refinement.{SameSignature}
-use Rattle.automata.specs.Table.{table_machine, ClosedTable}
-use Rattle.entries.specs.Entries.{Target, class_of}
+use Rattle.entries.specs.declared.table.Table.{Table}
+use Rattle.entries.specs.Entries.{class_of, machine_of}
 use Rattle.entries.specs.Classes.{next, Led}
-use Rattle.leaders.specs.Round.{Says, Compared, SameClass, link, Together, Latest, Linked, Under, Leads}
-
--- ---- comparing two states
-
--- A round sees the same of p and q as far as the columns below c.
-pub record SameBelow (k : ℕ) (M : Machine) (f : ℕ → ℕ) (p q c : ℕ) : Type 0 where
-  pub accepting : (automaton M).accepting p ≡ (automaton M).accepting q
-  pub step : (a : ℕ) → a < c → f ((automaton M).step p a) ≡ f ((automaton M).step q a)
-
-pub says_no : (P : Type 0) → (P → ⊥) → Says false P
-says_no P h = record { yes = λ e. absurd (false≢true e); no = λ e. h }
-
-pub says_yes : (P : Type 0) → P → Says true P
-says_yes P h = record { yes = λ e. h; no = λ e. absurd (true≢false e) }
-
-not_true : (b : Bool) → not b ≡ true → b ≡ false
-not_true true e = absurd (false≢true e)
-not_true false e = refl
-
-not_false : (b : Bool) → not b ≡ false → b ≡ true
-not_false true e = refl
-not_false false e = absurd (true≢false e)
-
--- a table's rows are no longer than its list
-pub row_long_lem : (base n k : ℕ) (t : List ℕ) → ClosedTable base n k t → k ≤ length t
-row_long_lem base n k t C = omega (arith, C.long, mul-le-mul_right {m = 1} {n = n} k C.some)
-
-module _ {base n k : ℕ} {t w : List ℕ} {p q : ℕ} (C : Compared base n k p q t w) where
-  abbrev M : Machine
-  M = table_machine base n k t
-
-  abbrev f : ℕ → ℕ
-  f = class_of (take n w)
-
-  -- the class of what a column leads to, as read
-  read : (p c r x : ℕ) → Target base n k t p c r → x ≡ get_or w r 0 → f ((automaton M).step p c) ≡ x
-  read p c r x T e = rw (← T.step) (get_or-take n w r 0 T.inside ∙ sym e)
-
-  module _ (c r s x y : ℕ) (T : Target base n k t p c r) (U : Target base n k t q c s) (ex : x ≡ get_or w r 0) (ey : y ≡ get_or w s 0) where
-    pub agree_no : x ≢ y → Says false (SameClass M f p q c)
-    agree_no d = says_no _ λ z. d (sym (read p c r x T ex) ∙ z.step ∙ read q c s y U ey)
-
-    pub agree_yes : x ≡ y → Says true (SameClass M f p q c)
-    agree_yes e = says_yes _ (record { step = read p c r x T ex ∙ e ∙ sym (read q c s y U ey) })
-
-  pub alike_start : (automaton M).accepting p ≡ (automaton M).accepting q → SameBelow k M f p q 0
-  alike_start e = record { accepting = e; step = λ a h. absurd (not-suc-le-zero h) }
-
-  module _ (c : ℕ) (b : Bool) (A : Says b (SameClass M f p q c)) where
-    pub alike_parts : c < k → not b ≡ true → Says false (SameSignature k M f p q)
-    alike_parts h e = says_no _ λ z. A.no (not_true b e) (record { step = z.step c h })
-
-    pub alike_more : not b ≡ false → SameBelow k M f p q c → SameBelow k M f p q (c + 1)
-    alike_more e z = record { accepting = z.accepting; step = λ a h. go a (lt_cases a c) (omega arith) }
-      where
-        go : (a : ℕ) → LtCases a c → a ≤ c → f ((automaton M).step p a) ≡ f ((automaton M).step q a)
-        go a (inl v) h = z.step a v.0
-        go a (inr v) h = let i : a ≡ c = omega arith in rw i (A.yes (not_false b e)).step
-
-    -- the last column decides
-    pub alike_last : c < k → k ≤ c + 1 → SameBelow k M f p q c → Says b (SameSignature k M f p q)
-    alike_last h l z = record {
-      yes = λ e. let u = alike_more (ap not e) z in record { accepting = u.accepting; step = λ a v. u.step a (le_trans v l) };
-      no = λ e v. A.no e (record { step = v.step c h });
-    }
-
-  pub alike_end : (c : ℕ) → k ≤ c → SameBelow k M f p q c → Says true (SameSignature k M f p q)
-  alike_end c h z = says_yes _ (record { accepting = z.accepting; step = λ a b. z.step a (le_trans b h) })
+use Rattle.leaders.specs.Round.{Says, link, Together, Latest, Linked, Under, Leads}
 
 -- ---- states that a round keeps together
 
@@ -156,33 +89,33 @@ module _ (k n : ℕ) (M : Machine) (f g l : ℕ → ℕ) (p : ℕ) (D : Led n f)
 
 -- ---- the search in the arrays
 
-module _ {base n k p : ℕ} {t w : List ℕ} (U : Under base n k p t w) where
-  pub class_read : (c : ℕ) → c ≡ get_or w p 0 → c ≡ class_of (take n w) p
-  class_read c e = e ∙ sym (get_or-take n w p 0 U.inside)
+module _ {T : Table} {p : ℕ} {w : List ℕ} (U : Under T p w) where
+  pub class_read : (c : ℕ) → c ≡ get_or w p 0 → c ≡ class_of (take T.states w) p
+  class_read c e = e ∙ sym (get_or-take T.states w p 0 U.inside)
 
   pub class_low : (c : ℕ) → c ≡ get_or w p 0 → c ≤ p
   class_low c e = rw (class_read c e) (U.partial.led.low p U.inside)
 
-  pub leader_start : (c r : ℕ) → (get_or w p 0 ≡ p → ⊥) → c ≡ get_or w p 0 → r ≡ link n w c → Searching k (table_machine base n k t) (class_of (take n w)) (next n w) p r
+  pub leader_start : (c r : ℕ) → (get_or w p 0 ≡ p → ⊥) → c ≡ get_or w p 0 → r ≡ link T.states w c → Searching T.columns (machine_of T) (class_of (take T.states w)) (next T.states w) p r
   leader_start c r d e i =
       rw (i, class_read c e)
-      (search_start k n (table_machine base n k t) (class_of (take n w)) (next n w) (link n w) p U.partial.led U.inside U.partial.linked (λ z. d (sym e ∙ class_read c e ∙ z)))
+      (search_start T.columns T.states (machine_of T) (class_of (take T.states w)) (next T.states w) (link T.states w) p U.partial.led U.inside U.partial.linked (λ z. d (sym e ∙ class_read c e ∙ z)))
 
   -- a class goes by a state of its own
-  pub class_same : (c : ℕ) → c ≡ get_or w p 0 → class_of (take n w) c ≡ class_of (take n w) p
+  pub class_same : (c : ℕ) → c ≡ get_or w p 0 → class_of (take T.states w) c ≡ class_of (take T.states w) p
   class_same c e = rw (class_read c e) (U.partial.led.again p U.inside)
 
   -- the class's own leader
   pub leader_first : (c : ℕ) (b : Bool) → (get_or w p 0 ≡ p → ⊥) → c ≡ get_or w p 0
-      → Says b (SameSignature k (table_machine base n k t) (class_of (take n w)) c p) → b ≡ true → Leads k (table_machine base n k t) (class_of (take n w)) (next n w) p c
+      → Says b (SameSignature T.columns (machine_of T) (class_of (take T.states w)) c p) → b ≡ true → Leads T.columns (machine_of T) (class_of (take T.states w)) (next T.states w) p c
   leader_first c b d e s y =
       let low = class_low c e in
       let o : c ≡ p → ⊥ = λ z. d (sym e ∙ z) in
       let h : c < p = omega arith in
       let class = class_same c e in
-      let self : class_of (take n w) (next n w c) ≡ c = (U.partial.placed.sound c h).class ∙ class ∙ sym (class_read c e) in
+      let self : class_of (take T.states w) (next T.states w c) ≡ c = (U.partial.placed.sound c h).class ∙ class ∙ sym (class_read c e) in
       let under = U.partial.placed.low c h in
-      let over : c ≤ next n w c = omega (arith, self, U.partial.led.low (next n w c) (omega (arith, U.inside))) in
+      let over : c ≤ next T.states w c = omega (arith, self, U.partial.led.low (next T.states w c) (omega (arith, U.inside))) in
       record {
         low = low;
         sound = record { class = class; signature = s.yes y };
@@ -190,19 +123,14 @@ module _ {base n k p : ℕ} {t w : List ℕ} (U : Under base n k p t w) where
         none = λ z. absurd (o z);
       }
 
-  pub leader_found : (r : ℕ) (b : Bool) → Searching k (table_machine base n k t) (class_of (take n w)) (next n w) p r
-      → Says b (SameSignature k (table_machine base n k t) (class_of (take n w)) r p) → b ≡ true → Leads k (table_machine base n k t) (class_of (take n w)) (next n w) p r
-  leader_found r b z s e =
-      search_found k n (table_machine base n k t) (class_of (take n w)) (next n w) (link n w) p U.partial.led U.inside U.partial.linked r z (s.yes e)
-
-  pub leader_end : (c r : ℕ) (b : Bool) → c ≡ get_or w p 0 → r ≡ c → Searching k (table_machine base n k t) (class_of (take n w)) (next n w) p r
-      → Says b (SameSignature k (table_machine base n k t) (class_of (take n w)) r p) → b ≡ false → Leads k (table_machine base n k t) (class_of (take n w)) (next n w) p p
+  pub leader_end : (c r : ℕ) (b : Bool) → c ≡ get_or w p 0 → r ≡ c → Searching T.columns (machine_of T) (class_of (take T.states w)) (next T.states w) p r
+      → Says b (SameSignature T.columns (machine_of T) (class_of (take T.states w)) r p) → b ≡ false → Leads T.columns (machine_of T) (class_of (take T.states w)) (next T.states w) p p
   leader_end c r b i j z s e =
-      search_end k n (table_machine base n k t) (class_of (take n w)) (next n w) (link n w) p U.partial.led U.inside U.partial.linked r (j ∙ class_read c i) z (s.no e)
+      search_end T.columns T.states (machine_of T) (class_of (take T.states w)) (next T.states w) (link T.states w) p U.partial.led U.inside U.partial.linked r (j ∙ class_read c i) z (s.no e)
 
-  pub leader_next : (c r x : ℕ) (b : Bool) → c ≡ get_or w p 0 → r ≢ c → x ≡ link n w r → Searching k (table_machine base n k t) (class_of (take n w)) (next n w) p r
-      → Says b (SameSignature k (table_machine base n k t) (class_of (take n w)) r p) → b ≡ false
-      → Searching k (table_machine base n k t) (class_of (take n w)) (next n w) p x × (x < r)
+  pub leader_next : (c r x : ℕ) (b : Bool) → c ≡ get_or w p 0 → r ≢ c → x ≡ link T.states w r → Searching T.columns (machine_of T) (class_of (take T.states w)) (next T.states w) p r
+      → Says b (SameSignature T.columns (machine_of T) (class_of (take T.states w)) r p) → b ≡ false
+      → Searching T.columns (machine_of T) (class_of (take T.states w)) (next T.states w) p x × (x < r)
   leader_next c r x b i j v z s e =
       rw v
-      (search_next k n (table_machine base n k t) (class_of (take n w)) (next n w) (link n w) p U.partial.led U.inside U.partial.linked r (λ y. j (y ∙ sym (class_read c i))) z (s.no e))
+      (search_next T.columns T.states (machine_of T) (class_of (take T.states w)) (next T.states w) (link T.states w) p U.partial.led U.inside U.partial.linked r (λ y. j (y ∙ sym (class_read c i))) z (s.no e))

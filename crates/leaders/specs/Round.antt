@@ -3,8 +3,8 @@
 use Rattle.std.specs.Prelude.{◌≡◌, Bool, true, false, ◌≢◌, List, ℕ, zero, ◌+◌, ◌≤◌, ◌<◌, length, get_or, take}
 use Rattle.automata.specs.Machine.{Machine, automaton}
 use Rattle.automata.specs.Refinement.{SameSignature}
-use Rattle.automata.specs.Table.{table_machine, ClosedTable}
-use Rattle.entries.specs.Entries.{class_of}
+use Rattle.entries.specs.declared.table.Table.{Table}
+use Rattle.entries.specs.Entries.{class_of, machine_of}
 use Rattle.entries.specs.Classes.{next, Led, Told}
 
 -- An answer says whether P holds.
@@ -17,11 +17,10 @@ abbrev pub link : ℕ → List ℕ → ℕ → ℕ
 link n w p = get_or w (n + (n + p)) zero
 
 -- Two states of a table are to be compared by the classes that their columns lead to.
-pub record Compared (base n k p q : ℕ) (t w : List ℕ) : Type 0 where
-  pub closed : ClosedTable base n k t
-  pub room : n ≤ length w
-  pub one : p < n
-  pub other : q < n
+pub record Compared (T : Table) (p q : ℕ) (w : List ℕ) : Type 0 where
+  pub room : T.states ≤ length w
+  pub one : p < T.states
+  pub other : q < T.states
 
 -- Column c leads p and q to one class.
 pub record SameClass (M : Machine) (f : ℕ → ℕ) (p q c : ℕ) : Type 0 where
@@ -59,13 +58,12 @@ pub record Partial (k n : ℕ) (M : Machine) (cls w : List ℕ) (m : ℕ) : Type
   pub linked : Linked (class_of cls) (next n w) (link n w) m
 
 -- A table, its arrays with the classes that a round begins with, and a state that is not yet placed, but all before it are.
-pub record Under (base n k p : ℕ) (t w : List ℕ) : Type 0 where
-  pub closed : ClosedTable base n k t
-  pub room : n + (n + n) ≤ length w
-  pub few : n < 65536
-  pub inside : p < n
-  pub told : Told n (table_machine base n k t) (class_of (take n w))
-  pub partial : Partial k n (table_machine base n k t) (take n w) w p
+pub record Under (T : Table) (p : ℕ) (w : List ℕ) : Type 0 where
+  pub room : T.states + (T.states + T.states) ≤ length w
+  pub few : T.states < 65536
+  pub inside : p < T.states
+  pub told : Told T.states (machine_of T) (class_of (take T.states w))
+  pub partial : Partial T.columns T.states (machine_of T) (take T.states w) w p
 
 -- r is the leader that p goes with: an earlier one, or p itself where the round keeps no earlier leader together with p
 pub record Leads (k : ℕ) (M : Machine) (f g : ℕ → ℕ) (p r : ℕ) : Type 0 where

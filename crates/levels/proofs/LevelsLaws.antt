@@ -1,13 +1,13 @@
 -- Breadth-first search: how states are put in order with their levels, and that the first one with a move to an accepting state gives the distance.
 use mathlib.Core.Path.{◌≡◌, refl, sym, ap, ◌∙◌}
-use mathlib.Core.Bool.{true, false, false≢true, true≢false}
+use mathlib.Core.Bool.{Bool, true, false, false≢true}
 use mathlib.Core.Logic.{◌⊎◌, inl, inr, ◌≢◌}
 use mathlib.Core.List.{List, [], ◌∷◌, ◌++◌}
 use Prim.Native.Nat.{ℕ, zero, suc, ◌+◌, ◌*◌, ◌≤◌, ◌<◌}
 use native.Mathlib.Nat.{not-suc-le-zero, le_refl}
 use native.Mathlib.Omega.{arith}
-use lib.ListN.{length, get_or, set, take, replicate, length-set, length-append, length-replicate, get_or-replicate}
-use lib.Seq.{get_or-set_same, get_or-set_other, get_or-take, length-take-le}
+use lib.ListN.{length, get_or, set, length-set, length-append}
+use lib.Seq.{get_or-set_same, get_or-set_other}
 use lib.Dec.{eqb}
 use Rattle.automata.specs.Booleans.{choose}
 use Rattle.automata.specs.Basics.{LtCases, lt_cases, SameCases, same_cases, nat_test, pigeonhole}
@@ -16,30 +16,29 @@ use Rattle.automata.specs.Machine.{Machine, size, automaton}
 use Rattle.automata.proofs.Live.{live_word, live_within}
 use Rattle.automata.specs.Distance.{distance, Fewest}
 use Rattle.automata.proofs.Distance.{fewest_one, distance_fewest}
-use Rattle.moves.specs.Holds.{Table, Holds}
-use Rattle.moves.specs.TableLaws.{move_inside}
-use Rattle.levels.specs.Levels.{no_level, most_levels, Accepts, Order, Front, Reached, Kept, Spread, Unseen, next, Behind, Near, Search, DistanceExactly, DistancesExactly}
+use Rattle.std.specs.List.{list_any}
+use Rattle.moves.specs.Holds.{Table, Holds, Row}
+use Rattle.moves.specs.TableLaws.{move_inside, some_move, no_move}
+use Rattle.levels.specs.Levels.{no_level, Order, Front, Kept, Spread, next, Behind, Near, Search, DistanceExactly}
 
 -- ---- one row
 
-module _ (ms bs : List ℕ) (at : ℕ) where
-  pub accepts_start : Accepts ms bs at 0 false
-  accepts_start = record { found = λ e. absurd (false≢true e); none = λ _ i h. absurd (not-suc-le-zero h) }
+-- Whether a move of state p leads to an accepting state.
+module _ (m : ℕ) (ms bs : List ℕ) (p : ℕ) (row : List ℕ) (w : Row m ms bs p row) (r : Bool) (a : r ≡ list_any (λ t. eqb 1 (get_or ms t 0)) row) where
+  pub row_found : r ≡ true → (i : ℕ) × (i < m) × (get_or ms (next m bs p i) 0 ≡ 1)
+  row_found e = let (i, h, x) = some_move m ms bs p row w (λ t. eqb 1 (get_or ms t 0)) (sym a ∙ e) in (i, h, sym (nat_test.sound 1 (get_or ms (next m bs p i) 0) x))
 
-  pub accepts_next : (i t : ℕ) → t ≡ get_or bs (at + i) 0 → get_or ms t 0 ≢ 1 → Accepts ms bs at i false → Accepts ms bs at (i + 1) false
-  accepts_next i t e d u = record { found = λ x. absurd (false≢true x); none = λ _ j h. go j h (lt_cases j i) }
-    where
-      go : (j : ℕ) → j < i + 1 → LtCases j i → get_or ms (get_or bs (at + j) 0) 0 ≢ 1
-      go j h (inl x) = u.none refl j x.0
-      go j h (inr x) = let z : j ≡ i = omega arith in rw z (rw e at d)
-
-  pub accepts_yes : (m i t : ℕ) → i < m → t ≡ get_or bs (at + i) 0 → get_or ms t 0 ≡ 1 → Accepts ms bs at m true
-  accepts_yes m i t h e y = record { found = λ _. (i, h, rw e at y); none = λ x. absurd (true≢false x) }
-
-  pub accepts_no : (m i : ℕ) → i ≤ m → m ≤ i → Accepts ms bs at i false → Accepts ms bs at m false
-  accepts_no m i h b u = let z : i ≡ m = omega arith in rw z at u
+  pub row_none : r ≡ false → (i : ℕ) → i < m → get_or ms (next m bs p i) 0 ≢ 1
+  row_none e i h x = false≢true (sym (no_move m ms bs p row w (λ t. eqb 1 (get_or ms t 0)) (sym a ∙ e) i h) ∙ (rw x refl))
 
 -- ---- one state more
+
+-- State t has a level: its own, or it had none and has the new one. The places that were taken stay.
+pub record Reached (n t level : ℕ) (ls qs : List ℕ) (k : ℕ) (gs rs : List ℕ) (r : ℕ) : Type 0 where
+  pub front : Front n level gs rs r
+  pub stays : (i : ℕ) → i < k → (i < r) × (get_or rs i 0 ≡ get_or qs i 0)
+  pub seen : get_or gs t 0 < no_level
+  pub kept : (q : ℕ) → (get_or gs q 0 ≡ get_or ls q 0) ⊎ ((q ≡ t) × (get_or ls q 0 ≡ no_level) × (get_or gs q 0 ≡ level))
 
 -- Another number in the place k.
 put : ℕ → ℕ → (ℕ → ℕ) → ℕ → ℕ
@@ -124,8 +123,8 @@ module _ (n t level : ℕ) (ls qs : List ℕ) (k : ℕ) (F : Front n level ls qs
 
     order_new : Order n gs rs (k + 1)
     order_new = record {
-      levels = length-set ls t level ∙ F.order.levels;
-      places = length-set qs k t ∙ F.order.places;
+      levels = rw length-set F.order.levels;
+      places = rw length-set F.order.places;
       inside = λ i b. inside i (where_is i b);
       one = λ i j a b z. one i j z (where_is i a) (where_is j b);
       low = λ i b. low i (where_is i b);
@@ -176,12 +175,6 @@ module _ (n t level : ℕ) (ls qs : List ℕ) (k : ℕ) (F : Front n level ls qs
 -- ---- the states of a row
 
 module _ (n : ℕ) (bs : List ℕ) (at level : ℕ) (ls qs : List ℕ) (k : ℕ) where
-  pub spread_start : Front n level ls qs k → Spread n bs at 0 level ls qs k ls qs k
-  spread_start F = record { front = F; stays = λ i b. (b, refl); seen = λ i h. absurd (not-suc-le-zero h); kept = λ q. inl refl }
-
-  pub spread_done : (m i : ℕ) (gs rs : List ℕ) (r : ℕ) → i ≤ m → m ≤ i → Spread n bs at i level ls qs k gs rs r → Spread n bs at m level ls qs k gs rs r
-  spread_done m i gs rs r h b u = let z : i ≡ m = omega arith in rw z at u
-
   -- The next move leads to t.
   pub spread_next : (i t : ℕ) (gs rs : List ℕ) (r : ℕ) (hs os : List ℕ) (x : ℕ) → Spread n bs at i level ls qs k gs rs r → t ≡ get_or bs (at + i) 0 → Reached n t level gs rs r hs os x
       → Spread n bs at (i + 1) level ls qs k hs os x
@@ -209,7 +202,7 @@ module _ (n : ℕ) (bs : List ℕ) (at level : ℕ) (ls qs : List ℕ) (k : ℕ)
 
 -- ---- the state in place h is passed
 
-module _ (m : ℕ) (ms bs : List ℕ) (t : Table most_levels m ms bs) (s h : ℕ) (ls qs : List ℕ) (k : ℕ) (S : Search m ms bs s h ls qs k) (b : h < k) where
+module _ (m : ℕ) (ms bs : List ℕ) (t : Table 120 m ms bs) (s h : ℕ) (ls qs : List ℕ) (k : ℕ) (S : Search m ms bs s h ls qs k) (b : h < k) where
   abbrev p : ℕ
   p = get_or qs h 0
 
@@ -222,14 +215,11 @@ module _ (m : ℕ) (ms bs : List ℕ) (t : Table most_levels m ms bs) (s h : ℕ
   pub head_low : get_or ls (get_or qs h 0) 0 < length ms
   head_low = omega (arith, S.order.low h b, order_room (length ms) ls qs k S.order)
 
-  pub head_front : Front (length ms) (get_or ls (get_or qs h 0) 0 + 1) ls qs k
-  head_front = record { order = S.order; few = t.states_most; low = omega (arith, S.order.low h b); high = λ i x. omega (arith, S.near b i x) }
-
-  module _ (at : ℕ) (e : at ≡ p * m) (a : Accepts ms bs at m false) (gs rs : List ℕ) (r : ℕ) (w : Spread (length ms) bs at m up ls qs k gs rs r) where
+  module _ (a : (c : ℕ) → c < m → get_or ms (next m bs p c) 0 ≢ 1) (gs rs : List ℕ) (r : ℕ) (w : Spread (length ms) bs (p * m) m up ls qs k gs rs r) where
     same : (q x : ℕ) → get_or ls q 0 ≡ x → x < no_level → get_or gs q 0 ≡ x
     same q x z v = go (w.kept q)
       where
-        go : Kept bs at m up ls gs q → get_or gs q 0 ≡ x
+        go : Kept bs (p * m) m up ls gs q → get_or gs q 0 ≡ x
         go (inl y) = y ∙ z
         go (inr y) = absurd (omega (arith, y.0, z, v))
 
@@ -247,13 +237,13 @@ module _ (m : ℕ) (ms bs : List ℕ) (t : Table most_levels m ms bs) (s h : ℕ
       passed = λ i c x y v. passed i c x y v (lt_cases i h);
     }
       where
-        only : (q : ℕ) → q < length ms → get_or gs q 0 ≡ 0 → Kept bs at m up ls gs q → q ≡ s
+        only : (q : ℕ) → q < length ms → get_or gs q 0 ≡ 0 → Kept bs (p * m) m up ls gs q → q ≡ s
         only q x z (inl y) = S.only q x (sym y ∙ z)
         only q x z (inr y) = absurd (omega (arith, y.1, z))
 
-        back : (q j : ℕ) → q < length ms → suc j < no_level → get_or gs q 0 ≡ suc j → Kept bs at m up ls gs q → Behind m ms bs gs q j
+        back : (q j : ℕ) → q < length ms → suc j < no_level → get_or gs q 0 ≡ suc j → Kept bs (p * m) m up ls gs q → Behind m ms bs gs q j
         back q j x v z (inl y) = let (o, i, f, g, l, d) = S.back q j x v (sym y ∙ z) in (o, i, f, g, same o j l (omega (arith, v)), d)
-        back q j x v z (inr (y, l, (i, g, d))) = let c : get_or ls p 0 ≡ j = omega (arith, l, z) in (p, i, head_inside, g, same p j c (omega (arith, v)), (rw e at d))
+        back q j x v z (inr (y, l, (i, g, d))) = let c : get_or ls p 0 ≡ j = omega (arith, l, z) in (p, i, head_inside, g, same p j c (omega (arith, v)), d)
 
         near : h + 1 < r → (i : ℕ) → i < r → get_or gs (get_or rs i 0) 0 ≤ suc (get_or gs (get_or rs (h + 1) 0) 0)
         near x i y = omega (arith, w.front.high i y, old h b, w.front.order.rising h (h + 1) (omega arith) x)
@@ -261,9 +251,9 @@ module _ (m : ℕ) (ms bs : List ℕ) (t : Table most_levels m ms bs) (s h : ℕ
         here : (c : ℕ) → c < m → Near m ms bs gs p c
         here c v =
             let q : ℕ = next m bs p c in
-            let i : (j : ℕ) × (j < r) × (get_or rs j 0 ≡ q) = w.front.order.all q (move_inside _ _ _ _ t p c head_inside v) (rw e at (w.seen c v)) in
+            let i : (j : ℕ) × (j < r) × (get_or rs j 0 ≡ q) = w.front.order.all q (move_inside _ _ _ _ t p c head_inside v) (w.seen c v) in
             let x : get_or gs q 0 ≤ up = rw i.2 at (w.front.high i.0 i.1) in
-            (omega (arith, x, same p (get_or ls p 0) refl (omega (arith, head_low, t.states_most))), (rw e at (a.none refl c v)))
+            (omega (arith, x, same p (get_or ls p 0) refl (omega (arith, head_low, t.states_most))), a c v)
 
         before : (i c : ℕ) → i < h → c < m → Near m ms bs gs (get_or qs i 0) c
         before i c x v =
@@ -279,26 +269,12 @@ module _ (m : ℕ) (ms bs : List ℕ) (t : Table most_levels m ms bs) (s h : ℕ
 
 -- ---- the search begins
 
--- No level yet, in an array's first places.
-pub unseen : (n room : ℕ) → n ≤ room → Unseen n (take n (replicate room no_level))
-unseen n room h = record {
-  long = length-take-le n (replicate room no_level) (omega (arith, length-replicate {A = ℕ} room no_level));
-  none = λ q b. get_or-take n (replicate room no_level) q 0 b ∙ get_or-replicate {A = ℕ} room q no_level 0 (omega arith);
-}
-
-pub blank : (n room : ℕ) → n ≤ room → length {A = ℕ} (take n (replicate room 0)) ≡ n
-blank n room h = length-take-le n (replicate room 0) (omega (arith, length-replicate {A = ℕ} room 0))
-
--- A table, where there is room for more.
-pub table_more : (room more m : ℕ) (ms bs : List ℕ) → room ≤ more → Table room m ms bs → Table more m ms bs
-table_more room more m ms bs h t = record { some = t.some; states_most = omega (arith, t.states_most); long = t.long; inside = t.inside }
-
 -- Only s has a level, and the first place.
-pub search_start : (m : ℕ) (ms bs : List ℕ) (s : ℕ) (ls qs : List ℕ) → s < length ms → Unseen (length ms) ls → length qs ≡ length ms → Search m ms bs s 0 (set ls s 0) (set qs 0 s) 1
-search_start m ms bs s ls qs h u l = record {
+pub search_start : (m : ℕ) (ms bs : List ℕ) (s : ℕ) (ls qs : List ℕ) → s < length ms → length ms ≤ length ls → length ms ≤ length qs → ((q : ℕ) → q < length ms → get_or ls q 0 ≡ no_level) → Search m ms bs s 0 (set ls s 0) (set qs 0 s) 1
+search_start m ms bs s ls qs h g l u = record {
   order = record {
-    levels = length-set ls s 0 ∙ u.long;
-    places = length-set qs 0 s ∙ l;
+    levels = rw length-set g;
+    places = rw length-set l;
     inside = λ i b. rw (place i b) h;
     one = λ i j a b z. omega (arith, a, b);
     low = λ i b. omega (arith, level i b);
@@ -313,7 +289,7 @@ search_start m ms bs s ls qs h u l = record {
 }
   where
     here : get_or (set ls s 0) s 0 ≡ 0
-    here = get_or-set_same ls s 0 0 (omega (arith, u.long))
+    here = get_or-set_same ls s 0 0 (omega (arith, h, g))
 
     first : get_or (set qs 0 s) 0 0 ≡ s
     first = get_or-set_same qs 0 s 0 (omega (arith, l, h))
@@ -325,7 +301,7 @@ search_start m ms bs s ls qs h u l = record {
     level i b = rw (place i b) here
 
     other : (q : ℕ) → q < length ms → q ≢ s → get_or (set ls s 0) q 0 ≡ no_level
-    other q b d = get_or-set_other ls s q 0 0 d ∙ u.none q b
+    other q b d = get_or-set_other ls s q 0 0 d ∙ u q b
 
     seen : (q : ℕ) → q < length ms → get_or (set ls s 0) q 0 < no_level → SameCases nat_test q s → q ≡ s
     seen q b v (inl x) = x.0
@@ -348,7 +324,7 @@ record Levels (m : ℕ) (ms bs : List ℕ) (s d : ℕ) (ls : List ℕ) : Type 0 
   back : (q j : ℕ) → q < length ms → suc j < no_level → get_or ls q 0 ≡ suc j → Behind m ms bs ls q j
   passed : (q c : ℕ) → q < length ms → c < m → get_or ls q 0 < d → Near m ms bs ls q c
 
-module _ (m : ℕ) (ms bs : List ℕ) (t : Table most_levels m ms bs) (s h : ℕ) (ls qs : List ℕ) (k : ℕ) (S : Search m ms bs s h ls qs k) where
+module _ (m : ℕ) (ms bs : List ℕ) (t : Table 120 m ms bs) (s h : ℕ) (ls qs : List ℕ) (k : ℕ) (S : Search m ms bs s h ls qs k) where
   levels_to : (d : ℕ) → d ≤ length ms → ((i : ℕ) → i < k → get_or ls (get_or qs i 0) 0 < d → i < h) → Levels m ms bs s d ls
   levels_to d b f = record { start = S.start; only = S.only; back = S.back; passed = passed }
     where
@@ -370,7 +346,7 @@ module _ (m : ℕ) (ms bs : List ℕ) (t : Table most_levels m ms bs) (s h : ℕ
   levels_end : k ≤ h → Levels m ms bs s (length ms) ls
   levels_end b = levels_to (length ms) (le_refl (length ms)) (λ i a y. omega (arith, a, b))
 
-module _ (m : ℕ) (ms bs : List ℕ) (s d : ℕ) (ls : List ℕ) (S : Levels m ms bs s d ls) (t : Table most_levels m ms bs) (M : Machine) (H : Holds m ms bs M) where
+module _ (m : ℕ) (ms bs : List ℕ) (s d : ℕ) (ls : List ℕ) (S : Levels m ms bs s d ls) (t : Table 120 m ms bs) (M : Machine) (H : Holds m ms bs M) where
   -- A word of j columns leads to q.
   abbrev Led : ℕ → ℕ → Type 0
   Led q j = (w : List ℕ) × Over m w × (length w ≡ j) × (run (automaton M) s w ≡ q)
@@ -405,10 +381,10 @@ module _ (m : ℕ) (ms bs : List ℕ) (s d : ℕ) (ls : List ℕ) (S : Levels m 
 
 -- ---- the search ends
 
-module _ (m : ℕ) (ms bs : List ℕ) (t : Table most_levels m ms bs) (s h : ℕ) (ls qs : List ℕ) (k : ℕ) (S : Search m ms bs s h ls qs k) (b : s < length ms) (n : get_or ms s 0 ≢ 1) where
+module _ (m : ℕ) (ms bs : List ℕ) (t : Table 120 m ms bs) (s h : ℕ) (ls qs : List ℕ) (k : ℕ) (S : Search m ms bs s h ls qs k) (b : s < length ms) (n : get_or ms s 0 ≢ 1) where
   -- A move of the state in place h leads to an accepting one: it is one letter more than its level away,
-  pub search_found : (x : h < k) (at : ℕ) → at ≡ get_or qs h 0 * m → Accepts ms bs at m true → DistanceExactly m ms bs s (get_or ls (get_or qs h 0) 0 + 1)
-  search_found x at e a = record { most = omega (arith, head_low m ms bs t s h ls qs k S x); exact = exact }
+  pub search_found : (x : h < k) → (i : ℕ) × (i < m) × (get_or ms (next m bs (get_or qs h 0) i) 0 ≡ 1) → DistanceExactly m ms bs s (get_or ls (get_or qs h 0) 0 + 1)
+  search_found x a = record { most = omega (arith, head_low m ms bs t s h ls qs k S x); exact = exact }
     where
       p : ℕ
       p = get_or qs h 0
@@ -417,7 +393,7 @@ module _ (m : ℕ) (ms bs : List ℕ) (t : Table most_levels m ms bs) (s h : ℕ
       d = get_or ls p 0
 
       found : (o i : ℕ) × (o < length ms) × (i < m) × (get_or ls o 0 ≡ d) × (get_or ms (next m bs o i) 0 ≡ 1)
-      found = let (i, v, y) = a.found refl in (p, i, head_inside m ms bs t s h ls qs k S x, v, refl, (rw e at y))
+      found = let (i, v, y) = a in (p, i, head_inside m ms bs t s h ls qs k S x, v, refl, y)
 
       exact : (M : Machine) → Holds m ms bs M → (w : List ℕ) → Over m w → (automaton M).accepting (run (automaton M) s w) ≡ true → d + 1 ≡ distance m M s
       exact M H w o z =
@@ -444,24 +420,3 @@ module _ (m : ℕ) (ms bs : List ℕ) (t : Table most_levels m ms bs) (s h : ℕ
 pub record DistancesTo (m : ℕ) (ms bs rs : List ℕ) (p : ℕ) : Type 0 where
   pub long : length rs ≡ 120
   pub each : (q : ℕ) → q < p → get_or ms q 0 ≡ 0 → DistanceExactly m ms bs q (get_or rs q 0)
-
-module _ (m : ℕ) (ms bs rs : List ℕ) where
-  pub numbers_start : length rs ≡ 120 → DistancesTo m ms bs rs 0
-  numbers_start e = record { long = e; each = λ q h. absurd (not-suc-le-zero h) }
-
-  pub numbers_other : (p : ℕ) → get_or ms p 0 ≢ 0 → DistancesTo m ms bs rs p → DistancesTo m ms bs rs (p + 1)
-  numbers_other p n u = record { long = u.long; each = λ q h e. go q h e (lt_cases q p) }
-    where
-      go : (q : ℕ) → q < p + 1 → get_or ms q 0 ≡ 0 → LtCases q p → DistanceExactly m ms bs q (get_or rs q 0)
-      go q h e (inl x) = u.each q x.0 e
-      go q h e (inr x) = let z : q ≡ p = omega arith in absurd (n (rw z at e))
-
-  pub numbers_set : (p d : ℕ) → p < 120 → DistanceExactly m ms bs p d → DistancesTo m ms bs rs p → DistancesTo m ms bs (set rs p d) (p + 1)
-  numbers_set p d b w u = record { long = length-set rs p d ∙ u.long; each = λ q h e. go q h e (lt_cases q p) }
-    where
-      go : (q : ℕ) → q < p + 1 → get_or ms q 0 ≡ 0 → LtCases q p → DistanceExactly m ms bs q (get_or (set rs p d) q 0)
-      go q h e (inl x) = rw (get_or-set_other rs p q d 0 (λ z. omega arith)) (u.each q x.0 e)
-      go q h e (inr x) = let z : q ≡ p = omega arith in rw (z, get_or-set_same rs p d 0 (omega (arith, u.long))) w
-
-  pub numbers_done : (p : ℕ) → length ms ≤ p → DistancesTo m ms bs rs p → DistancesExactly m ms bs rs
-  numbers_done p h u = record { each = λ q b e. u.each q (omega arith) e }

@@ -1,5 +1,5 @@
 -- How far a state is from acceptance, by breadth-first search: what a row, a state that is reached and a search say. The states are as many as levels have room for.
-use Rattle.std.specs.Prelude.{◌≡◌, Bool, true, false, ◌⊎◌, ◌≢◌, List, ℕ, suc, ◌+◌, ◌*◌, ◌≤◌, ◌<◌, length, get_or}
+use Rattle.std.specs.Prelude.{◌≡◌, true, ◌⊎◌, ◌≢◌, List, ℕ, suc, ◌+◌, ◌*◌, ◌≤◌, ◌<◌, length, get_or}
 use Rattle.automata.specs.Basics.{Inj}
 use Rattle.automata.specs.Automaton.{Over, run}
 use Rattle.automata.specs.Machine.{Machine, automaton}
@@ -13,19 +13,12 @@ no_level = 65535
 abbrev pub most_levels : ℕ
 most_levels = 65534
 
--- ---- one row
-
--- Whether one of the m moves of the row at `at` leads to an accepting state.
-pub record Accepts (ms bs : List ℕ) (at m : ℕ) (r : Bool) : Type 0 where
-  pub found : r ≡ true → (i : ℕ) × (i < m) × (get_or ms (get_or bs (at + i) 0) 0 ≡ 1)
-  pub none : r ≡ false → (i : ℕ) → i < m → get_or ms (get_or bs (at + i) 0) 0 ≢ 1
-
 -- ---- states in the order in which they are reached
 
 -- The states with levels stand in the first k places of qs, each once, and their levels rise; no level is above its place.
 pub record Order (n : ℕ) (ls qs : List ℕ) (k : ℕ) : Type 0 where
-  pub levels : length ls ≡ n
-  pub places : length qs ≡ n
+  pub levels : n ≤ length ls
+  pub places : n ≤ length qs
   pub inside : (i : ℕ) → i < k → get_or qs i 0 < n
   pub one : Inj k (λ i. get_or qs i 0)
   pub low : (i : ℕ) → i < k → get_or ls (get_or qs i 0) 0 ≤ i
@@ -39,18 +32,11 @@ pub record Front (n level : ℕ) (ls qs : List ℕ) (k : ℕ) : Type 0 where
   pub low : level ≤ k
   pub high : (i : ℕ) → i < k → get_or ls (get_or qs i 0) 0 ≤ level
 
--- State t has a level: its own, or it had none and has the new one. The places that were taken stay.
-pub record Reached (n t level : ℕ) (ls qs : List ℕ) (k : ℕ) (gs rs : List ℕ) (r : ℕ) : Type 0 where
-  pub front : Front n level gs rs r
-  pub stays : (i : ℕ) → i < k → (i < r) × (get_or rs i 0 ≡ get_or qs i 0)
-  pub seen : get_or gs t 0 < no_level
-  pub kept : (q : ℕ) → (get_or gs q 0 ≡ get_or ls q 0) ⊎ ((q ≡ t) × (get_or ls q 0 ≡ no_level) × (get_or gs q 0 ≡ level))
-
 -- State q has the level of ls in gs too; or it had none, one of the m moves of the row leads to it, and it has this level.
 abbrev pub Kept : List ℕ → ℕ → ℕ → ℕ → List ℕ → List ℕ → ℕ → Type 0
 Kept bs at m level ls gs q = (get_or gs q 0 ≡ get_or ls q 0) ⊎ ((get_or ls q 0 ≡ no_level) × (get_or gs q 0 ≡ level) × ((i : ℕ) × (i < m) × (get_or bs (at + i) 0 ≡ q)))
 
--- The same for all states to which the row's moves lead.
+-- Each state to which the row's moves lead has a level: its own, or it had none and has the new one. The places that were taken stay.
 pub record Spread (n : ℕ) (bs : List ℕ) (at m level : ℕ) (ls qs : List ℕ) (k : ℕ) (gs rs : List ℕ) (r : ℕ) : Type 0 where
   pub front : Front n level gs rs r
   pub stays : (i : ℕ) → i < k → (i < r) × (get_or rs i 0 ≡ get_or qs i 0)
@@ -58,11 +44,6 @@ pub record Spread (n : ℕ) (bs : List ℕ) (at m level : ℕ) (ls qs : List ℕ
   pub kept : (q : ℕ) → Kept bs at m level ls gs q
 
 -- ---- a search
-
--- None of the n states has a level.
-pub record Unseen (n : ℕ) (ls : List ℕ) : Type 0 where
-  pub long : length ls ≡ n
-  pub none : (q : ℕ) → q < n → get_or ls q 0 ≡ no_level
 
 -- the state that letter i leads to from state q
 abbrev pub next : ℕ → List ℕ → ℕ → ℕ → ℕ

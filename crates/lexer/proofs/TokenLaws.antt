@@ -8,8 +8,11 @@ use borrow.Author.Tests.{eq-eqb, ne_eqb}
 use lib.Dec.{eqb}
 use lib.ListN.{length, drop, drop_of_length-le, get_or}
 use lib.Seq.{drop-cons}
-use Rattle.book.specs.Kind.{kind_of, space_kind, line_end_kind}
+use Rattle.book.specs.Kind.{kind_of, space_kind}
 use Rattle.book.specs.Text.{tokens}
+use Rattle.lexer.specs.Kinds.{kind_number}
+use Rattle.lexer.specs.declared.kinds.Kind.{Kind}
+use Rattle.lexer.specs.declared.kinds.Kind.TheVariants.{LineEnd}
 use Rattle.lexer.specs.Token.{At, Past, Lexed, kind_ahead}
 use Rattle.lexer.specs.declared.Cursor.{Cursor}
 use Rattle.lexer.specs.declared.Lexeme.{Lexeme}
@@ -37,14 +40,14 @@ past_token {s} {at} {n} p h = sym p.same ∙ tokens_other s n (kind_of (get_or s
 pub past_end : {s : List ℕ} {at n : ℕ} → Past s at n → length s ≤ n → tokens (drop at s) ≡ []
 past_end {s} {at} {n} p h = sym p.same ∙ tokens_end s n h
 
-pub lexed_token : {s : List ℕ} {at k b : ℕ} {m n : Cursor} → Past s at m.at → At s at k b n.at → Lexed s at (record { kind = k; byte = b; start = m; next = n })
+pub lexed_token : {s : List ℕ} {at b : ℕ} {k : Kind} {m n : Cursor} → Past s at m.at → At s at (kind_number k) b n.at → Lexed s at (record { kind = k; byte = b; start = m; next = n })
 lexed_token p x = record { start = p; kind_is = x.kind_is ∙ sym (ap kind_ahead x.rest_is); token = λ _. x }
 
-pub lexed_end : {s : List ℕ} {at : ℕ} {m n : Cursor} → Past s at m.at → tokens (drop at s) ≡ [] → Lexed s at (record { kind = line_end_kind; byte = 10; start = m; next = n })
+pub lexed_end : {s : List ℕ} {at : ℕ} {m n : Cursor} → Past s at m.at → tokens (drop at s) ≡ [] → Lexed s at (record { kind = LineEnd; byte = 10; start = m; next = n })
 lexed_end p e = record { start = p; kind_is = sym (ap kind_ahead e); token = λ h. absurd (h refl) }
 
 -- its kind is that of what stands where the spaces end
-pub start_kind : {s : List ℕ} {at : ℕ} {t : Lexeme} → Lexed s at t → t.kind ≡ kind_ahead (tokens (drop t.start.at s))
+pub start_kind : {s : List ℕ} {at : ℕ} {t : Lexeme} → Lexed s at t → kind_number t.kind ≡ kind_ahead (tokens (drop t.start.at s))
 start_kind d = d.kind_is ∙ ap kind_ahead (sym d.start.same)
 
 -- a token is one of the tokens left

@@ -2,6 +2,7 @@
 use Rattle.std.specs.Prelude.{◌≡◌, List, [], ◌∷◌, ℕ, ◌-◌, ◌<◌, ◌≤◌, length, drop, get_or}
 use Rattle.book.specs.Kind.{kind_of, space_kind, line_end_kind}
 use Rattle.book.specs.Text.{tokens}
+use Rattle.lexer.specs.Kinds.{kind_number}
 use Rattle.lexer.specs.declared.Lexeme.{Lexeme}
 
 -- the token k, b stands next from `at` on, and the bytes from `n` on are left
@@ -23,5 +24,5 @@ kind_ahead (b ∷ ts) = kind_of b
 
 pub record Lexed (s : List ℕ) (at : ℕ) (t : Lexeme) : Type 0 where
   pub start : Past s at t.start.at
-  pub kind_is : t.kind ≡ kind_ahead (tokens (drop at s))
-  pub token : ((t.kind ≡ line_end_kind) → ⊥) → At s at t.kind t.byte t.next.at
+  pub kind_is : kind_number t.kind ≡ kind_ahead (tokens (drop at s))
+  pub token : ((kind_number t.kind ≡ line_end_kind) → ⊥) → At s at (kind_number t.kind) t.byte t.next.at

@@ -1,168 +1,212 @@
-// The kind of each byte of a book.
+// The kinds of bytes, and the kind of each byte of a book.
 ghost use Rattle.std.specs.Prelude.{◌≡◌};
-ghost use Rattle.book.specs.Kind.{kind_of};
-ghost use Rattle.lexer.specs.Kinds.{Kinds};
+ghost use Rattle.book.specs.Kind.{kind_of, item_kind};
+ghost use Rattle.lexer.specs.Kinds.{kind_number, suffix_kind, operator_kind, leaf_kind};
 
-use book::kinds::{
-    AMPERSAND_KIND, ASCII_END, AT_KIND, BANG_KIND, BAR_KIND, CARET_KIND, CLOSE_KIND, COLON_KIND,
-    DOT_KIND, EQUALS_KIND, GREATER_KIND, LESS_KIND, LETTER_KIND, LINE_END_KIND, MINUS_KIND,
-    NAME_KIND, OPEN_KIND, PLUS_KIND, QUESTION_KIND, SLASH_KIND, SPACE_KIND, STAR_KIND, STRAY_KIND,
-    UNDERSCORE_KIND,
-};
-
-pub type KindTable = [u8; ASCII_END];
-
-// "The kind of every byte .. is one constant table"; "All bytes from 0x80 up are stray, so the table keeps 128 entries". A mark at each sixteenth.
-pub const KINDS: KindTable = [
-    // 0x00
-    STRAY_KIND,
-    STRAY_KIND,
-    STRAY_KIND,
-    STRAY_KIND,
-    STRAY_KIND,
-    STRAY_KIND,
-    STRAY_KIND,
-    STRAY_KIND,
-    STRAY_KIND,
-    STRAY_KIND,
-    LINE_END_KIND,
-    STRAY_KIND,
-    STRAY_KIND,
-    STRAY_KIND,
-    STRAY_KIND,
-    STRAY_KIND,
-    // 0x10
-    STRAY_KIND,
-    STRAY_KIND,
-    STRAY_KIND,
-    STRAY_KIND,
-    STRAY_KIND,
-    STRAY_KIND,
-    STRAY_KIND,
-    STRAY_KIND,
-    STRAY_KIND,
-    STRAY_KIND,
-    STRAY_KIND,
-    STRAY_KIND,
-    STRAY_KIND,
-    STRAY_KIND,
-    STRAY_KIND,
-    STRAY_KIND,
-    // 0x20
-    SPACE_KIND,
-    BANG_KIND,
-    STRAY_KIND,
-    STRAY_KIND,
-    STRAY_KIND,
-    STRAY_KIND,
-    AMPERSAND_KIND,
-    STRAY_KIND,
-    OPEN_KIND,
-    CLOSE_KIND,
-    STAR_KIND,
-    PLUS_KIND,
-    STRAY_KIND,
-    MINUS_KIND,
-    DOT_KIND,
-    SLASH_KIND,
-    // 0x30
-    STRAY_KIND,
-    STRAY_KIND,
-    STRAY_KIND,
-    STRAY_KIND,
-    STRAY_KIND,
-    STRAY_KIND,
-    STRAY_KIND,
-    STRAY_KIND,
-    STRAY_KIND,
-    STRAY_KIND,
-    COLON_KIND,
-    STRAY_KIND,
-    LESS_KIND,
-    EQUALS_KIND,
-    GREATER_KIND,
-    QUESTION_KIND,
-    // 0x40
-    AT_KIND,
-    NAME_KIND,
-    NAME_KIND,
-    NAME_KIND,
-    NAME_KIND,
-    NAME_KIND,
-    NAME_KIND,
-    NAME_KIND,
-    NAME_KIND,
-    NAME_KIND,
-    NAME_KIND,
-    NAME_KIND,
-    NAME_KIND,
-    NAME_KIND,
-    NAME_KIND,
-    NAME_KIND,
-    // 0x50
-    NAME_KIND,
-    NAME_KIND,
-    NAME_KIND,
-    NAME_KIND,
-    NAME_KIND,
-    NAME_KIND,
-    NAME_KIND,
-    NAME_KIND,
-    NAME_KIND,
-    NAME_KIND,
-    NAME_KIND,
-    STRAY_KIND,
-    STRAY_KIND,
-    STRAY_KIND,
-    CARET_KIND,
-    UNDERSCORE_KIND,
-    // 0x60
-    STRAY_KIND,
-    LETTER_KIND,
-    LETTER_KIND,
-    LETTER_KIND,
-    LETTER_KIND,
-    LETTER_KIND,
-    LETTER_KIND,
-    LETTER_KIND,
-    LETTER_KIND,
-    LETTER_KIND,
-    LETTER_KIND,
-    LETTER_KIND,
-    LETTER_KIND,
-    LETTER_KIND,
-    LETTER_KIND,
-    LETTER_KIND,
-    // 0x70
-    LETTER_KIND,
-    LETTER_KIND,
-    LETTER_KIND,
-    LETTER_KIND,
-    LETTER_KIND,
-    LETTER_KIND,
-    LETTER_KIND,
-    LETTER_KIND,
-    LETTER_KIND,
-    LETTER_KIND,
-    LETTER_KIND,
-    STRAY_KIND,
-    BAR_KIND,
-    STRAY_KIND,
-    STRAY_KIND,
-    STRAY_KIND,
-];
-
-// The table, laid out once: an entry lends it to whatever looks a byte up.
-pub fn table() -> KindTable
-    ensures { Kinds result }
-{
-    KINDS
+// The kinds, by the names of specs/Kind.antt of `book`, in its order.
+#[derive(Clone, Copy, Debug, PartialEq, Eq)]
+pub enum Kind {
+    Stray,
+    Letter,
+    Name,
+    Dot,
+    At,
+    Open,
+    Bang,
+    Star,
+    Plus,
+    Question,
+    Ampersand,
+    Minus,
+    Bar,
+    Close,
+    Space,
+    LineEnd,
+    Colon,
+    Equals,
+    Greater,
+    Slash,
+    Underscore,
+    Less,
+    Caret,
 }
 
-pub fn kind(kinds: &KindTable, b: u8) -> u8
-    requires { Kinds kinds.now }
-    ensures { result ≡ kind_of b }
-{
-    let i = b as usize;
-    if i < ASCII_END { kinds[i] } else { STRAY_KIND }
+// From this byte on all are stray.
+const ASCII_END: usize = 128;
+
+// "The kind of every byte .. is one constant table"; "All bytes from 0x80 up are stray, so the table keeps 128 entries". A mark at each sixteenth.
+static KINDS: [Kind; ASCII_END] = [
+    // 0x00
+    Kind::Stray,
+    Kind::Stray,
+    Kind::Stray,
+    Kind::Stray,
+    Kind::Stray,
+    Kind::Stray,
+    Kind::Stray,
+    Kind::Stray,
+    Kind::Stray,
+    Kind::Stray,
+    Kind::LineEnd,
+    Kind::Stray,
+    Kind::Stray,
+    Kind::Stray,
+    Kind::Stray,
+    Kind::Stray,
+    // 0x10
+    Kind::Stray,
+    Kind::Stray,
+    Kind::Stray,
+    Kind::Stray,
+    Kind::Stray,
+    Kind::Stray,
+    Kind::Stray,
+    Kind::Stray,
+    Kind::Stray,
+    Kind::Stray,
+    Kind::Stray,
+    Kind::Stray,
+    Kind::Stray,
+    Kind::Stray,
+    Kind::Stray,
+    Kind::Stray,
+    // 0x20
+    Kind::Space,
+    Kind::Bang,
+    Kind::Stray,
+    Kind::Stray,
+    Kind::Stray,
+    Kind::Stray,
+    Kind::Ampersand,
+    Kind::Stray,
+    Kind::Open,
+    Kind::Close,
+    Kind::Star,
+    Kind::Plus,
+    Kind::Stray,
+    Kind::Minus,
+    Kind::Dot,
+    Kind::Slash,
+    // 0x30
+    Kind::Stray,
+    Kind::Stray,
+    Kind::Stray,
+    Kind::Stray,
+    Kind::Stray,
+    Kind::Stray,
+    Kind::Stray,
+    Kind::Stray,
+    Kind::Stray,
+    Kind::Stray,
+    Kind::Colon,
+    Kind::Stray,
+    Kind::Less,
+    Kind::Equals,
+    Kind::Greater,
+    Kind::Question,
+    // 0x40
+    Kind::At,
+    Kind::Name,
+    Kind::Name,
+    Kind::Name,
+    Kind::Name,
+    Kind::Name,
+    Kind::Name,
+    Kind::Name,
+    Kind::Name,
+    Kind::Name,
+    Kind::Name,
+    Kind::Name,
+    Kind::Name,
+    Kind::Name,
+    Kind::Name,
+    Kind::Name,
+    // 0x50
+    Kind::Name,
+    Kind::Name,
+    Kind::Name,
+    Kind::Name,
+    Kind::Name,
+    Kind::Name,
+    Kind::Name,
+    Kind::Name,
+    Kind::Name,
+    Kind::Name,
+    Kind::Name,
+    Kind::Stray,
+    Kind::Stray,
+    Kind::Stray,
+    Kind::Caret,
+    Kind::Underscore,
+    // 0x60
+    Kind::Stray,
+    Kind::Letter,
+    Kind::Letter,
+    Kind::Letter,
+    Kind::Letter,
+    Kind::Letter,
+    Kind::Letter,
+    Kind::Letter,
+    Kind::Letter,
+    Kind::Letter,
+    Kind::Letter,
+    Kind::Letter,
+    Kind::Letter,
+    Kind::Letter,
+    Kind::Letter,
+    Kind::Letter,
+    // 0x70
+    Kind::Letter,
+    Kind::Letter,
+    Kind::Letter,
+    Kind::Letter,
+    Kind::Letter,
+    Kind::Letter,
+    Kind::Letter,
+    Kind::Letter,
+    Kind::Letter,
+    Kind::Letter,
+    Kind::Letter,
+    Kind::Stray,
+    Kind::Bar,
+    Kind::Stray,
+    Kind::Stray,
+    Kind::Stray,
+];
+
+impl Kind {
+    pub fn of(b: u8) -> Self
+        ensures { kind_number result ≡ kind_of b }
+    {
+        let i = b as usize;
+        if i < ASCII_END { KINDS[i] } else { Kind::Stray }
+    }
+
+    // A letter, a name, `.`, `@`, `(`, `!`.
+    pub fn begins_item(self) -> bool
+        ensures { result ≡ item_kind (kind_number self) }
+    {
+        self.is_leaf() || matches!(self, Kind::Open | Kind::Bang)
+    }
+
+    // A letter, a name, `.`, `@`: an item of one byte.
+    pub fn is_leaf(self) -> bool
+        ensures { result ≡ leaf_kind (kind_number self) }
+    {
+        matches!(self, Kind::Letter | Kind::Name | Kind::Dot | Kind::At)
+    }
+
+    // `*`, `+`, `?`.
+    pub fn is_suffix(self) -> bool
+        ensures { result ≡ suffix_kind (kind_number self) }
+    {
+        matches!(self, Kind::Star | Kind::Plus | Kind::Question)
+    }
+
+    // `&`, `-`.
+    pub fn is_operator(self) -> bool
+        ensures { result ≡ operator_kind (kind_number self) }
+    {
+        matches!(self, Kind::Ampersand | Kind::Minus)
+    }
 }

@@ -1,6 +1,5 @@
 -- Lines compiled: from what a line's stages made to the draft behind it.
 use mathlib.Core.Path.{◌≡◌, refl, sym, ap, ◌∙◌, subst}
-use mathlib.Core.Bool.{Bool, true, false, false≢true}
 use mathlib.Core.List.{List, [], ◌∷◌, ◌++◌}
 use Prim.Native.Nat.{ℕ, suc, ◌≤◌, ◌<◌, max}
 use native.Mathlib.Omega.{arith}
@@ -20,19 +19,24 @@ use Rattle.reader.specs.Names.{Holds}
 use Rattle.scans.specs.Lines.{line_at}
 use Rattle.reader.specs.Answers.{Reads, WrittenName, WrittenRule, ReadsNext}
 use Rattle.reader.specs.Answers as answers
-use Rattle.reader.specs.declared.line.LineAnswer as line_answer
-use Rattle.reader.specs.declared.line.LineAnswer.{LineAnswer}
+use Rattle.book.specs.Refusals.{refusal_number}
+use Rattle.book.specs.declared.refusal.Refusal as refused_line
+use Rattle.forms.specs.declared.Code.{Code}
+use Rattle.forms.specs.declared.Code.TheVariants as form_code
+use Rattle.reader.specs.declared.line.Line as read_line_of
 use Rattle.evaluate.specs.Evaluated.{Evaluates, line_made}
-use Rattle.evaluate.specs.declared.run.Evaluated.{Evaluated}
-use Rattle.evaluate.specs.declared.run.Evaluated.TheVariants as evaluated
+use Rattle.evaluate.specs.Steps.{number_of}
+use Rattle.evaluate.specs.declared.run.Failure.{Failure}
+use Rattle.std.specs.Prelude.{Result, Ok, Err, IfOk, IfErr, take}
+use Rattle.std.proofs.lemmas.Result.{IfOk-at_ok, IfErr-at_err}
 use Rattle.kept.specs.Stored.{InSlot, Registers, Keeps, Right, Shelves}
 use Rattle.kept.specs.declared.Place.{Place}
 use Rattle.kept.specs.declared.Place.TheVariants as place
 use Rattle.line.specs.Line.{Program, Runs, Drafted, FormSays, CompilesForm, IsForm, Finishes, Going, LineSays, CompilesLine}
-use Rattle.progress.specs.Progress.{Behind, tell_of}
+use Rattle.progress.specs.Progress.{Behind, tell_of, tell_code}
 use Rattle.progress.specs.declared.Book.{Book}
-use Rattle.progress.specs.declared.Told.{Told}
-use Rattle.progress.specs.declared.Next.{Next}
+use Rattle.progress.specs.declared.Read.{Read}
+use Rattle.compiler.specs.declared.Refusal.{Refusal}
 use Rattle.line.proofs.RunLaws.{layout, stages_made, stages_stopped}
 
 -- The peak of two rows of stages is the greater of their peaks.
@@ -44,9 +48,9 @@ most_append (c ∷ cs) ds = let e : most (cs ++ ds) ≡ max (most cs) (most ds) 
 
 module _ (ls : List ℕ) (d : Draft) (b : Book) (low high registers : List ℕ) (D : Drafted ls d b low high registers) where
   -- a form whose machine was made and kept at its place
-  form_on : (pl : Place) (F : Form) → IsForm pl F → (next p : ℕ) (n : Next) (stack low' high' registers' registers'' : List ℕ) → length ls ≤ 26
+  form_on : (pl : Place) (F : Form) → IsForm pl F → (next p : ℕ) (n : Book) (stack low' high' registers' registers'' : List ℕ) → length ls ≤ 26
       → (counts : List ℕ) × (M : Machine) × (line_made narrow ls d.env d.kept F ≡ made counts M) × (p ≡ most counts) × InSlot (length ls) stack M × Registers (length ls) d.kept registers'
-      → Keeps pl stack low high registers' low' high' registers'' → Behind pl b next p n.book → FormSays ls d F b next low' high' registers'' true n
+      → Keeps pl stack low high registers' low' high' registers'' → Behind pl b next p n → FormSays ls d F b next low' high' registers'' (Ok n)
   unfolding compile_form
   form_on (place.Name x) F (e, f) next p n stack low' high' registers' registers'' few (counts, M, q, pk, H, R) K U = (
     record { env = (x, M) ∷ d.env; counts = d.counts ++ counts; kept = d.kept },
@@ -74,46 +78,44 @@ module _ (ls : List ℕ) (d : Draft) (b : Book) (low high registers : List ℕ) 
   )
 
   -- a form whose stages stop
-  form_off : (F : Form) (next : ℕ) (n : Next) (low' high' registers' : List ℕ) → line_made narrow ls d.env d.kept F ≡ refused n.number → FormSays ls d F b next low' high' registers' false n
+  form_off : (F : Form) (next : ℕ) (n : Refusal) (low' high' registers' : List ℕ) → line_made narrow ls d.env d.kept F ≡ refused n.number → n.line ≡ b.line
+      → FormSays ls d F b next low' high' registers' (Err n)
   unfolding compile_form
-  form_off (define x e) next n low' high' registers' q = ap (λ r. on_made r (λ counts M. on (record { env = (x, M) ∷ d.env; counts = d.counts ++ counts; kept = d.kept }))) q
-  form_off (rule kind p cs) next n low' high' registers' q = ap (λ r. on_made r (λ counts M. on (record { env = d.env; counts = d.counts ++ counts; kept = M }))) q
-  form_off malformed next n low' high' registers' q = ap (λ r. on_made r (λ counts M. on d)) q
+  form_off (define x e) next n low' high' registers' q l = (ap (λ r. on_made r (λ counts M. on (record { env = (x, M) ∷ d.env; counts = d.counts ++ counts; kept = d.kept }))) q, l)
+  form_off (rule kind p cs) next n low' high' registers' q l = (ap (λ r. on_made r (λ counts M. on (record { env = d.env; counts = d.counts ++ counts; kept = M }))) q, l)
+  form_off malformed next n low' high' registers' q l = (ap (λ r. on_made r (λ counts M. on d)) q, l)
 
-module _ (ls : List ℕ) (b : Book) (next len : ℕ) (code low high registers registers' stack : List ℕ) (r : Evaluated) (E : Evaluates layout ls low high code len registers registers' stack r) where
-  form_goes : (pl : Place) (p : ℕ) → r ≡ evaluated.Made p → length ls ≤ 26 → (n : Next) (low' high' registers'' : List ℕ) → Keeps pl stack low high registers' low' high' registers''
-      → (n.on ≡ true) × Behind pl b next p n.book → CompilesForm ls b next len code low high registers low' high' registers'' (IsForm pl) n
-  form_goes pl p e few n low' high' registers'' K (t, U) = record {
+module _ (ls : List ℕ) (b : Book) (next len : ℕ) (code low high registers registers' stack : List ℕ) (r : Result ℕ Failure) (E : Evaluates layout ls low high (take len code) registers registers' stack r) where
+  form_goes : (pl : Place) (p : ℕ) → r ≡ Ok p → length ls ≤ 26 → (n : Book) (low' high' registers'' : List ℕ) → Keeps pl stack low high registers' low' high' registers''
+      → Behind pl b next p n → CompilesForm ls b next len code low high registers low' high' registers'' (IsForm pl) (Ok n)
+  form_goes pl p e few n low' high' registers'' K U = record {
     says = λ d F i D P.
-        subst (λ v. FormSays ls d F b next low' high' registers'' v n) (sym t)
-        (form_on ls d b low high registers D pl F i next p n stack low' high' registers' registers'' few
-        (stages_made ls len code low high registers registers' stack r E d.env d.kept F D.stored P p e) K U);
+        form_on ls d b low high registers D pl F i next p n stack low' high' registers' registers'' few
+        (stages_made ls len code low high registers registers' stack r E d.env d.kept F D.stored P p e) K U;
   }
 
-  form_stops : (pl : Place) (k : ℕ) → r ≡ evaluated.Refused k → (n : Next) (low' high' registers'' : List ℕ) → (n.on ≡ false) × (n.number ≡ k)
-      → CompilesForm ls b next len code low high registers low' high' registers'' (IsForm pl) n
-  form_stops pl k e n low' high' registers'' (t, z) = record {
+  form_stops : (pl : Place) (k : Failure) → r ≡ Err k → (n : Refusal) (low' high' registers'' : List ℕ) → n.number ≡ number_of k → n.line ≡ b.line
+      → CompilesForm ls b next len code low high registers low' high' registers'' (IsForm pl) (Err n)
+  form_stops pl k e n low' high' registers'' z l = record {
     says = λ d F i D P.
-        let s : line_made narrow ls d.env d.kept F ≡ refused k = stages_stopped ls len code low high registers registers' stack r E d.env d.kept F D.stored P k e in
-        subst (λ v. FormSays ls d F b next low' high' registers'' v n) (sym t)
-        (form_off ls d b low high registers D F next n low' high' registers'' (s ∙ ap refused (sym z)));
+        let s : line_made narrow ls d.env d.kept F ≡ refused (number_of k) = stages_stopped ls len code low high registers registers' stack r E d.env d.kept F D.stored P k e in
+        form_off ls d b low high registers D F next n low' high' registers'' (s ∙ ap refused (sym z)) l;
   }
 
 -- a form whose program was run
-pub form_run : (ls : List ℕ) (b : Book) (code low high registers registers' stack : List ℕ) (r : Evaluated) (t : Told) → Evaluates layout ls low high code t.len registers registers' stack r
-    → length ls ≤ 26 → (n : Next) (low' high' registers'' : List ℕ) → Finishes t b stack low high registers' low' high' registers'' n r
+pub form_run : (ls : List ℕ) (b : Book) (code low high registers registers' stack : List ℕ) (r : Result ℕ Failure) (t : Read) → Evaluates layout ls low high (take t.len code) registers registers' stack r
+    → length ls ≤ 26 → (n : Result Book Refusal) (low' high' registers'' : List ℕ) → Finishes t b stack low high registers' low' high' registers'' n r
     → CompilesForm ls b t.next t.len code low high registers low' high' registers'' (IsForm t.place) n
 form_run ls b code low high registers registers' stack r t E few n low' high' registers'' F = go r refl F
   where
-    go : (q : Evaluated) → r ≡ q → Finishes t b stack low high registers' low' high' registers'' n q
+    go : (q : Result ℕ Failure) → r ≡ q → Finishes t b stack low high registers' low' high' registers'' n q
         → CompilesForm ls b t.next t.len code low high registers low' high' registers'' (IsForm t.place) n
-    go (evaluated.Made p) e (K, U) = form_goes ls b t.next t.len code low high registers registers' stack r E t.place p e few n low' high' registers'' K U
-    go (evaluated.Refused k) e U = form_stops ls b t.next t.len code low high registers registers' stack r E t.place k e n low' high' registers'' U
-
--- what a run's answer says, in place of an equation
-pub finishes_as : (t : Told) (b : Book) (stack low high registers low' high' registers' : List ℕ) (n : Next) (r q : Evaluated) → r ≡ q
-    → Finishes t b stack low high registers low' high' registers' n q → Finishes t b stack low high registers low' high' registers' n r
-finishes_as t b stack low high registers low' high' registers' n r q e F = subst (Finishes t b stack low high registers low' high' registers' n) (sym e) F
+    go (Ok p) e (K, m, i, U) =
+        subst (CompilesForm ls b t.next t.len code low high registers low' high' registers'' (IsForm t.place)) (sym i)
+        (form_goes ls b t.next t.len code low high registers registers' stack r E t.place p e few m low' high' registers'' K U)
+    go (Err k) e (m, i, z, l) =
+        subst (CompilesForm ls b t.next t.len code low high registers low' high' registers'' (IsForm t.place)) (sym i)
+        (form_stops ls b t.next t.len code low high registers registers' stack r E t.place k e m low' high' registers'' z l)
 
 -- what keeping the machine asks of the buffers behind the run
 pub kept_asks : {text ls : List ℕ} {b : Book} {low high registers stack rows table work code : List ℕ} → Going text ls b low high registers stack rows table work code
@@ -141,61 +143,60 @@ written_program l ls b o len F d H W = record {
   known = known_form ls (names_of d.env) l F (W.reads_as.is (names_of d.env) H);
 }
 
-module _ (text ls : List ℕ) (b : Book) {o₀ : List ℕ} (o : List ℕ) (a : LineAnswer) (R : ReadsNext text b.at ls b.names o₀ o a) where
+module _ (text ls : List ℕ) (b : Book) {o₀ : List ℕ} (o : List ℕ) (a : Result read_line_of.Line refused_line.Refusal) (R : ReadsNext text b.at ls b.names o₀ o a) where
   abbrev line : Line
   line = line_at text b.at R.end
 
-  named : (x len next : ℕ) → a ≡ line_answer.TheVariants.Define x len next → WrittenName line ls b.names o₀ o x len × (next ≡ suc R.end)
+  named : (x len next : ℕ) → a ≡ Ok (record { code = form_code.Define x len; next = next }) → WrittenName line ls b.names o₀ o x len × (next ≡ suc R.end)
   named x len next e = subst (answers.NextSays line R.end ls b.names o₀ o) e R.says
 
-  ruled : (len next : ℕ) → a ≡ line_answer.TheVariants.Rule len next → WrittenRule line ls b.names o₀ o len × (next ≡ suc R.end)
+  ruled : (len next : ℕ) → a ≡ Ok (record { code = form_code.Rule len; next = next }) → WrittenRule line ls b.names o₀ o len × (next ≡ suc R.end)
   ruled len next e = subst (answers.NextSays line R.end ls b.names o₀ o) e R.says
 
   -- a form compiled is its line compiled
-  goes : (F : Form) (d : Draft) (next len : ℕ) (low high registers low' high' registers' : List ℕ) (v : Bool) (r : Next) → answers.Written line ls b.names o₀ o len F → next ≡ suc R.end
-      → Drafted ls d b low high registers → FormSays ls d F b next low' high' registers' v r → LineSays text ls d b R.end low' high' registers' v r
+  goes : (F : Form) (d : Draft) (next len : ℕ) (low high registers low' high' registers' : List ℕ) (r : Result Book Refusal) → answers.Written line ls b.names o₀ o len F → next ≡ suc R.end
+      → Drafted ls d b low high registers → FormSays ls d F b next low' high' registers' r → LineSays text ls d b R.end low' high' registers' r
   unfolding compile_line
-  goes F d next len low high registers low' high' registers' true r W n D (d', q, D', at, ln) =
+  goes F d next len low high registers low' high' registers' (Ok r) W n D (d', q, D', at, ln) =
       (d', ap (λ x. after_read x (compile_form narrow ls d)) (W.reads_as.is (names_of d.env) D.names) ∙ q, D', at ∙ n, ln, ltb_lt R.end (length text) W.whole)
-  goes F d next len low high registers low' high' registers' false r W n D q =
-      ap (λ x. after_read x (compile_form narrow ls d)) (W.reads_as.is (names_of d.env) D.names) ∙ q
+  goes F d next len low high registers low' high' registers' (Err r) W n D (q, l) =
+      (ap (λ x. after_read x (compile_form narrow ls d)) (W.reads_as.is (names_of d.env) D.names) ∙ q, l)
 
-  line_defined : (x len next : ℕ) (low high registers low' high' registers' : List ℕ) (r : Next) → a ≡ line_answer.TheVariants.Define x len next
+  line_defined : (x len next : ℕ) (low high registers low' high' registers' : List ℕ) (r : Result Book Refusal) → a ≡ Ok (record { code = form_code.Define x len; next = next })
       → CompilesForm ls b next len o low high registers low' high' registers' (IsForm (place.Name x)) r → CompilesLine text ls b low high registers low' high' registers' r
   line_defined x len next low high registers low' high' registers' r e C = record {
     end = R.end;
     ends = R.ends;
     says = λ d D.
         let (w, n) = named x len next e in
-        goes (define x w.body) d next len low high registers low' high' registers' r.on r w.written n D
+        goes (define x w.body) d next len low high registers low' high' registers' r w.written n D
         (C.says d (define x w.body) (w.body, refl) D (written_program line ls b o len (define x w.body) d D.names w.written));
   }
 
-  line_ruled : (len next : ℕ) (low high registers low' high' registers' : List ℕ) (r : Next) → a ≡ line_answer.TheVariants.Rule len next
+  line_ruled : (len next : ℕ) (low high registers low' high' registers' : List ℕ) (r : Result Book Refusal) → a ≡ Ok (record { code = form_code.Rule len; next = next })
       → CompilesForm ls b next len o low high registers low' high' registers' (IsForm place.Book) r → CompilesLine text ls b low high registers low' high' registers' r
   line_ruled len next low high registers low' high' registers' r e C = record {
     end = R.end;
     ends = R.ends;
     says = λ d D.
         let (w, n) = ruled len next e in
-        goes (rule w.kind w.pattern w.contexts) d next len low high registers low' high' registers' r.on r w.written n D
+        goes (rule w.kind w.pattern w.contexts) d next len low high registers low' high' registers' r w.written n D
         (C.says d (rule w.kind w.pattern w.contexts) (w.kind, w.pattern, w.contexts, refl) D (written_program line ls b o len (rule w.kind w.pattern w.contexts) d D.names w.written));
   }
 
-  line_stops : (k : ℕ) (n : Next) (low high registers low' high' registers' : List ℕ) → a ≡ line_answer.TheVariants.Refused k → (n.on ≡ false) × (n.number ≡ k)
-      → CompilesLine text ls b low high registers low' high' registers' n
+  line_stops : (k : refused_line.Refusal) (n : Refusal) (low high registers low' high' registers' : List ℕ) → a ≡ Err k → n.number ≡ refusal_number k → n.line ≡ b.line
+      → CompilesLine text ls b low high registers low' high' registers' (Err n)
   unfolding compile_line
-  line_stops k n low high registers low' high' registers' e (t, z) = record {
+  line_stops k n low high registers low' high' registers' e z l = record {
     end = R.end;
     ends = R.ends;
     says = λ d D.
-        let w : Reads line ls b.names (stops k) = subst (answers.NextSays line R.end ls b.names o₀ o) e R.says in
-        subst (λ v. LineSays text ls d b R.end low' high' registers' v n) (sym t)
-        (ap (λ x. after_read x (compile_form narrow ls d)) (w.is (names_of d.env) D.names) ∙ ap off (sym z));
+        let w : Reads line ls b.names (stops (refusal_number k)) = subst (answers.NextSays line R.end ls b.names o₀ o) e R.says in
+        (ap (λ x. after_read x (compile_form narrow ls d)) (w.is (names_of d.env) D.names) ∙ ap off (sym z), l);
   }
 
   -- the program of a line that was read, over the machines so far
-  runs_define : (x len next : ℕ) (low high registers stack rows table work code : List ℕ) → a ≡ line_answer.TheVariants.Define x len next → Going text ls b low high registers stack rows table work code
+  runs_define : (x len next : ℕ) (low high registers stack rows table work code : List ℕ) → a ≡ Ok (record { code = form_code.Define x len; next = next }) → Going text ls b low high registers stack rows table work code
       → Runs ls len o low high registers stack rows table work
   runs_define x len next low high registers stack rows table work code e G =
       let (w, n) = named x len next e in
@@ -209,7 +210,7 @@ module _ (text ls : List ℕ) (b : Book) {o₀ : List ℕ} (o : List ℕ) (a : L
         room = G.room;
       }
 
-  runs_rule : (len next : ℕ) (low high registers stack rows table work code : List ℕ) → a ≡ line_answer.TheVariants.Rule len next → Going text ls b low high registers stack rows table work code
+  runs_rule : (len next : ℕ) (low high registers stack rows table work code : List ℕ) → a ≡ Ok (record { code = form_code.Rule len; next = next }) → Going text ls b low high registers stack rows table work code
       → Runs ls len o low high registers stack rows table work
   runs_rule len next low high registers stack rows table work code e G =
       let (w, n) = ruled len next e in
@@ -226,47 +227,37 @@ module _ (text ls : List ℕ) (b : Book) {o₀ : List ℕ} (o : List ℕ) (a : L
   -- ---- by what the reader says of the line
 
   -- the program of a line that was read, over the machines so far
-  runs_told : (low high registers stack rows table work code : List ℕ) → (tell_of a).on ≡ true → Going text ls b low high registers stack rows table work code
-      → Runs ls (tell_of a).len o low high registers stack rows table work × Right (tell_of a).place
-  runs_told low high registers stack rows table work code t G = go a refl t
+  pub told_runs : (v : Read) → tell_of a b.line ≡ Ok v → (low high registers stack rows table work code : List ℕ) → Going text ls b low high registers stack rows table work code
+      → Runs ls v.len o low high registers stack rows table work × (Right v.place × (b.line < 65536))
+  told_runs v i low high registers stack rows table work code G = IfOk-at_ok (λ v. Runs ls v.len o low high registers stack rows table work × (Right v.place × (b.line < 65536))) i (go a refl)
     where
-      go : (q : LineAnswer) → a ≡ q → (tell_of q).on ≡ true → Runs ls (tell_of q).len o low high registers stack rows table work × Right (tell_of q).place
-      go (line_answer.TheVariants.Define x len next) e t = (runs_define x len next low high registers stack rows table work code e G, (named x len next e).0.named)
-      go (line_answer.TheVariants.Rule len next) e t = (runs_rule len next low high registers stack rows table work code e G, tt)
-      go (line_answer.TheVariants.Refused k) e t = absurd (false≢true t)
+      on_code : (x : Code) (next : ℕ) → a ≡ Ok (record { code = x; next = next })
+          → Runs ls (tell_code x next).len o low high registers stack rows table work × (Right (tell_code x next).place × (b.line < 65536))
+      on_code (form_code.Define x len) next e = (runs_define x len next low high registers stack rows table work code e G, ((named x len next e).0.named, G.line))
+      on_code (form_code.Rule len) next e = (runs_rule len next low high registers stack rows table work code e G, (tt, G.line))
 
-  line_told : (low high registers low' high' registers' : List ℕ) (r : Next) → (tell_of a).on ≡ true
-      → CompilesForm ls b (tell_of a).next (tell_of a).len o low high registers low' high' registers' (IsForm (tell_of a).place) r → CompilesLine text ls b low high registers low' high' registers' r
-  line_told low high registers low' high' registers' r t C = go a refl t C
+      go : (q : Result read_line_of.Line refused_line.Refusal) → a ≡ q → IfOk (tell_of q b.line) (λ v. Runs ls v.len o low high registers stack rows table work × (Right v.place × (b.line < 65536)))
+      go (Ok n) e = on_code n.code n.next e
+      go (Err k) e = tt
+
+  pub told_line : (v : Read) → tell_of a b.line ≡ Ok v → (low high registers low' high' registers' : List ℕ) (r : Result Book Refusal)
+      → CompilesForm ls b v.next v.len o low high registers low' high' registers' (IsForm v.place) r → CompilesLine text ls b low high registers low' high' registers' r
+  told_line v i low high registers low' high' registers' r =
+      IfOk-at_ok (λ v. CompilesForm ls b v.next v.len o low high registers low' high' registers' (IsForm v.place) r → CompilesLine text ls b low high registers low' high' registers' r) i (go a refl)
     where
-      go : (q : LineAnswer) → a ≡ q → (tell_of q).on ≡ true → CompilesForm ls b (tell_of q).next (tell_of q).len o low high registers low' high' registers' (IsForm (tell_of q).place) r
-          → CompilesLine text ls b low high registers low' high' registers' r
-      go (line_answer.TheVariants.Define x len next) e t C = line_defined x len next low high registers low' high' registers' r e C
-      go (line_answer.TheVariants.Rule len next) e t C = line_ruled len next low high registers low' high' registers' r e C
-      go (line_answer.TheVariants.Refused k) e t C = absurd (false≢true t)
+      on_code : (x : Code) (next : ℕ) → a ≡ Ok (record { code = x; next = next })
+          → CompilesForm ls b (tell_code x next).next (tell_code x next).len o low high registers low' high' registers' (IsForm (tell_code x next).place) r → CompilesLine text ls b low high registers low' high' registers' r
+      on_code (form_code.Define x len) next e C = line_defined x len next low high registers low' high' registers' r e C
+      on_code (form_code.Rule len) next e C = line_ruled len next low high registers low' high' registers' r e C
 
-  line_off : (n : Next) (low high registers low' high' registers' : List ℕ) → (tell_of a).on ≡ false → (n.on ≡ false) × (n.number ≡ (tell_of a).number)
-      → CompilesLine text ls b low high registers low' high' registers' n
-  line_off n low high registers low' high' registers' t s = go a refl t s
+      go : (q : Result read_line_of.Line refused_line.Refusal) → a ≡ q → IfOk (tell_of q b.line) (λ v. CompilesForm ls b v.next v.len o low high registers low' high' registers' (IsForm v.place) r → CompilesLine text ls b low high registers low' high' registers' r)
+      go (Ok n) e = λ C. on_code n.code n.next e C
+      go (Err k) e = tt
+
+  pub told_off : (n : Refusal) → tell_of a b.line ≡ Err n → (low high registers low' high' registers' : List ℕ) → CompilesLine text ls b low high registers low' high' registers' (Err n)
+  told_off n i low high registers low' high' registers' =
+      IfErr-at_err (λ n. CompilesLine text ls b low high registers low' high' registers' (Err n)) i (go a refl)
     where
-      go : (q : LineAnswer) → a ≡ q → (tell_of q).on ≡ false → (n.on ≡ false) × (n.number ≡ (tell_of q).number) → CompilesLine text ls b low high registers low' high' registers' n
-      go (line_answer.TheVariants.Define x len next) e t s = absurd (false≢true (sym t))
-      go (line_answer.TheVariants.Rule len next) e t s = absurd (false≢true (sym t))
-      go (line_answer.TheVariants.Refused k) e t s = line_stops k n low high registers low' high' registers' e s
-
-  module _ (v : Told) (e : v ≡ tell_of a) where
-    pub told_runs : (low high registers stack rows table work code : List ℕ) → v.on ≡ true → Going text ls b low high registers stack rows table work code
-        → Runs ls v.len o low high registers stack rows table work × (Right v.place × (b.line < 65536))
-    told_runs low high registers stack rows table work code t G =
-        let (R, P) = runs_told low high registers stack rows table work code (ap (λ v. v.on) (sym e) ∙ t) G in
-        (subst (λ v. Runs ls v.len o low high registers stack rows table work) (sym e) R, (subst (λ v. Right v.place) (sym e) P, G.line))
-
-    pub told_line : (low high registers low' high' registers' : List ℕ) (r : Next) → v.on ≡ true
-        → CompilesForm ls b v.next v.len o low high registers low' high' registers' (IsForm v.place) r → CompilesLine text ls b low high registers low' high' registers' r
-    told_line low high registers low' high' registers' r t C = line_told low high registers low' high' registers' r (ap (λ v. v.on) (sym e) ∙ t)
-        (subst (λ v. CompilesForm ls b v.next v.len o low high registers low' high' registers' (IsForm v.place) r) e C)
-
-    pub told_off : (n : Next) (low high registers low' high' registers' : List ℕ) → v.on ≡ false → (n.on ≡ false) × (n.number ≡ v.number)
-        → CompilesLine text ls b low high registers low' high' registers' n
-    told_off n low high registers low' high' registers' t (s, z) =
-        line_off n low high registers low' high' registers' (ap (λ v. v.on) (sym e) ∙ t) (s, z ∙ ap (λ v. v.number) e)
+      go : (q : Result read_line_of.Line refused_line.Refusal) → a ≡ q → IfErr (tell_of q b.line) (λ n. CompilesLine text ls b low high registers low' high' registers' (Err n))
+      go (Ok n) e = tt
+      go (Err k) e = line_stops k (record { number = refusal_number k; line = b.line }) low high registers low' high' registers' e refl refl

@@ -6,7 +6,7 @@ use Prim.Native.Nat.{ℕ, zero, suc, ◌≤◌, ◌<◌, max}
 use native.Mathlib.Omega.{arith}
 use lib.Dec.{eqb}
 use lib.ListN.{length, get_or, take}
-use lib.Seq.{get_or-take, length-take-le}
+use Rattle.std.specs.Prelude.{Result, Ok, Err}
 use Rattle.automata.specs.Format.{narrow}
 use Rattle.automata.specs.Basics.{nat_test}
 use Rattle.automata.specs.Booleans.{and_left, and_right}
@@ -30,8 +30,8 @@ use Rattle.operations.specs.Apply.{greatest}
 use Rattle.evaluate.specs.Run.{height_of, AllStood, Running}
 use Rattle.evaluate.specs.Evaluated.{Answered, Evaluates, Formed, program_height, line_made, line_answered}
 use Rattle.operands.specs.declared.Layout.{Layout}
-use Rattle.evaluate.specs.declared.run.Evaluated.{Evaluated}
-use Rattle.evaluate.specs.declared.run.Evaluated.TheVariants as evaluated
+use Rattle.evaluate.specs.Steps.{number_of}
+use Rattle.evaluate.specs.declared.run.Failure.{Failure}
 use Rattle.kept.specs.Stored.{InSlot, Registers, Stored}
 use Rattle.line.specs.Line.{Program, Runs}
 
@@ -125,25 +125,24 @@ formed ls ns malformed k = absurd k
 
 -- the limits of 01, and the bytes of a slot
 abbrev pub layout : Layout
-layout = record { sets = 512; states = 120; size = 3362 }
+layout = record { limits = record { sets = 512; states = 120 }; size = 3362 }
 
 module _ (ls : List ℕ) (len : ℕ) (code low high registers : List ℕ) where
   abbrev m : ℕ
   m = length ls
 
   -- the name at a place of the code is known
-  member_at : (env : List (ℕ × Machine)) (F : Form) → Program ls (names_of env) len code F → (i : ℕ) → i < len → is_name (get_or code i 0) ≡ true → member (get_or code i 0) (names_of env) ≡ true
+  member_at : (env : List (ℕ × Machine)) (F : Form) → Program ls (names_of env) len code F → (i : ℕ) → i < length (take len code) → is_name (get_or (take len code) i 0) ≡ true
+      → member (get_or (take len code) i 0) (names_of env) ≡ true
   member_at env F P i h t =
       let A : AllNames (names_of env) (take len code) = subst (AllNames (names_of env)) (sym P.code) (form_names ls (names_of env) F P.held P.known) in
-      let l : length (take len code) ≡ len = length-take-le len code P.fits in
-      let e : get_or (take len code) i 0 ≡ get_or code i 0 = get_or-take len code i 0 h in
-      subst (λ c. member c (names_of env) ≡ true) e (names_at (names_of env) (take len code) A i (omega (arith, l)) (ap is_name e ∙ t))
+      names_at (names_of env) (take len code) A i h t
 
-  all_stood : (env : List (ℕ × Machine)) (kept : Machine) (F : Form) → Stored m env kept low high registers → Program ls (names_of env) len code F → AllStood layout m low high env code len
-  all_stood env kept F S P i h t = (S.names (get_or code i 0) t (member_at env F P i h t)).machine
+  all_stood : (env : List (ℕ × Machine)) (kept : Machine) (F : Form) → Stored m env kept low high registers → Program ls (names_of env) len code F → AllStood layout m low high env (take len code)
+  all_stood env kept F S P i h t = (S.names (get_or (take len code) i 0) t (member_at env F P i h t)).machine
 
   -- what the run asks
-  pub running : {stack rows table work : List ℕ} → Runs ls len code low high registers stack rows table work → Running layout ls low high registers code len stack rows table work
+  pub running : {stack rows table work : List ℕ} → Runs ls len code low high registers stack rows table work → Running layout ls low high registers (take len code) stack rows table work
   running {stack} {rows} {table} {work} R = record {
     shelves = record {
       states = omega arith;
@@ -164,22 +163,21 @@ module _ (ls : List ℕ) (len : ℕ) (code low high registers : List ℕ) where
       classes_long = (omega (arith, R.room.work), omega (arith, R.room.work));
     };
     held = record { held = R.stored.registers.held };
-    whole = R.program.fits;
     height = subst (λ p. highest 0 p ≤ 19) (sym R.program.code) (program_highest 17 R.form (omega arith) R.program.held);
-    names = λ i h t. (R.stored.names (get_or code i 0) t (member_at R.env R.form R.program i h t)).slot;
+    names = λ i h t. (R.stored.names (get_or (take len code) i 0) t (member_at R.env R.form R.program i h t)).slot;
   }
 
   pub one_machine : {stack rows table work : List ℕ} → Runs ls len code low high registers stack rows table work → height_of 0 (take len code) ≡ 1
   one_machine R = ap (height_of 0) R.program.code ∙ program_height 17 R.form (formed ls (names_of R.env) R.form R.program.known) R.program.held
 
-  module _ (registers' stack : List ℕ) (r : Evaluated) (E : Evaluates layout ls low high code len registers registers' stack r) where
+  module _ (registers' stack : List ℕ) (r : Result ℕ Failure) (E : Evaluates layout ls low high (take len code) registers registers' stack r) where
     module _ (env : List (ℕ × Machine)) (kept : Machine) (F : Form) (S : Stored m env kept low high registers) (P : Program ls (names_of env) len code F) where
       answered : Answered layout m stack r (line_made narrow ls env kept F)
       answered = subst (λ K. Answered layout m stack r (line_made narrow ls env K F)) S.registers.book.machine
           (line_answered E 17 F (formed ls (names_of env) F P.known) P.held P.code env (all_stood env kept F S P))
 
       -- the sets that its stages made, with the machine in front of the stack and the book so far in its register; or the number of a refusal
-      pub stages_made : (p : ℕ) → r ≡ evaluated.Made p
+      pub stages_made : (p : ℕ) → r ≡ Ok p
           → (counts : List ℕ) × (M : Machine) × (line_made narrow ls env kept F ≡ made counts M) × (p ≡ most counts) × InSlot m stack M × Registers m kept registers'
       stages_made p e =
           let (counts, g, q, T) = subst (λ r. Answered layout m stack r (line_made narrow ls env kept F)) e answered in (
@@ -194,5 +192,5 @@ module _ (ls : List ℕ) (len : ℕ) (code low high registers : List ℕ) where
             },
           )
 
-      pub stages_stopped : (n : ℕ) → r ≡ evaluated.Refused n → line_made narrow ls env kept F ≡ refused n
+      pub stages_stopped : (n : Failure) → r ≡ Err n → line_made narrow ls env kept F ≡ refused (number_of n)
       stages_stopped n e = subst (λ r. Answered layout m stack r (line_made narrow ls env kept F)) e answered

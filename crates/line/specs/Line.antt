@@ -1,5 +1,5 @@
 -- What the functions on one line promise: the definitions' draft is what the buffers and the book by value hold.
-use Rattle.std.specs.Prelude.{◌≡◌, Bool, true, false, List, ℕ, suc, ◌+◌, ◌*◌, ◌≤◌, ◌<◌, length, take}
+use Rattle.std.specs.Prelude.{◌≡◌, Result, Ok, Err, List, ℕ, suc, ◌+◌, ◌*◌, ◌≤◌, ◌<◌, length, take}
 use Rattle.automata.specs.Format.{narrow}
 use Rattle.automata.specs.Machine.{Machine}
 use Rattle.language.specs.Restriction.{RuleKind}
@@ -13,15 +13,15 @@ use Rattle.compiler.specs.Book.{Draft, on, off, compile_form, compile_line}
 use Rattle.compiler.specs.Outcome.{most}
 use Rattle.reader.specs.Names.{Holds}
 use Rattle.scans.specs.Lines.{line_at, Ends}
-use Rattle.evaluate.specs.declared.run.Evaluated.{Evaluated}
-use Rattle.evaluate.specs.declared.run.Evaluated.TheVariants as evaluated
+use Rattle.evaluate.specs.Steps.{number_of}
+use Rattle.evaluate.specs.declared.run.Failure.{Failure}
 use Rattle.kept.specs.Stored.{Stored, Keeps}
 use Rattle.kept.specs.declared.Place.{Place}
 use Rattle.kept.specs.declared.Place.TheVariants as place
 use Rattle.progress.specs.Progress.{Behind}
 use Rattle.progress.specs.declared.Book.{Book}
-use Rattle.progress.specs.declared.Told.{Told}
-use Rattle.progress.specs.declared.Next.{Next}
+use Rattle.progress.specs.declared.Read.{Read}
+use Rattle.compiler.specs.declared.Refusal.{Refusal}
 
 -- ---- the lent buffers
 
@@ -63,13 +63,13 @@ pub record Drafted (ls : List ℕ) (d : Draft) (b : Book) (low high registers : 
   pub peak : b.peak ≡ most d.counts
 
 -- A form compiled, with the draft d so far: the book goes on with a new draft, whose next line starts at `next`; or it stops.
-abbrev pub FormSays : List ℕ → Draft → Form → Book → ℕ → List ℕ → List ℕ → List ℕ → Bool → Next → Type 0
-FormSays ls d F b next low high registers true r =
-    (d' : Draft) × (compile_form narrow ls d F ≡ on d') × Drafted ls d' r.book low high registers × (r.book.at ≡ next) × (r.book.line ≡ suc b.line)
-FormSays ls d F b next low high registers false r = compile_form narrow ls d F ≡ off r.number
+abbrev pub FormSays : List ℕ → Draft → Form → Book → ℕ → List ℕ → List ℕ → List ℕ → Result Book Refusal → Type 0
+FormSays ls d F b next low high registers (Ok r) =
+    (d' : Draft) × (compile_form narrow ls d F ≡ on d') × Drafted ls d' r low high registers × (r.at ≡ next) × (r.line ≡ suc b.line)
+FormSays ls d F b next low high registers (Err r) = (compile_form narrow ls d F ≡ off r.number) × (r.line ≡ b.line)
 
-pub record CompilesForm (ls : List ℕ) (b : Book) (next len : ℕ) (code low high registers low' high' registers' : List ℕ) (Is : Form → Type 0) (r : Next) : Type 0 where
-  pub says : (d : Draft) (F : Form) → Is F → Drafted ls d b low high registers → Program ls (names_of d.env) len code F → FormSays ls d F b next low' high' registers' r.on r
+pub record CompilesForm (ls : List ℕ) (b : Book) (next len : ℕ) (code low high registers low' high' registers' : List ℕ) (Is : Form → Type 0) (r : Result Book Refusal) : Type 0 where
+  pub says : (d : Draft) (F : Form) → Is F → Drafted ls d b low high registers → Program ls (names_of d.env) len code F → FormSays ls d F b next low' high' registers' r
 
 -- A definition's machine is kept in its name's slot, a rule's is the book so far.
 abbrev pub IsForm : Place → Form → Type 0
@@ -77,10 +77,10 @@ IsForm (place.Name x) F = (e : Expr) × (F ≡ define x e)
 IsForm place.Book F = (kind : RuleKind) × (p : Expr) × (cs : List (Expr × Expr)) × (F ≡ rule kind p cs)
 
 -- The machine in front of the stack is kept at its place, and the book goes on behind the line; or it stops with the number of a refusal.
-abbrev pub Finishes : Told → Book → List ℕ → List ℕ → List ℕ → List ℕ → List ℕ → List ℕ → List ℕ → Next → Evaluated → Type 0
-Finishes t b stack low high registers low' high' registers' r (evaluated.Made p) =
-    Keeps t.place stack low high registers low' high' registers' × ((r.on ≡ true) × Behind t.place b t.next p r.book)
-Finishes t b stack low high registers low' high' registers' r (evaluated.Refused n) = (r.on ≡ false) × (r.number ≡ n)
+abbrev pub Finishes : Read → Book → List ℕ → List ℕ → List ℕ → List ℕ → List ℕ → List ℕ → List ℕ → Result Book Refusal → Result ℕ Failure → Type 0
+Finishes t b stack low high registers low' high' registers' r (Ok p) =
+    Keeps t.place stack low high registers low' high' registers' × (n : Book) × (r ≡ Ok n) × Behind t.place b t.next p n
+Finishes t b stack low high registers low' high' registers' r (Err e) = (n : Refusal) × (r ≡ Err n) × (n.number ≡ number_of e) × (n.line ≡ b.line)
 
 -- ---- lines
 
@@ -94,12 +94,12 @@ pub record Going (text ls : List ℕ) (b : Book) (low high registers stack rows 
   pub long : 2 * length text + 64 ≤ length code
 
 -- The line that starts at the book's place: it goes on behind the line's end with a new draft, or stops.
-abbrev pub LineSays : List ℕ → List ℕ → Draft → Book → ℕ → List ℕ → List ℕ → List ℕ → Bool → Next → Type 0
-LineSays text ls d b end low high registers true r =
-    (d' : Draft) × (compile_line narrow ls d (line_at text b.at end) ≡ on d') × Drafted ls d' r.book low high registers × (r.book.at ≡ suc end) × (r.book.line ≡ suc b.line) × (end < length text)
-LineSays text ls d b end low high registers false r = compile_line narrow ls d (line_at text b.at end) ≡ off r.number
+abbrev pub LineSays : List ℕ → List ℕ → Draft → Book → ℕ → List ℕ → List ℕ → List ℕ → Result Book Refusal → Type 0
+LineSays text ls d b end low high registers (Ok r) =
+    (d' : Draft) × (compile_line narrow ls d (line_at text b.at end) ≡ on d') × Drafted ls d' r low high registers × (r.at ≡ suc end) × (r.line ≡ suc b.line) × (end < length text)
+LineSays text ls d b end low high registers (Err r) = (compile_line narrow ls d (line_at text b.at end) ≡ off r.number) × (r.line ≡ b.line)
 
-pub record CompilesLine (text ls : List ℕ) (b : Book) (low high registers low' high' registers' : List ℕ) (r : Next) : Type 0 where
+pub record CompilesLine (text ls : List ℕ) (b : Book) (low high registers low' high' registers' : List ℕ) (r : Result Book Refusal) : Type 0 where
   pub end : ℕ
   pub ends : Ends text b.at end
-  pub says : (d : Draft) → Drafted ls d b low high registers → LineSays text ls d b end low' high' registers' r.on r
+  pub says : (d : Draft) → Drafted ls d b low high registers → LineSays text ls d b end low' high' registers' r

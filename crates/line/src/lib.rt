@@ -3,15 +3,15 @@
 #![tactic(auto)]
 
 ghost use Rattle.std.specs.Prelude.{◌≤◌, ◌<◌, length};
-ghost use Rattle.lexer.specs.Kinds.{Kinds};
 ghost use Rattle.kept.specs.Stored.{Right, Shelves};
 ghost use Rattle.line.specs.Line.{Finishes, Going, CompilesLine};
 
+use answers::Limits;
+use compiler::Refusal;
 use evaluate::run;
-use evaluate::run::Evaluated;
-use lexer::kinds::KindTable;
+use evaluate::run::Failure;
 use operands::Layout;
-use progress::{Book, Next, Told};
+use progress::{Book, Read};
 use reader::line;
 
 // The most sets that a stage may make, and the most states that a kept machine may have.
@@ -21,32 +21,33 @@ pub const STATES: usize = 120;
 
 // What a line's program made is kept at the line's place, from the front of the stack, and the book goes on; or it stops.
 fn finish(
-    made: Evaluated,
-    read: Told,
+    made: Result<usize, Failure>,
+    read: Read,
     book: Book,
     stack: &[u8],
     low: &mut [u8],
     high: &mut [u8],
     registers: &mut [u8],
-) -> Next
+) -> Result<Book, Refusal>
     requires right { Right read.place × (book.line < 65536) }
     requires in_bounds { 3362 ≤ length stack.now }
     requires shelves { Shelves low.old high.old registers.old }
     ensures { Finishes read book stack.now low.old high.old registers.old low.new high.new registers.new result made }
 {
     match made {
-        Evaluated::Made(peak) => {
-            let place = read.place;
-            kept::keep(place, stack, low, high, registers);
-            progress::goes(place, book, read.next, peak)
+        Ok(peak) => {
+            kept::keep(read.place, stack, low, high, registers);
+            Ok(book.behind(read.place, read.next, peak))
         }
-        Evaluated::Refused(n) => progress::stops(book, n),
+        Err(failure) => Err(Refusal {
+            number: failure.number(),
+            line: book.line,
+        }),
     }
 }
 
 // The line at the book's place.
 pub fn one_line(
-    kinds: &KindTable,
     text: &[u8],
     letters: &[u8],
     book: Book,
@@ -58,26 +59,22 @@ pub fn one_line(
     table: &mut [u16],
     work: &mut [u16],
     code: &mut [u8],
-) -> Next
-    requires kinds { Kinds kinds.now }
+) -> Result<Book, Refusal>
     requires going { Going text.now letters.now book low.old high.old registers.old stack.old rows.old table.old work.old code.old }
     requires at_in_bounds { book.at < length text.now }
     ensures { CompilesLine text.now letters.now book low.old high.old registers.old low.new high.new registers.new result }
 {
-    let at = book.at;
-    let names = book.names;
-    let read = progress::tell(line::read_line(kinds, text, at, letters, names, code));
-    if !read.on {
-        return progress::stops(book, read.number);
-    }
+    let answer = line::read_line(text, book.at, letters, book.names, code);
+    let read = progress::tell(answer, book.line)?;
     let l = Layout {
-        sets: SETS,
-        states: STATES,
+        limits: Limits {
+            sets: SETS,
+            states: STATES,
+        },
         size: kept::SLOT,
     };
     let made = run::run(
-        &code[..],
-        read.len,
+        &code[..read.len],
         l,
         letters,
         &low[..],

@@ -1,3 +1,2 @@
 -- What the loop over the lines promises.
 pub mod Lines
-pub mod Course

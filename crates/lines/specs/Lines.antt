@@ -1,13 +1,12 @@
 -- What the loop over the lines promises: the definitions' draft behind the last line, or the first refusal with its line.
-use Rattle.std.specs.Prelude.{◌≡◌, List, ℕ, ◌≤◌, length}
+use Rattle.std.specs.Prelude.{◌≡◌, List, Result, Ok, Err, ℕ, ◌≤◌, length}
 use Rattle.automata.specs.Format.{narrow}
 use Rattle.compiler.specs.Book.{Draft, done, stopped}
 use Rattle.compiler.specs.Outcome.{most}
 use Rattle.kept.specs.Stored.{InSlot}
 use Rattle.line.specs.Line.{Room}
 use Rattle.compiler.specs.Rest.{lines_from}
-use Rattle.progress.specs.declared.Ended.{Ended}
-use Rattle.progress.specs.declared.Ended.TheVariants.{Done, Refused}
+use Rattle.compiler.specs.declared.Refusal.{Refusal}
 
 -- The lent buffers have their documented lengths.
 pub record Lent (low high registers stack rows table work code : List ℕ) : Type 0 where
@@ -15,9 +14,9 @@ pub record Lent (low high registers stack rows table work code : List ℕ) : Typ
   pub long : 32832 ≤ length code
 
 -- The machine of the book is in its register, with the most sets that a stage made; or the number of a refusal with its line.
-abbrev pub LinesSay : List ℕ → List ℕ → ℕ → List ℕ → Ended → Type 0
-LinesSay text ls next registers (Done p) = (d : Draft) × (lines_from narrow text ls next ≡ done ls d) × (p ≡ most d.counts) × InSlot (length ls) registers d.kept
-LinesSay text ls next registers (Refused n l) = lines_from narrow text ls next ≡ stopped n l
+abbrev pub LinesSay : List ℕ → List ℕ → ℕ → List ℕ → Result ℕ Refusal → Type 0
+LinesSay text ls next registers (Ok p) = (d : Draft) × (lines_from narrow text ls next ≡ done ls d) × (p ≡ most d.counts) × InSlot (length ls) registers d.kept
+LinesSay text ls next registers (Err r) = lines_from narrow text ls next ≡ stopped r.number r.line
 
-pub record CompilesLines (text ls : List ℕ) (next : ℕ) (registers : List ℕ) (r : Ended) : Type 0 where
+pub record CompilesLines (text ls : List ℕ) (next : ℕ) (registers : List ℕ) (r : Result ℕ Refusal) : Type 0 where
   pub says : LinesSay text ls next registers r

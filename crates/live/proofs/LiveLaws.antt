@@ -1,6 +1,6 @@
 -- Live states by sweeps over an array of flags, and that they are those of the machine that the bytes hold.
 use mathlib.Core.Path.{◌≡◌, refl, sym, ap, ◌∙◌}
-use mathlib.Core.Bool.{Bool, true, false, not, false≢true, true≢false}
+use mathlib.Core.Bool.{Bool, true, false, not, ◌||◌, false≢true, true≢false}
 use mathlib.Core.Logic.{◌⊎◌, inl, inr}
 use mathlib.Core.List.{List, [], ◌∷◌}
 use Prim.Native.Nat.{ℕ, suc, ◌+◌, ◌*◌, ◌-◌, ◌≤◌, ◌<◌, zero-le}
@@ -10,15 +10,21 @@ use native.Mathlib.Omega.{arith}
 use lib.ListN.{length, get_or, set, length-set}
 use lib.Seq.{get_or-set_same, get_or-set_other}
 use lib.Dec.{eqb}
-use Rattle.automata.specs.Booleans.{bool_cases, not_true, bool_iff}
+use Rattle.std.specs.List.{list_any}
+use Rattle.std.proofs.Math.Bool.{or-true, or-false}
+use Rattle.automata.specs.Booleans.{bool_cases, bool_iff}
 use Rattle.automata.specs.Live.{Within, live}
-use Rattle.automata.proofs.Live.{live_word, live_within, live_dead, live_only}
-use Rattle.card.specs.Mark.{Mark, mark_by, marks_only, marks_get_or, is_accepting, is_dead, is_live}
+use Rattle.automata.proofs.Live.{live_word, live_within, live_only}
+use Rattle.card.specs.Mark.{Mark, mark_by, marks, marks_only, marks_sound, marks_get_or}
 use Rattle.automata.specs.Basics.{LtCases, lt_cases, nat_test}
 use Rattle.automata.specs.Machine.{Machine, size, automaton}
-use Rattle.moves.specs.Holds.{Table, Holds}
-use Rattle.moves.specs.TableLaws.{move_inside}
-use Rattle.live.specs.LiveSweeps.{flag_after, Leads, Visited, Sweep, FlagsOf, LiveExactly, MarksExactly}
+use Rattle.moves.specs.Holds.{Table, Holds, Row}
+use Rattle.moves.specs.TableLaws.{move_inside, some_move}
+use Rattle.std.specs.List.{list_all, zip}
+use Rattle.std.proofs.lemmas.List.Sums.{AllPass-from_list_all, list_all-from_AllPass}
+use Rattle.std.proofs.lemmas.List.Elements.{All-get_or, All-from_get_or}
+use Rattle.std.proofs.lemmas.Slice.Zip.{get_or-zip, length-zip}
+use Rattle.live.specs.LiveSweeps.{right_mark, flag_after, Visited, Sweep, FlagsOf, LiveExactly, MarksExactly}
 
 eqb_turn : (a b : ℕ) → eqb a b ≡ eqb b a
 eqb_turn a b = bool_iff (eqb a b) (eqb b a) (λ e. let z : a ≡ b = nat_test.sound a b e in rw z (nat_test.whole b)) (λ e. let z : b ≡ a = nat_test.sound b a e in rw z (nat_test.whole a))
@@ -27,63 +33,17 @@ unset : (b : Bool) → not b ≡ true → b ≡ false
 unset true e = absurd (false≢true e)
 unset false e = refl
 
-not_not : (b : Bool) → not b ≡ false → b ≡ true
-not_not true e = refl
-not_not false e = absurd (true≢false e)
-
--- ---- one row
-
--- The first i moves lead to no flag.
-pub record NoneUpto (bs : List ℕ) (at : ℕ) (fs : List Bool) (i : ℕ) : Type 0 where
-  pub none : (j : ℕ) → j < i → flag_after bs at fs j ≡ false
-
-module _ (bs : List ℕ) (at : ℕ) (fs : List Bool) where
-  pub none_start : NoneUpto bs at fs 0
-  none_start = record { none = λ j h. absurd (not-suc-le-zero h) }
-
-  pub none_next : (i : ℕ) → NoneUpto bs at fs i → flag_after bs at fs i ≡ false → NoneUpto bs at fs (i + 1)
-  none_next i u e = record { none = λ j h. go j h (lt_cases j i) }
-    where
-      go : (j : ℕ) → j < i + 1 → LtCases j i → flag_after bs at fs j ≡ false
-      go j h (inl p) = u.none j p.0
-      go j h (inr p) = let z : j ≡ i = omega arith in rw z e
-
-  pub leads_yes : (m i : ℕ) → i < m → flag_after bs at fs i ≡ true → Leads bs at m fs true
-  leads_yes m i h e = record { found = λ _. (i, h, e); none = λ t. absurd (true≢false t) }
-
-  pub leads_no : (m i : ℕ) → m ≤ i → NoneUpto bs at fs i → Leads bs at m fs false
-  leads_no m i h u = record { found = λ t. absurd (false≢true t); none = λ _ j b. u.none j (omega arith) }
-
 -- ---- the accepting states
 
 pub record FlagsUpto (most : ℕ) (ms : List ℕ) (fs : List Bool) (p : ℕ) : Type 0 where
   pub long : length fs ≡ most
   pub flag : (q : ℕ) → q < p → get_or fs q false ≡ eqb (get_or ms q 0) 1
 
-pub flags_start : (most : ℕ) (ms : List ℕ) (fs : List Bool) → length fs ≡ most → FlagsUpto most ms fs 0
-flags_start most ms fs e = record { long = e; flag = λ q h. absurd (not-suc-le-zero h) }
-
-pub flags_next : (most : ℕ) (ms : List ℕ) (fs : List Bool) (p : ℕ) → p < most → FlagsUpto most ms fs p → FlagsUpto most ms (set fs p (eqb (get_or ms p 0) 1)) (p + 1)
-flags_next most ms fs p h u = record { long = length-set fs p (eqb (get_or ms p 0) 1) ∙ u.long; flag = λ q b. go q b (lt_cases q p) }
-  where
-    go : (q : ℕ) → q < p + 1 → LtCases q p → get_or (set fs p (eqb (get_or ms p 0) 1)) q false ≡ eqb (get_or ms q 0) 1
-    go q b (inl x) = get_or-set_other fs p q (eqb (get_or ms p 0) 1) false (λ e. omega arith) ∙ u.flag q x.0
-    go q b (inr x) = let z : q ≡ p = omega arith in rw z (get_or-set_same fs p (eqb (get_or ms p 0) 1) false (omega (arith, u.long)))
-
-pub flags_done : (most : ℕ) (ms : List ℕ) (fs : List Bool) (p : ℕ) → length ms ≤ p → FlagsUpto most ms fs p → FlagsOf most ms fs
-flags_done most ms fs p h u = record { long = u.long; flag = λ q b. u.flag q (omega arith) }
-
 -- ---- one state
 
-module _ (bs : List ℕ) (at m p : ℕ) (fs : List Bool) where
-  pub visit_live : get_or fs p false ≡ true → Visited bs at m p fs fs false
-  visit_live e = record { yes = λ x. absurd (false≢true x); no = λ _. (refl, λ i v _. e) }
-
-  pub visit_new : Leads bs at m fs true → Visited bs at m p fs (set fs p true) true
-  visit_new l = record { yes = λ _. (refl, l.found refl); no = λ x. absurd (true≢false x) }
-
-  pub visit_none : Leads bs at m fs false → Visited bs at m p fs fs false
-  visit_none l = record { yes = λ x. absurd (false≢true x); no = λ _. (refl, λ i v e. absurd (true≢false (sym e ∙ l.none refl i v))) }
+module _ (m : ℕ) (ms bs : List ℕ) (p : ℕ) (row : List ℕ) (r : Row m ms bs p row) (fs : List Bool) where
+  pub visit_new : list_any (λ t. get_or fs t false) row ≡ true → Visited m bs p fs (set fs p true) true
+  visit_new l = record { yes = λ _. (refl, some_move _ _ _ _ _ r (λ t. get_or fs t false) l); no = λ x. absurd (true≢false x) }
 
 -- ---- one sweep
 
@@ -95,13 +55,6 @@ pub record SweepUpto (most m : ℕ) (ms bs : List ℕ) (fs gs : List Bool) (lo h
   pub only : (f : ℕ → Bool) → ((q i : ℕ) → q < length ms → i < m → f (get_or bs (q * m + i) 0) ≡ true → f q ≡ true)
       → ((q : ℕ) → q < length ms → get_or fs q false ≡ true → f q ≡ true) → (q : ℕ) → q < length ms → get_or gs q false ≡ true → f q ≡ true
   pub still : changed ≡ false → (q : ℕ) → q < length ms → get_or gs q false ≡ get_or fs q false
-
-pub sweep_start : (most m : ℕ) (ms bs : List ℕ) (fs : List Bool) (k : ℕ) → length fs ≡ most → SweepUpto most m ms bs fs fs k k false
-sweep_start most m ms bs fs k e = record { long = e; keeps = λ q b e. e; leads = λ q i l h b v e. absurd (omega arith); only = λ f c s q b e. s q b e; still = λ _ q b. refl }
-
-pub sweep_done : (most m : ℕ) (ms bs : List ℕ) (fs gs : List Bool) (lo hi : ℕ) (changed : Bool)
-    → length fs ≡ most → SweepUpto most m ms bs fs gs lo hi changed → lo ≤ 0 → length ms ≤ hi → Sweep m ms bs fs gs changed
-sweep_done most m ms bs fs gs lo hi changed e u l h = record { long = u.long ∙ sym e; keeps = u.keeps; leads = λ q i b v e. u.leads q i (omega arith) (omega arith) b v e; only = u.only; still = u.still }
 
 -- One state more, below the others or above them:
 pub one_below : (p n : ℕ) → 0 < p → (q : ℕ) → p - 1 ≤ q → q < n → ((p ≤ q) × (q < n)) ⊎ (q ≡ p - 1)
@@ -119,13 +72,13 @@ one_above p q l b = go (lt_cases q p)
     go (inr x) = inr (omega arith)
 
 module _ (most m : ℕ) (ms bs : List ℕ) (fs gs hs : List Bool) (t : Table most m ms bs) (lo hi : ℕ) (changed : Bool) (u : SweepUpto most m ms bs fs gs lo hi changed)
-    (p at : ℕ) (e₀ : at ≡ p * m) (b₀ : p < length ms) (lo' hi' : ℕ) (one : (q : ℕ) → lo' ≤ q → q < hi' → ((lo ≤ q) × (q < hi)) ⊎ (q ≡ p)) (r : Bool) (w : Visited bs at m p gs hs r) where
+    (p : ℕ) (b₀ : p < length ms) (lo' hi' : ℕ) (one : (q : ℕ) → lo' ≤ q → q < hi' → ((lo ≤ q) × (q < hi)) ⊎ (q ≡ p)) (r : Bool) (w : Visited m bs p gs hs r) where
   pub sweep_same : r ≡ false → SweepUpto most m ms bs fs hs lo' hi' changed
   sweep_same z = rw (w.no z).0 (record { long = u.long; keeps = u.keeps; leads = λ q i l h b v e. go q i b v e (one q l h); only = u.only; still = u.still })
     where
       go : (q i : ℕ) → q < length ms → i < m → flag_after bs (q * m) fs i ≡ true → ((lo ≤ q) × (q < hi)) ⊎ (q ≡ p) → get_or gs q false ≡ true
       go q i b v e (inl x) = u.leads q i x.0 x.1 b v e
-      go q i b v e (inr x) = let e' : flag_after bs at fs i ≡ true = rw e₀ (rw x at e) in rw x ((w.no z).1 i v (u.keeps (get_or bs (at + i) 0) (rw e₀ (move_inside _ _ _ _ t p i b₀ v)) e'))
+      go q i b v e (inr x) = let e' : flag_after bs (p * m) fs i ≡ true = rw x at e in rw x ((w.no z).1 i v (u.keeps (get_or bs (p * m + i) 0) (move_inside _ _ _ _ t p i b₀ v) e'))
 
   pub sweep_new : r ≡ true → SweepUpto most m ms bs fs hs lo' hi' true
   sweep_new z = rw (w.yes z).0 (record {
@@ -162,8 +115,10 @@ module _ (most m : ℕ) (ms bs : List ℕ) (fs gs hs : List Bool) (t : Table mos
       back f c s q b e (inr x) (inr y) =
           let x' : q ≡ p = omega arith in
           let (i, v, g) = (w.yes z).1 in
-          let g' : flag_after bs (p * m) gs i ≡ true = rw e₀ at g in
-          rw x' (c p i b₀ v (u.only f c s (get_or bs (p * m + i) 0) (move_inside _ _ _ _ t p i b₀ v) g'))
+          rw x' (c p i b₀ v (u.only f c s (get_or bs (p * m + i) 0) (move_inside _ _ _ _ t p i b₀ v) g))
+
+  pub sweep_more : SweepUpto most m ms bs fs hs lo' hi' (changed || r)
+  sweep_more = elim (bool_cases r) [ inl e ↦ rw (e, or-true changed) (sweep_new e) | inr e ↦ rw (e, or-false changed) (sweep_same e) ]
 
 -- ---- all sweeps
 
@@ -234,56 +189,51 @@ live_still most m ms bs fs gs j r u o e₀ = record {
 
 -- ---- the marks bytes
 
--- The marks bytes below p are right.
-pub record MarksUpto (m : ℕ) (ms bs : List ℕ) (p : ℕ) : Type 0 where
-  pub right : (M : Machine) → Holds m ms bs M → (q : ℕ) → q < p → Mark m M q (get_or ms q 0)
+-- By the byte itself and the flag.
+right_sound : (v : ℕ) (f : Bool) → right_mark v f ≡ true → v ≡ mark_by (eqb v 1) f
+right_sound v f e = go (bool_cases (eqb v 1)) (bool_cases f)
+  where
+    go : (eqb v 1 ≡ true) ⊎ (eqb v 1 ≡ false) → (f ≡ true) ⊎ (f ≡ false) → v ≡ mark_by (eqb v 1) f
+    go (inl a) y = rw a (nat_test.sound v 1 a)
+    go (inr a) (inl y) = rw (a, y) (nat_test.sound v 0 (rw (a, y) at e))
+    go (inr a) (inr y) = rw (a, y) (nat_test.sound v 2 (rw (a, y) at e))
 
-pub marks_start : (m : ℕ) (ms bs : List ℕ) → MarksUpto m ms bs 0
-marks_start m ms bs = record { right = λ M h q b. absurd (not-suc-le-zero b) }
+right_whole : (v : ℕ) (a f : Bool) → v ≡ mark_by a f → right_mark v f ≡ true
+right_whole v true f e = rw e refl
+right_whole v false true e = rw e refl
+right_whole v false false e = rw e refl
 
-pub marks_done : (m : ℕ) (ms bs : List ℕ) (p : ℕ) → length ms ≤ p → MarksUpto m ms bs p → MarksExactly m ms bs true
-marks_done m ms bs p l u = record { exact = λ M h. (λ _ q b. u.right M h q (omega arith), λ _. refl) }
+-- Each marks byte beside its flag is right just when each is its state's.
+module _ (m : ℕ) (ms bs : List ℕ) (fs : List Bool) (l : length fs ≡ 120) (t : Table 120 m ms bs) (x : LiveExactly m ms bs fs) where
+  module _ (p : ℕ) (b : p < length ms) where
+    pair : get_or (zip ms fs) p (0, false) ≡ (get_or ms p 0, get_or fs p false)
+    pair = get_or-zip ms fs p (0, false) b (omega (arith, t.states_most))
 
-module _ (m : ℕ) (ms bs : List ℕ) (fs : List Bool) (x : LiveExactly m ms bs fs) (p : ℕ) (b : p < length ms) where
-  more : MarksUpto m ms bs p → ((M : Machine) → Holds m ms bs M → Mark m M p (get_or ms p 0)) → MarksUpto m ms bs (p + 1)
-  more u f = record { right = λ M h q v. go M h q v (lt_cases q p) }
-    where
-      go : (M : Machine) → Holds m ms bs M → (q : ℕ) → q < p + 1 → LtCases q p → Mark m M q (get_or ms q 0)
-      go M h q v (inl y) = u.right M h q y.0
-      go M h q v (inr y) = let z : q ≡ p = omega arith in rw z (f M h)
+    module _ (M : Machine) (h : Holds m ms bs M) where
+      low_here : p < size M
+      low_here = rw h.states b
 
-  -- by the byte: 1 is an accepting state's,
-  pub marks_accepting : MarksUpto m ms bs p → get_or ms p 0 ≡ 1 → MarksUpto m ms bs (p + 1)
-  marks_accepting u e = more u λ M h. rw e (is_accepting (h.accepting p b ∙ (rw e)))
+      byte_is : get_or (marks m M) p 0 ≡ mark_by ((automaton M).accepting p) (get_or fs p false)
+      byte_is = rw (x.exact M h p b) (marks_get_or m M p low_here)
 
-  rejects : (M : Machine) → Holds m ms bs M → (get_or ms p 0 ≡ 1 → ⊥) → (automaton M).accepting p ≡ false
-  rejects M h d = accepts_flag m ms bs M h p b ∙ not_true (eqb (get_or ms p 0) 1) (λ e. d (nat_test.sound (get_or ms p 0) 1 e))
+      accepts_is : (automaton M).accepting p ≡ eqb (get_or ms p 0) 1
+      accepts_is = h.accepting p b ∙ eqb_turn 1 (get_or ms p 0)
 
-  -- 2 a dead one's,
-  pub marks_dead : MarksUpto m ms bs p → get_or ms p 0 ≡ 2 → get_or fs p false ≡ false → MarksUpto m ms bs (p + 1)
-  marks_dead u e f = more u λ M h. rw e (is_dead (live_dead m M h.formed p (low m ms bs M h p b) (sym (x.exact M h p b) ∙ f)))
+      sound : right_mark (get_or ms p 0) (get_or fs p false) ≡ true → Mark m M p (get_or ms p 0)
+      sound o =
+          let e : get_or ms p 0 ≡ get_or (marks m M) p 0 = right_sound _ _ o ∙ sym (ap (λ a. mark_by a (get_or fs p false)) accepts_is) ∙ sym byte_is in
+          rw e (marks_sound m M h.formed p low_here)
 
-  -- 0 another's.
-  pub marks_live : MarksUpto m ms bs p → get_or ms p 0 ≡ 0 → not (get_or fs p false) ≡ false → MarksUpto m ms bs (p + 1)
-  marks_live u e f = more u λ M h.
-      let (w, o, l, t) = live_within m M h.formed p (low m ms bs M h p b) (sym (x.exact M h p b) ∙ not_not (get_or fs p false) f) in
-      rw e (is_live (rejects M h (λ z. omega arith)) w o t)
+      whole : Mark m M p (get_or ms p 0) → right_mark (get_or ms p 0) (get_or fs p false) ≡ true
+      whole k = right_whole _ _ _ (marks_only m M h.formed p low_here _ k ∙ byte_is)
 
-  wrong : ((M : Machine) → Holds m ms bs M → Mark m M p (get_or ms p 0) → ⊥) → MarksExactly m ms bs false
-  wrong f = record { exact = λ M h. (λ e. absurd (false≢true e), λ a. absurd (f M h (a p b))) }
+  long : length (zip ms fs) ≡ length ms
+  long = omega (arith, length-zip ms fs, t.states_most)
 
-  byte_is : (M : Machine) → Holds m ms bs M → Mark m M p (get_or ms p 0) → get_or ms p 0 ≡ mark_by ((automaton M).accepting p) (get_or fs p false)
-  byte_is M h a = marks_only m M h.formed p (low m ms bs M h p b) (get_or ms p 0) a ∙ marks_get_or m M p (low m ms bs M h p b) ∙ ap (mark_by ((automaton M).accepting p)) (sym (x.exact M h p b))
-
-  pub not_dead : get_or ms p 0 ≡ 2 → get_or fs p false ≡ true → MarksExactly m ms bs false
-  not_dead e f = wrong λ M h a. let y : get_or ms p 0 ≡ 0 = rw (rejects M h (λ z. omega arith), f) at (byte_is M h a) in omega arith
-
-  pub not_live : get_or ms p 0 ≡ 0 → not (get_or fs p false) ≡ true → MarksExactly m ms bs false
-  not_live e f = wrong λ M h a. let y : get_or ms p 0 ≡ 2 = rw (rejects M h (λ z. omega arith), unset (get_or fs p false) f) at (byte_is M h a) in omega arith
-
-  pub no_mark : (get_or ms p 0 ≡ 0 → ⊥) → (get_or ms p 0 ≡ 1 → ⊥) → (get_or ms p 0 ≡ 2 → ⊥) → MarksExactly m ms bs false
-  no_mark d₀ d₁ d₂ = wrong λ M h a. go (bool_cases (get_or fs p false)) (rw (rejects M h d₁) at (byte_is M h a))
-    where
-      go : (get_or fs p false ≡ true) ⊎ (get_or fs p false ≡ false) → get_or ms p 0 ≡ mark_by false (get_or fs p false) → ⊥
-      go (inl f) e = d₀ (rw f at e)
-      go (inr f) e = d₂ (rw f at e)
+  pub marks_exact : (r : Bool) → r ≡ list_all (λ y. right_mark y.0 y.1) (zip ms fs) → MarksExactly m ms bs r
+  marks_exact r e = record {
+    exact = λ M h. (
+      λ o p b. sound p b M h (rw (pair p b) at (All-get_or (λ y. right_mark y.0 y.1 ≡ true) (zip ms fs) p (0, false) (rw (← long) at b) (AllPass-from_list_all _ (zip ms fs) (sym e ∙ o)))),
+      λ a. e ∙ list_all-from_AllPass (λ y. right_mark y.0 y.1) (zip ms fs) (All-from_get_or (λ y. right_mark y.0 y.1 ≡ true) (zip ms fs) (0, false) (λ i b. let b' : i < length ms = rw long at b in rw (pair i b') (whole i b' M h (a i b')))),
+    );
+  }

@@ -1,5 +1,5 @@
 -- Live states by sweeps over an array of flags: what one row, one state, one sweep and all sweeps say.
-use Rattle.std.specs.Prelude.{◌≡◌, Bool, true, false, ◌↔◌, List, ℕ, ◌+◌, ◌*◌, ◌<◌, length, get_or, set, eqb}
+use Rattle.std.specs.Prelude.{◌≡◌, Bool, true, false, ◌↔◌, List, ℕ, ◌+◌, ◌*◌, ◌<◌, length, get_or, set, eqb, ◌||◌, if◌then◌else◌}
 use Rattle.automata.specs.Machine.{Machine}
 use Rattle.automata.specs.Live.{live}
 use Rattle.card.specs.Mark.{Mark}
@@ -9,15 +9,10 @@ use Rattle.moves.specs.Holds.{Holds}
 abbrev pub flag_after : List ℕ → ℕ → List Bool → ℕ → Bool
 flag_after bs at fs i = get_or fs (get_or bs (at + i) 0) false
 
--- Whether one of the m moves of the row leads to a flag that is set.
-pub record Leads (bs : List ℕ) (at m : ℕ) (fs : List Bool) (r : Bool) : Type 0 where
-  pub found : r ≡ true → (i : ℕ) × (i < m) × (flag_after bs at fs i ≡ true)
-  pub none : r ≡ false → (i : ℕ) → i < m → flag_after bs at fs i ≡ false
-
 -- State p became live by a move to a live state; or all stays, and where a move leads to a live state it is live already.
-pub record Visited (bs : List ℕ) (at m p : ℕ) (fs gs : List Bool) (r : Bool) : Type 0 where
-  pub yes : r ≡ true → (gs ≡ set fs p true) × ((i : ℕ) × (i < m) × (flag_after bs at fs i ≡ true))
-  pub no : r ≡ false → (gs ≡ fs) × ((i : ℕ) → i < m → flag_after bs at fs i ≡ true → get_or fs p false ≡ true)
+pub record Visited (m : ℕ) (bs : List ℕ) (p : ℕ) (fs gs : List Bool) (r : Bool) : Type 0 where
+  pub yes : r ≡ true → (gs ≡ set fs p true) × ((i : ℕ) × (i < m) × (flag_after bs (p * m) fs i ≡ true))
+  pub no : r ≡ false → (gs ≡ fs) × ((i : ℕ) → i < m → flag_after bs (p * m) fs i ≡ true → get_or fs p false ≡ true)
 
 -- One sweep takes the flags fs to gs: none is cleared; a state whose move leads to a flag of fs has its flag; every set of states that has those of
 -- fs and, with a state, all that move to it, has those of gs; and where r is false nothing changed.
@@ -37,6 +32,10 @@ pub record FlagsOf (most : ℕ) (ms : List ℕ) (fs : List Bool) : Type 0 where
 -- The flags are those of the live states of every machine that the bytes hold.
 pub record LiveExactly (m : ℕ) (ms bs : List ℕ) (fs : List Bool) : Type 0 where
   pub exact : (M : Machine) → Holds m ms bs M → (p : ℕ) → p < length ms → get_or fs p false ≡ get_or (live m M) p false
+
+-- A marks byte beside whether its state lives: 1, or 0 for a live state and 2 for a dead one.
+abbrev pub right_mark : ℕ → Bool → Bool
+right_mark mark lives = eqb mark 1 || eqb mark (if lives then 0 else 2)
 
 -- The answer r is exact for every machine that the bytes hold: each marks byte is its state's.
 pub record MarksExactly (m : ℕ) (ms bs : List ℕ) (r : Bool) : Type 0 where

@@ -1,16 +1,14 @@
 -- The load test of a card from its parts: its letters, its moves, and the machine that its bytes hold.
 use mathlib.Core.Path.{◌≡◌, refl, sym, ap, subst, ◌∙◌}
 use mathlib.Core.Bool.{Bool, true, false, not, true≢false, false≢true}
-use mathlib.Core.Logic.{inl, inr}
-use mathlib.Core.List.{List, ◌∷◌}
-use Prim.Native.Nat.{ℕ, ◌+◌, ◌*◌, ◌/◌, ◌%◌, ◌≤◌, ◌<◌}
+use mathlib.Core.Logic.{◌⊎◌, inl, inr, ◌↔◌}
+use mathlib.Core.List.{List}
+use Prim.Native.Nat.{ℕ, zero, suc, ◌+◌, ◌*◌, ◌/◌, ◌%◌, ◌≤◌, ◌<◌}
 use native.Mathlib.Nat.{not-suc-le-zero}
 use native.Mathlib.Numerals.{add-one}
 use native.Mathlib.Omega.{arith}
-use lib.ListN.{length, get_or, drop, drop_of_length-le}
-use lib.Seq.{drop-cons}
-use borrow.Author.Tests.{lt-ltb, le-ltb}
-use Rattle.automata.specs.Booleans.{not_true}
+use lib.ListN.{length, get_or}
+use Rattle.automata.specs.Booleans.{bool_cases, not_true}
 use Rattle.automata.specs.Basics.{LtCases, lt_cases}
 use Rattle.automata.specs.Decide.{unless, contradict}
 use Rattle.automata.specs.Format.{Format, narrow}
@@ -20,7 +18,7 @@ use Rattle.automata.specs.ReducedTest.{reduced_test}
 use Rattle.card.specs.Layout.{letter_count, state_count, mark_at, letters_of, marks_of, moves_of, machine_of, Contents}
 use Rattle.card.proofs.LayoutLaws.{contents_whole}
 use Rattle.card.specs.Mark.{Mark}
-use Rattle.card.specs.Alphabet.{Alphabet, rising_from, alphabet_test}
+use Rattle.card.specs.Alphabet.{Alphabet, alphabet_test}
 use Rattle.card.proofs.Alphabet.{alphabet_sound, alphabet_whole}
 use Rattle.fields.specs.Counts.{Counted}
 use Rattle.card.specs.Load.{load_test, CardInside, CardMarked, CardNumbered, CardReduced, marks_test, bad_contents, bad_alphabet, transition_out_of_range, not_numbered, loaded}
@@ -28,6 +26,9 @@ use Rattle.card.specs.Answer.{holds, rejected, load, load_holds, load_rejected}
 use Rattle.card.proofs.LoadLaws.{tested_only, inside_true, marks_hold, marks_true, reduced_holds}
 use Rattle.fields.specs.CardTable.{Cell, cell_of, cells, cell, states_many, mark_at_lem, card_holds, card_table}
 use Rattle.moves.specs.Holds.{Table, Holds}
+use Rattle.loading.specs.declared.Fault.{Fault}
+use Rattle.loading.specs.declared.Fault.TheVariants.{BadContents, BadAlphabet, TransitionOutOfRange, NotNumbered, WrongMarks, EquivalentStates}
+use Rattle.loading.specs.Faults.{fault_number}
 use Rattle.loading.specs.Inside.{InsideExactly}
 use Rattle.loading.specs.Rows.{NumberedExactly}
 use Rattle.live.specs.LiveSweeps.{MarksExactly}
@@ -35,47 +36,28 @@ use Rattle.partition.specs.Classes.{ReducedExactly}
 
 -- ---- letters
 
-module _ (ls : List ℕ) (lo i : ℕ) (h : i < length ls) where
-  front : drop i ls ≡ get_or ls i 0 ∷ drop (i + 1) ls
-  front = rw (add-one i) (drop-cons ls i 0 h)
-
-  pub rising_low : get_or ls i 0 ≤ lo → rising_from lo (drop i ls) ≡ false
-  rising_low e = rw (front, le-ltb lo (get_or ls i 0) e)
-
-  pub rising_past : lo < get_or ls i 0 → 122 < get_or ls i 0 → rising_from lo (drop i ls) ≡ false
-  rising_past e f = let z : 123 ≤ get_or ls i 0 = omega arith in rw (front, lt-ltb lo (get_or ls i 0) e, le-ltb (get_or ls i 0) 123 z)
-
-  pub rising_on : lo < get_or ls i 0 → get_or ls i 0 ≤ 122 → rising_from (get_or ls i 0) (drop (i + 1) ls) ≡ rising_from lo (drop i ls)
-  rising_on e f = let z : get_or ls i 0 < 123 = omega arith in rw (front, lt-ltb lo (get_or ls i 0) e, lt-ltb (get_or ls i 0) 123 z)
-
-pub rising_end : (ls : List ℕ) (lo i : ℕ) → length ls ≤ i → true ≡ rising_from lo (drop i ls)
-rising_end ls lo i h = rw (drop_of_length-le ls h)
-
-pub alphabet_from : (ls : List ℕ) → rising_from 96 ls ≡ alphabet_test ls
-unfolding alphabet_test
-alphabet_from ls = refl
-
--- ---- moves
-
-pub record InsideUpto (n : ℕ) (bs : List ℕ) (q : ℕ) : Type 0 where
-  pub all : (j : ℕ) → j < q → get_or bs j 0 < n
-
-module _ (n : ℕ) (bs : List ℕ) where
-  pub inside_start : InsideUpto n bs 0
-  inside_start = record { all = λ j h. absurd (not-suc-le-zero h) }
-
-  pub inside_next : (q : ℕ) → InsideUpto n bs q → get_or bs q 0 < n → InsideUpto n bs (q + 1)
-  inside_next q u e = record { all = λ j h. go j h (lt_cases j q) }
+module _ (ls : List ℕ) where
+  rising_all : ((i : ℕ) → i + 1 < length ls → get_or ls i 0 < get_or ls (i + 1) 0) → (j i : ℕ) → i < j → j < length ls → get_or ls i 0 < get_or ls j 0
+  rising_all r zero i h b = absurd (not-suc-le-zero h)
+  rising_all r (suc j) i h b = go (lt_cases i j) (λ x. rising_all r j i x (omega arith))
     where
-      go : (j : ℕ) → j < q + 1 → LtCases j q → get_or bs j 0 < n
-      go j h (inl x) = u.all j x.0
-      go j h (inr x) = let z : j ≡ q = omega arith in rw z e
+      here : get_or ls j 0 < get_or ls (suc j) 0
+      here = rw (add-one j) at (r j (omega arith))
 
-  pub inside_yes : (q : ℕ) → InsideUpto n bs q → length bs ≤ q → InsideExactly n bs true
-  inside_yes q u l = record { all = λ _ j h. u.all j (omega arith); past = λ e. absurd (true≢false e) }
+      go : LtCases i j → (i < j → get_or ls i 0 < get_or ls j 0) → get_or ls i 0 < get_or ls (suc j) 0
+      go (inl x) f = omega (arith, here, f x.0)
+      go (inr x) f = let z : i ≡ j = omega arith in rw z here
 
-  pub inside_no : (q : ℕ) → q < length bs → n ≤ get_or bs q 0 → InsideExactly n bs false
-  inside_no q h e = record { all = λ x. absurd (false≢true x); past = λ _. (q, h, e) }
+  module _ (a : Bool) (u : (a ≡ true) ↔ ((i : ℕ) → i + 1 < length ls → get_or ls i 0 < get_or ls (i + 1) 0)) where
+    pub alphabet_falls : a ≡ false → a ≡ alphabet_test ls
+    alphabet_falls e = e ∙ sym (not_true (alphabet_test ls) (λ t. contradict (u.1 (λ i h. (alphabet_sound ls t).rising i (i + 1) (omega arith) h)) e))
+
+    pub alphabet_rises : a ≡ true → (b : Bool) → (b ≡ true) ↔ ((i : ℕ) → i < length ls → (97 ≤ get_or ls i 0) × (get_or ls i 0 ≤ 122)) → b ≡ alphabet_test ls
+    alphabet_rises e b v = go (bool_cases b)
+      where
+        go : (b ≡ true) ⊎ (b ≡ false) → b ≡ alphabet_test ls
+        go (inl f) = f ∙ sym (alphabet_whole ls (record { letter = v.0 f; rising = λ i j h k. rising_all (u.0 e) j i h k }))
+        go (inr f) = f ∙ sym (not_true (alphabet_test ls) (λ t. contradict (v.1 (alphabet_sound ls t).letter) f))
 
 -- ---- 25 and 26, where one byte or one pair need not be shown
 
@@ -114,19 +96,19 @@ isset false e = absurd (true≢false e)
 
 module _ (c : List ℕ) (m n : ℕ) (r : Counted narrow c m n) where
   module _ (ls : List ℕ) (b : Bool) (e : ls ≡ letters_of narrow c) (t : b ≡ alphabet_test ls) where
-    pub load_22 : not b ≡ true → 22 ≡ load_test narrow c
-    load_22 x = sym (tested_only narrow c 22 (bad_alphabet r.right (λ a. contradict (alphabet_whole (letters_of narrow c) a) (rw (← e) (sym t ∙ unset b x)))))
+    pub load_22 : not b ≡ true → load_test narrow c ≡ 22
+    load_22 x = tested_only narrow c 22 (bad_alphabet r.right (λ a. contradict (alphabet_whole (letters_of narrow c) a) (rw (← e) (sym t ∙ unset b x))))
 
     pub alphabet_right : not b ≡ false → Alphabet (letters_of narrow c)
     alphabet_right x = alphabet_sound (letters_of narrow c) (rw (← e) (sym t ∙ isset b x))
 
   module _ (a : Alphabet (letters_of narrow c)) (bs : List ℕ) (e : bs ≡ moves_of narrow c) where
-    pub load_23 : (b : Bool) → InsideExactly n bs b → not b ≡ true → 23 ≡ load_test narrow c
+    pub load_23 : (b : Bool) → InsideExactly n bs b → not b ≡ true → load_test narrow c ≡ 23
     load_23 b t x =
         let (q, h, v) = t.past (unset b x) in
         let k : Cell (state_count narrow c) (letter_count narrow c) q = cell_of (state_count narrow c) (letter_count narrow c) q (rw (cells c bs e) at h) in
-        sym (tested_only narrow c 23 (transition_out_of_range r.right a (q / letter_count narrow c) (q % letter_count narrow c) k.row k.column
-        (rw (← cell c bs e (q / letter_count narrow c) (q % letter_count narrow c) k.row k.column, k.place, r.states) v)))
+        tested_only narrow c 23 (transition_out_of_range r.right a (q / letter_count narrow c) (q % letter_count narrow c) k.row k.column
+        (rw (← cell c bs e (q / letter_count narrow c) (q % letter_count narrow c) k.row k.column, k.place, r.states) v))
 
     pub inside_right : (b : Bool) → InsideExactly n bs b → not b ≡ false → CardInside narrow c
     inside_right b t x p i h v = rw (← cell c bs e p i h v, r.states) (t.all (isset b x) (p * letter_count narrow c + i) (rw (cells c bs e) (cell_below (state_count narrow c) (letter_count narrow c) p i h v)))
@@ -148,9 +130,9 @@ module _ (c : List ℕ) (m n : ℕ) (r : Counted narrow c m n) where
       letters_most = rw r.letters at r.right.letters_most
 
       module _ (b : Bool) (t : NumberedExactly m ms bs b) where
-        pub load_24 : not b ≡ true → 24 ≡ load_test narrow c
-        load_24 x = sym (tested_only narrow c 24 (not_numbered r.right a i λ y.
-            contradict ((t.exact (machine_of narrow c) holds_card).1 (rw r.letters at y)) (unset b x)))
+        pub load_24 : not b ≡ true → load_test narrow c ≡ 24
+        load_24 x = tested_only narrow c 24 (not_numbered r.right a i λ y.
+            contradict ((t.exact (machine_of narrow c) holds_card).1 (rw r.letters at y)) (unset b x))
 
         pub numbered_right : not b ≡ false → CardNumbered narrow c
         numbered_right x = rw r.letters ((t.exact (machine_of narrow c) holds_card).0 (isset b x))
@@ -160,17 +142,17 @@ module _ (c : List ℕ) (m n : ℕ) (r : Counted narrow c m n) where
         marked_right x p h = subst (λ k. Mark k (machine_of narrow c) p (mark_at narrow c p)) (sym r.letters) (subst (λ v. Mark m (machine_of narrow c) p v) (mark p h) ((t.exact (machine_of narrow c) holds_card).0 (isset b x) p (rw states h)))
 
         -- 25 by the definition of the test
-        pub load_25 : not b ≡ true → 25 ≡ load_test narrow c
-        load_25 x = sym (tested_marks narrow c r.right a i k λ y.
-            contradict ((t.exact (machine_of narrow c) holds_card).1 λ p h. let h' : p < state_count narrow c = rw states at h in rw (mark p h', ← r.letters) (y p h')) (unset b x))
+        pub load_25 : not b ≡ true → load_test narrow c ≡ 25
+        load_25 x = tested_marks narrow c r.right a i k λ y.
+            contradict ((t.exact (machine_of narrow c) holds_card).1 λ p h. let h' : p < state_count narrow c = rw states at h in rw (mark p h', ← r.letters) (y p h')) (unset b x)
 
         module _ (l : CardMarked narrow c) (d : Bool) (v : ReducedExactly m ms bs d) where
-          pub load_26 : not d ≡ true → 26 ≡ load_test narrow c
-          load_26 x = sym (tested_reduced narrow c r.right a i k l λ y.
-              contradict ((v.exact (machine_of narrow c) holds_card).1 (rw r.letters at y)) (unset d x))
+          pub load_26 : not d ≡ true → load_test narrow c ≡ 26
+          load_26 x = tested_reduced narrow c r.right a i k l λ y.
+              contradict ((v.exact (machine_of narrow c) holds_card).1 (rw r.letters at y)) (unset d x)
 
-          pub load_0 : not d ≡ false → 0 ≡ load_test narrow c
-          load_0 x = sym (tested_only narrow c 0 (loaded r.right a i k l (rw r.letters ((v.exact (machine_of narrow c) holds_card).0 (isset d x)))))
+          pub load_0 : not d ≡ false → load_test narrow c ≡ 0
+          load_0 x = tested_only narrow c 0 (loaded r.right a i k l (rw r.letters ((v.exact (machine_of narrow c) holds_card).0 (isset d x))))
 
 -- ---- the answer
 
@@ -179,8 +161,16 @@ loading_contents c f =
     let e : load_test narrow c ≡ 21 = tested_only narrow c 21 (bad_contents f) in
     sym (load_rejected narrow c (λ z. omega arith) ∙ ap rejected e)
 
-pub loading_accepted : (c : List ℕ) (m n r : ℕ) → Counted narrow c m n → r ≡ load_test narrow c → r ≡ 0 → holds m n ≡ load narrow c
-loading_accepted c m n r k e z = sym (load_holds narrow c (sym e ∙ z) ∙ (λ t. holds (k.letters t) (k.states t)))
+pub loading_accepted : (c : List ℕ) (m n : ℕ) → Counted narrow c m n → load_test narrow c ≡ 0 → holds m n ≡ load narrow c
+loading_accepted c m n k e = sym (load_holds narrow c e ∙ (λ t. holds (k.letters t) (k.states t)))
 
-pub loading_refused : (c : List ℕ) (r : ℕ) → r ≡ load_test narrow c → (r ≡ 0 → ⊥) → rejected r ≡ load narrow c
-loading_refused c r e d = sym (load_rejected narrow c (λ z. d (e ∙ z)) ∙ ap rejected (sym e))
+pub fault_some : (f : Fault) → fault_number f ≡ 0 → ⊥
+fault_some BadContents e = omega arith
+fault_some BadAlphabet e = omega arith
+fault_some TransitionOutOfRange e = omega arith
+fault_some NotNumbered e = omega arith
+fault_some WrongMarks e = omega arith
+fault_some EquivalentStates e = omega arith
+
+pub loading_refused : (c : List ℕ) (f : Fault) → load_test narrow c ≡ fault_number f → rejected (fault_number f) ≡ load narrow c
+loading_refused c f e = sym (load_rejected narrow c (λ z. fault_some f (sym e ∙ z)) ∙ ap rejected e)

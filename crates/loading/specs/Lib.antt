@@ -1,3 +1,4 @@
--- Definitions that the contracts of tests 23 and 24 cite.
+-- Definitions that the contracts of the tests cite.
+pub mod Faults
 pub mod Inside
 pub mod Rows

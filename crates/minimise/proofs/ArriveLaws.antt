@@ -25,15 +25,6 @@ module _ {n most m : ℕ} {w : List ℕ} (R : Roll n most m w) where
 
   -- ---- the search for a number
 
-  pub number_none : (d x : ℕ) → x ≡ get_or w (n + d) 0 → (x < m → get_or w (n + n + x) 0 ≢ d) → NumberOf n m d w m
-  number_none d x e h = record {
-    low = le_refl m;
-    found = λ b. absurd (omega arith);
-    none = λ _ i b y.
-        let z : x ≡ i = e ∙ ap (λ v. get_or w (n + v) 0) (sym y) ∙ R.back i b in
-        h (rw z b) (rw z y);
-  }
-
   pub number_found : (d x y : ℕ) → x < m → y ≡ get_or w (n + n + x) 0 → y ≡ d → NumberOf n m d w x
   number_found d x y h e i = record { low = omega arith; found = λ _. sym e ∙ i; none = λ z. absurd (omega arith) }
 

@@ -1,17 +1,16 @@
 -- Laws of the numbering: the order is the listing of the classes, row by row, and the table that is written is the smallest machine.
 use mathlib.Core.Path.{◌≡◌, refl, sym, ap, ◌∙◌}
+use Rattle.std.specs.Prelude.{Some, None}
 use mathlib.Core.Bool.{Bool, true, false}
 use mathlib.Core.Logic.{◌⊎◌, inl, inr}
 use mathlib.Core.List.{List, [], ◌∷◌}
-use Prim.Native.Nat.{ℕ, zero, suc, ◌+◌, ◌*◌, ◌-◌, ◌≤◌, ◌<◌}
+use Prim.Native.Nat.{ℕ, zero, suc, ◌+◌, ◌*◌, ◌≤◌, ◌<◌}
 use native.Mathlib.Nat.{le_refl, le_trans, mul-le-mul_right}
 use native.Mathlib.Numerals.{add-one}
 use native.Mathlib.Omega.{arith}
 use lib.ListN.{length, get_or, take, drop, set, length-drop, length-set}
 use lib.Seq.{ext_get_or, get_or-set_same, get_or-set_other, take-set-le, drop-set-lt, drop-set-add, take-suc-set}
 use borrow.Author.Tests.{lt-ltb, le-ltb}
-use mir.Syntax.{w64}
-use mir.Val.{Fits}
 use Rattle.automata.specs.Automaton.{Automaton}
 use Rattle.automata.specs.Basics.{LtCases, lt_cases, nat_test, find, find_at, get_or_tab}
 use Rattle.automata.specs.Listing.{Extends, add_to, add_to_extends, turn_cases, turn, listing, listed, listing_extends, listing_stays, find_in}
@@ -20,10 +19,11 @@ use Rattle.automata.specs.Partition.{bit, classes, classes_low, get_d_map}
 use Rattle.automata.specs.Rows.{cell_below}
 use Rattle.automata.specs.Smallest.{quotient, tabulated, tabulated_size, tabulated_formed, smallest, smallest_by, smallest_canonical, smallest_words}
 use Rattle.automata.specs.Table.{flag_of, table_machine, ClosedTable, table_size, table_accepting, table_step, table_formed}
-use Rattle.minimise.specs.declared.Kept.{Kept}
-use Rattle.minimise.specs.declared.Kept.TheVariants.{States, TooMany}
+use Rattle.entries.specs.declared.table.Table.{Table}
+use Rattle.entries.specs.Entries.{machine_of}
+use Rattle.entries.proofs.EntryLaws.{machine_size, machine_accepting, machine_formed}
 use Rattle.minimise.specs.Minimised.{Minimised, Fitting}
-use Rattle.minimise.specs.Number.{ordered, Roll, Goes, Rolling, Upto, Rowed, Markable, Marked, Classified}
+use Rattle.minimise.specs.Number.{ordered, Roll, Goes, Rolling, Upto, Rowed, Marked, Classified}
 use Rattle.minimise.proofs.ArriveLaws.{ordered_length, ordered_at}
 use Rattle.minimise.proofs.RowLaws.{goes_on}
 
@@ -102,116 +102,96 @@ module _ (k : ℕ) (M : Machine) (F : WellFormed k M) where
 
 -- ---- the rows
 
-pub zero_small : 0 < 65536
-zero_small = omega arith
-
 -- The first i rows are written, and the order is the listing after i turns.
-pub record Arranged (base n k most i m : ℕ) (t w s : List ℕ) : Type 0 where
-  pub kept : take n w ≡ classes k (table_machine base n k t)
-  pub order : ordered n m w ≡ listing nat_test (quotient (table_machine base n k t) (classes k (table_machine base n k t))) k i
-  pub roll : Roll n most m w
+pub record Arranged (T : Table) (most i m : ℕ) (w s : List ℕ) : Type 0 where
+  pub kept : take T.states w ≡ classes T.columns (machine_of T)
+  pub order : ordered T.states m w ≡ listing nat_test (quotient (machine_of T) (classes T.columns (machine_of T))) T.columns i
+  pub roll : Roll T.states most m w
   pub turns : i ≤ m
-  pub goes : (j c : ℕ) → j < i → c < k
-      → Goes (quotient (table_machine base n k t) (classes k (table_machine base n k t))) (ordered n m w) (get_or (ordered n m w) j 0) c (get_or s (most + (j * k + c)) 0)
+  pub goes : (j c : ℕ) → j < i → c < T.columns
+      → Goes (quotient (machine_of T) (classes T.columns (machine_of T))) (ordered T.states m w) (get_or (ordered T.states m w) j 0) c (get_or s (most + (j * T.columns + c)) 0)
 
-module _ {base n k most : ℕ} {t w s : List ℕ} (C : Classified base n k most t w s) where
+module _ {T : Table} {most : ℕ} {w s : List ℕ} (C : Classified T most w s) where
   abbrev M : Machine
-  M = table_machine base n k t
+  M = machine_of T
 
   abbrev cls : List ℕ
-  cls = classes k (table_machine base n k t)
+  cls = classes T.columns (machine_of T)
 
-  formed : WellFormed k M
-  formed = table_formed base n k t C.fits.closed
+  formed : WellFormed T.columns M
+  formed = machine_formed T
 
-  -- the class of state 0 has number 0
-  pub order_double : Fits w64 (n + n)
-  order_double = record { fits = omega (arith, C.fits.few) }
-
-  pub order_first : n + n < length w
-  order_first = omega (arith, C.fits.order, C.fits.some)
-
-  pub order_own : (l : ℕ) → l ≡ length w → n < l
-  order_own l e = omega (arith, C.fits.order, C.fits.some)
-
-  pub order_next : {i m : ℕ} {w' s' : List ℕ} → Arranged base n k most i m t w' s' → i < m → Fits w64 (i + 1)
-  order_next A h = record { fits = omega (arith, A.roll.within, C.fits.bytes) }
-
-  pub order_less : {i m : ℕ} {w' s' : List ℕ} → Arranged base n k most i m t w' s' → i < m → most - (i + 1) < most - i
-  order_less A h = omega (arith, A.roll.within)
-
-  pub order_starts : (w₁ w₂ : List ℕ) → w₁ ≡ set w (n + n) 0 → w₂ ≡ set w₁ n 0 → Arranged base n k most 0 1 t w₂ s
+  pub order_starts : (w₁ w₂ : List ℕ) → w₁ ≡ set w (T.states + T.states) 0 → w₂ ≡ set w₁ T.states 0 → Arranged T most 0 1 w₂ s
   unfolding listing
   order_starts w₁ w₂ e₁ e₂ = rw (e₂, e₁) record {
-    kept = take-set-le n W₁ n 0 (le_refl n) ∙ take-set-le n w (n + n) 0 (omega arith) ∙ C.found;
+    kept = take-set-le T.states W₁ T.states 0 (le_refl T.states) ∙ take-set-le T.states w (T.states + T.states) 0 (omega arith) ∙ C.found;
     order = order;
     roll = record {
-      room = omega (arith, C.fits.order, length-set W₁ n 0, length-set w (n + n) 0);
+      room = omega (arith, C.fits.order, length-set W₁ T.states 0, length-set w (T.states + T.states) 0);
       few = C.fits.few;
       bytes = C.fits.bytes;
       within = C.fits.some;
-      below = λ i h. let z : n + n + i ≡ n + n = omega arith in rw (z, first) some;
-      back = λ i h. let z : n + n + i ≡ n + n = omega arith in let y : n + 0 ≡ n = omega arith in rw (z, first, y) (get_or-set_same W₁ n 0 0 (omega (arith, room₁)) ∙ (omega arith));
+      below = λ i h. let z : T.states + T.states + i ≡ T.states + T.states = omega arith in rw (z, first) some;
+      back = λ i h. let z : T.states + T.states + i ≡ T.states + T.states = omega arith in let y : T.states + 0 ≡ T.states = omega arith in rw (z, first, y) (get_or-set_same W₁ T.states 0 0 (omega (arith, room₁)) ∙ (omega arith));
     };
     turns = omega arith;
     goes = λ j c h. absurd (omega arith);
   }
     where
       W₁ : List ℕ
-      W₁ = set w (n + n) 0
+      W₁ = set w (T.states + T.states) 0
 
       W : List ℕ
-      W = set W₁ n 0
+      W = set W₁ T.states 0
 
-      some : 0 < n
-      some = C.fits.closed.some
+      some : 0 < T.states
+      some = T.closed.some
 
-      room₁ : n + n + most ≤ length W₁
-      room₁ = omega (arith, C.fits.order, length-set w (n + n) 0)
+      room₁ : T.states + T.states + most ≤ length W₁
+      room₁ = omega (arith, C.fits.order, length-set w (T.states + T.states) 0)
 
-      first : get_or W (n + n) 0 ≡ 0
-      first = get_or-set_other W₁ n (n + n) 0 0 (omega (arith, some)) ∙ get_or-set_same w (n + n) 0 0 (omega (arith, C.fits.order, C.fits.some))
+      first : get_or W (T.states + T.states) 0 ≡ 0
+      first = get_or-set_other W₁ T.states (T.states + T.states) 0 0 (omega (arith, some)) ∙ get_or-set_same w (T.states + T.states) 0 0 (omega (arith, C.fits.order, C.fits.some))
 
-      order : ordered n 1 W ≡ 0 ∷ []
+      order : ordered T.states 1 W ≡ 0 ∷ []
       order =
-          let z : n + n ≡ n + n + 0 = omega arith in
-          ap (take 1) (drop-set-lt (n + n) W₁ n 0 (omega (arith, some)) ∙ ap (λ x. drop (n + n) (set w x 0)) z ∙ drop-set-add (n + n) w 0 0)
-          ∙ take-suc-set (drop (n + n) w) 0 0 (omega (arith, length-drop (n + n) w, C.fits.order, C.fits.some))
+          let z : T.states + T.states ≡ T.states + T.states + 0 = omega arith in
+          ap (take 1) (drop-set-lt (T.states + T.states) W₁ T.states 0 (omega (arith, some)) ∙ ap (λ x. drop (T.states + T.states) (set w x 0)) z ∙ drop-set-add (T.states + T.states) w 0 0)
+          ∙ take-suc-set (drop (T.states + T.states) w) 0 0 (omega (arith, length-drop (T.states + T.states) w, C.fits.order, C.fits.some))
 
-  module _ (i m : ℕ) (v u : List ℕ) (A : Arranged base n k most i m t v u) (len : length u ≡ length s) where
-    pub order_rolling : i < m → Rolling base n k most i m t v u
+  module _ (i m : ℕ) (v u : List ℕ) (A : Arranged T most i m v u) (len : length u ≡ length s) where
+    pub order_rolling : i < m → Rolling T most i m v u
     order_rolling h = record {
-      closed = C.fits.closed;
       roll = A.roll;
       inside = λ q b. rw A.kept (le_trans (classes_low' q b) b);
       row = h;
       slot = rw len C.fits.slot;
     }
       where
-        classes_low' : (q : ℕ) → q < n → suc (get_or cls q zero) ≤ suc q
-        classes_low' q b = omega (arith, classes_low k M formed q (rw (table_size base n k t C.fits.closed) b))
+        classes_low' : (q : ℕ) → q < T.states → suc (get_or cls q zero) ≤ suc q
+        classes_low' q b = omega (arith, classes_low T.columns M formed q (rw (machine_size T) b))
 
     -- the next turn of the listing
-    listing_next : i < m → listing nat_test (quotient M cls) k (suc i) ≡ add_to nat_test (quotient M cls) k (ordered n m v) (get_or (ordered n m v) i 0)
+    listing_next : i < m → listing nat_test (quotient M cls) T.columns (suc i) ≡ add_to nat_test (quotient M cls) T.columns (ordered T.states m v) (get_or (ordered T.states m v) i 0)
     unfolding listing
-    listing_next h = go (turn_cases nat_test (quotient M cls) k i (listing nat_test (quotient M cls) k i))
+    listing_next h = go (turn_cases nat_test (quotient M cls) T.columns i (listing nat_test (quotient M cls) T.columns i))
       where
         l : List ℕ
-        l = listing nat_test (quotient M cls) k i
+        l = listing nat_test (quotient M cls) T.columns i
 
-        go : ((i < length l) × (turn nat_test (quotient M cls) k i l ≡ add_to nat_test (quotient M cls) k l (get_or l i zero))) ⊎ ((length l ≤ i) × (turn nat_test (quotient M cls) k i l ≡ l))
-            → turn nat_test (quotient M cls) k i l ≡ add_to nat_test (quotient M cls) k (ordered n m v) (get_or (ordered n m v) i 0)
+        go : ((i < length l) × (turn nat_test (quotient M cls) T.columns i l ≡ add_to nat_test (quotient M cls) T.columns l (get_or l i zero))) ⊎ ((length l ≤ i) × (turn nat_test (quotient M cls) T.columns i l ≡ l))
+            → turn nat_test (quotient M cls) T.columns i l ≡ add_to nat_test (quotient M cls) T.columns (ordered T.states m v) (get_or (ordered T.states m v) i 0)
         go (inl x) = rw A.order x.1
         go (inr x) = absurd (omega (arith, x.0, ordered_length A.roll, ap length A.order))
 
-    pub order_full : (v' u' : List ℕ) (r : Kept) → i < m → Rowed base n k most i m t v u v' u' r → r ≡ TooMany → most < size (smallest k M)
-    order_full v' u' r h R e = smallest_more k M formed (suc i) most (rw (listing_next h, ← A.kept) (rw e at R))
+    pub order_full : (v' u' : List ℕ) → i < m → Rowed T most i m v u v' u' None → most < size (smallest T.columns M)
+    order_full v' u' h R = smallest_more T.columns M formed (suc i) most (rw (listing_next h, ← A.kept) R)
 
-    module _ (m' : ℕ) (v' u' : List ℕ) (r : Kept) (h : i < m) (R : Rowed base n k most i m t v u v' u' r) (e : r ≡ States m') where
-      upto : Upto (quotient M cls) n k most i m v u k m' v' u'
-      upto = rw (e, A.kept) at R
+    module _ (m' : ℕ) (v' u' : List ℕ) (h : i < m) (R : Rowed T most i m v u v' u' (Some m')) where
+      upto : Upto (quotient M cls) T.states T.columns most i m v u T.columns m' v' u'
+      upto = rw A.kept at R
 
-      pub order_turns : Arranged base n k most (i + 1) m' t v' u'
+      pub order_turns : Arranged T most (i + 1) m' v' u'
       order_turns = rw add-one record {
         kept = upto.kept ∙ A.kept;
         order = upto.order ∙ sym (listing_next h);
@@ -220,49 +200,41 @@ module _ {base n k most : ℕ} {t w s : List ℕ} (C : Classified base n k most 
         goes = λ j c b y. goes j c y (lt_cases j i) (omega arith);
       }
         where
-          grown : Extends 0 (ordered n m v) (ordered n m' v')
-          grown = rw upto.order (add_to_extends nat_test (quotient M cls) k (ordered n m v) (get_or (ordered n m v) i 0))
+          grown : Extends 0 (ordered T.states m v) (ordered T.states m' v')
+          grown = rw upto.order (add_to_extends nat_test (quotient M cls) T.columns (ordered T.states m v) (get_or (ordered T.states m v) i 0))
 
-          same : (j : ℕ) → j < m → get_or (ordered n m' v') j 0 ≡ get_or (ordered n m v) j 0
+          same : (j : ℕ) → j < m → get_or (ordered T.states m' v') j 0 ≡ get_or (ordered T.states m v) j 0
           same j b = grown.keeps j (rw (ordered_length A.roll) b)
 
-          goes : (j c : ℕ) → c < k → LtCases j i → j ≤ i → Goes (quotient M cls) (ordered n m' v') (get_or (ordered n m' v') j 0) c (get_or u' (most + (j * k + c)) 0)
+          goes : (j c : ℕ) → c < T.columns → LtCases j i → j ≤ i → Goes (quotient M cls) (ordered T.states m' v') (get_or (ordered T.states m' v') j 0) c (get_or u' (most + (j * T.columns + c)) 0)
           goes j c b (inl x) y =
-              rw (same j (omega (arith, x.0)), upto.cells (j * k + c) (cell_below i k j c x.0 b))
-              (goes_on (quotient M cls) (ordered n m v) (ordered n m' v') (get_or (ordered n m v) j 0) c (get_or u (most + (j * k + c)) 0) grown (A.goes j c x.0 b))
+              rw (same j (omega (arith, x.0)), upto.cells (j * T.columns + c) (cell_below i T.columns j c x.0 b))
+              (goes_on (quotient M cls) (ordered T.states m v) (ordered T.states m' v') (get_or (ordered T.states m v) j 0) c (get_or u (most + (j * T.columns + c)) 0) grown (A.goes j c x.0 b))
           goes j c b (inr x) y = let z : j ≡ i = omega arith in rw (z, same i h) (upto.goes c b)
-
-    pub order_markable : Markable n m t v u
-    order_markable = record {
-      states = omega (arith, C.fits.closed.flags, C.fits.closed.long);
-      room = omega (arith, A.roll.room, A.roll.within);
-      below = A.roll.below;
-      flags = omega (arith, A.roll.within, C.fits.slot);
-    }
 
     -- ---- the end
 
-    module _ (u' : List ℕ) (done : i ≡ m) (K : Marked n m t v u u') (len' : length u' ≡ length u) where
+    module _ (u' : List ℕ) (done : i ≡ m) (K : Marked T m v u u') (len' : length u' ≡ length u) where
       abbrev final : List ℕ
-      final = listing nat_test (quotient M cls) k m
+      final = listing nat_test (quotient M cls) T.columns m
 
-      list : ordered n m v ≡ final
-      list = A.order ∙ ap (listing nat_test (quotient M cls) k) done
+      list : ordered T.states m v ≡ final
+      list = A.order ∙ ap (listing nat_test (quotient M cls) T.columns) done
 
       whole : length final ≡ m
       whole = ap length (sym list) ∙ ordered_length A.roll
 
-      cell : (p c : ℕ) → get_or u' (most + (p * k + c)) 0 ≡ get_or u (most + (p * k + c)) 0
-      cell p c = K.past (most + (p * k + c)) (omega (arith, A.roll.within))
+      cell : (p c : ℕ) → get_or u' (most + (p * T.columns + c)) 0 ≡ get_or u (most + (p * T.columns + c)) 0
+      cell p c = K.past (most + (p * T.columns + c)) (omega (arith, A.roll.within))
 
-      goes : (p c : ℕ) → p < m → c < k → Goes (quotient M cls) final (get_or final p 0) c (get_or u' (most + (p * k + c)) 0)
+      goes : (p c : ℕ) → p < m → c < T.columns → Goes (quotient M cls) final (get_or final p 0) c (get_or u' (most + (p * T.columns + c)) 0)
       goes p c h b = rw (cell p c, ← list) (A.goes p c (rw done h) b)
 
-      closed : ClosedTable most m k u'
+      closed : ClosedTable most m T.columns u'
       closed = record {
-        some = rw whole at (listed nat_test (quotient M cls) k m).first.0;
+        some = rw whole at (listed nat_test (quotient M cls) T.columns m).first.0;
         flags = A.roll.within;
-        long = omega (arith, C.fits.slot, len, len', mul-le-mul_right {m = m} {n = most} k A.roll.within);
+        long = omega (arith, C.fits.slot, len, len', mul-le-mul_right {m = m} {n = most} T.columns A.roll.within);
         inside = λ p c h b. rw whole at (goes p c h b).inside;
       }
 
@@ -272,17 +244,17 @@ module _ {base n k most : ℕ} {t w s : List ℕ} (C : Classified base n k most 
 
       flags : (p : ℕ) → p < m → flag_of (get_or u' p 0) ≡ (automaton M).accepting (get_or final p 0)
       flags p h =
-          ap flag_of (K.flags p h) ∙ flag_bit_lem (flag_of (get_or t (get_or v (n + n + p) 0) 0))
-          ∙ sym (table_accepting base n k t C.fits.closed (get_or v (n + n + p) 0) (A.roll.below p h))
+          ap flag_of (K.flags p h) ∙ flag_bit_lem (flag_of (get_or T.cells.now (get_or v (T.states + T.states + p) 0) 0))
+          ∙ sym (machine_accepting T (get_or v (T.states + T.states + p) 0) (A.roll.below p h))
           ∙ ap (automaton M).accepting (sym (ordered_at A.roll p h) ∙ ap (λ l. get_or l p 0) list)
 
-      found : table_machine most m k u' ≡ smallest k M
-      found = table_smallest k M formed most m u' whole closed flags goes
+      found : table_machine most m T.columns u' ≡ smallest T.columns M
+      found = table_smallest T.columns M formed most m u' whole closed flags goes
 
-      states : size (smallest k M) ≡ m
-      states = ap size (sym found) ∙ table_size most m k u' closed
+      states : size (smallest T.columns M) ≡ m
+      states = ap size (sym found) ∙ table_size most m T.columns u' closed
 
-      pub order_ends : Minimised k most M u' (States m)
+      pub order_ends : Minimised T.columns most M u' (Some m)
       order_ends = record {
         answer = rw (states, le-ltb most m A.roll.within);
         holds = λ _. record {
@@ -292,17 +264,17 @@ module _ {base n k most : ℕ} {t w s : List ℕ} (C : Classified base n k most 
         };
       }
         where
-          bits : (p : ℕ) → p < m → get_or u' p 0 ≡ bit ((automaton (smallest k M)).accepting p)
+          bits : (p : ℕ) → p < m → get_or u' p 0 ≡ bit ((automaton (smallest T.columns M)).accepting p)
           bits p h =
               K.flags p h
-              ∙ ap bit (sym (flag_bit_lem (flag_of (get_or t (get_or v (n + n + p) 0) 0))) ∙ ap flag_of (sym (K.flags p h)) ∙ sym (table_accepting most m k u' closed p h) ∙ ap (λ N. (automaton N).accepting p) found)
+              ∙ ap bit (sym (flag_bit_lem (flag_of (get_or T.cells.now (get_or v (T.states + T.states + p) 0) 0))) ∙ ap flag_of (sym (K.flags p h)) ∙ sym (table_accepting most m T.columns u' closed p h) ∙ ap (λ N. (automaton N).accepting p) found)
 
-pub too_many : (k most : ℕ) (M : Machine) (s : List ℕ) → most < size (smallest k M) → Minimised k most M s TooMany
+pub too_many : (k most : ℕ) (M : Machine) (s : List ℕ) → most < size (smallest k M) → Minimised k most M s None
 too_many k most M s h = record { answer = rw (lt-ltb most (size (smallest k M)) h); holds = λ b. absurd (omega arith) }
 
-pub classified : {base n k most : ℕ} {t w s : List ℕ} (w' : List ℕ) → Fitting base n k most t w s → length w' ≡ length w → take n w' ≡ classes k (table_machine base n k t)
-    → Classified base n k most t w' s
+pub classified : {T : Table} {most : ℕ} {w s : List ℕ} (w' : List ℕ) → Fitting T most w s → length w' ≡ length w → take T.states w' ≡ classes T.columns (machine_of T)
+    → Classified T most w' s
 classified w' F len e = record {
-  fits = record { closed = F.closed; few = F.few; some = F.some; bytes = F.bytes; arrays = rw len F.arrays; order = rw len F.order; slot = F.slot };
+  fits = record { few = F.few; some = F.some; bytes = F.bytes; arrays = rw len F.arrays; order = rw len F.order; slot = F.slot };
   found = e;
 }

@@ -2,44 +2,24 @@
 use mathlib.Core.Path.{◌≡◌, refl, sym, ap, ◌∙◌}
 use mathlib.Core.Logic.{inl, inr, ◌≢◌}
 use mathlib.Core.List.{List}
-use Prim.Native.Nat.{ℕ, zero, suc, max, ◌+◌, ◌*◌, ◌-◌, ◌≤◌, ◌<◌}
+use Prim.Native.Nat.{ℕ, zero, suc, max, ◌+◌, ◌*◌, ◌≤◌, ◌<◌}
 use native.Mathlib.Nat.{le_refl, le_trans, not-suc-le-zero}
 use native.Mathlib.Numerals.{add-one}
 use native.Mathlib.Omega.{arith}
 use lib.ListN.{length, get_or, take, set}
 use lib.Seq.{get_or-take, get_or-set_same, get_or-set_other}
-use mir.Syntax.{w8, w64}
+use mir.Syntax.{w64}
 use mir.Val.{Fits}
 use Rattle.automata.specs.Automaton.{Automaton}
 use Rattle.automata.specs.Basics.{LtCases, lt_cases, nat_test}
 use Rattle.automata.specs.Listing.{Extends, add, add_to, add_extends}
 use Rattle.automata.specs.Rows.{cell_below}
+use Rattle.entries.specs.declared.table.Table.{Table}
 use Rattle.entries.specs.Entries.{Target}
 use Rattle.minimise.specs.Number.{ordered, Roll, Arrived, Goes, classes_of, Rolling, Upto}
 use Rattle.minimise.proofs.ArriveLaws.{ordered_length, ordered_at, number_found, arrive_old}
 
 -- ---- numbers of a turn
-
-pub left_wide : (a b : ℕ) → Fits w64 (a + b) → Fits w64 a
-left_wide a b f = record { fits = omega (arith, f.fits) }
-
-pub right_wide : (a b : ℕ) → Fits w64 (a + b) → Fits w64 b
-right_wide a b f = record { fits = omega (arith, f.fits) }
-
-pub none_yet : (k : ℕ) → 0 ≤ k
-none_yet k = omega arith
-
-pub turn_most : (c k : ℕ) → c < k → c + 1 ≤ k
-turn_most c k h = omega arith
-
-pub turn_wide : (c k : ℕ) → c < k → Fits w64 k → Fits w64 (c + 1)
-turn_wide c k h f = record { fits = omega (arith, f.fits) }
-
-pub turn_less : (c k : ℕ) → c < k → k - (c + 1) < k - c
-turn_less c k h = omega arith
-
-pub all_columns : (c k : ℕ) → c ≤ k → k ≤ c → c ≡ k
-all_columns c k h g = omega arith
 
 pub grown_new : (m y m' : ℕ) → y ≡ m → m' ≡ m + 1 → m' ≡ max m (suc y)
 grown_new m y m' e g = omega arith
@@ -96,74 +76,59 @@ numbered_again {n} {most} {m} {r} {y} {w = w} R h L em ew el ex =
 pub last_none : {n m l x : ℕ} {w : List ℕ} → l ≡ n → Last n m l x w
 last_none e = record { low = λ h. absurd (omega arith); place = λ h. absurd (omega arith) }
 
-module _ {base n k most i m : ℕ} {t w s : List ℕ} (R : Rolling base n k most i m t w s) where
+module _ {T : Table} {most i m : ℕ} {w s : List ℕ} (R : Rolling T most i m w s) where
   abbrev Q : Automaton ℕ
-  Q = classes_of base n k t (take n w)
+  Q = classes_of T (take T.states w)
 
   abbrev start : ℕ
-  start = get_or (ordered n m w) i 0
+  start = get_or (ordered T.states m w) i 0
 
-  pub row_starts : Upto Q n k most i m w s 0 m w s
+  pub row_starts : Upto Q T.states T.columns most i m w s 0 m w s
   unfolding add_to
   row_starts = record { kept = refl; order = refl; roll = R.roll; more = le_refl m; cells = λ q h. refl; goes = λ a h. absurd (not-suc-le-zero h) }
 
-  pub row_state : (p : ℕ) → p ≡ get_or w (n + n + i) 0 → p < n
-  row_state p e = rw e (R.roll.below i R.row)
-
-  same : (p : ℕ) → p ≡ get_or w (n + n + i) 0 → start ≡ p
+  same : (p : ℕ) → p ≡ get_or w (T.states + T.states + i) 0 → start ≡ p
   same p e = ordered_at R.roll i R.row ∙ sym e
 
-  pub row_double : Fits w64 (n + n)
-  row_double = record { fits = omega (arith, R.roll.few) }
-
-  pub row_wide : Fits w64 (n + n + i)
-  row_wide = record { fits = omega (arith, R.row, R.roll.within, R.roll.few, R.roll.bytes) }
-
-  pub row_place : n + n + i < length w
+  pub row_place : T.states + T.states + i < length w
   row_place = omega (arith, R.row, R.roll.within, R.roll.room)
 
-  pub row_target : (r l : ℕ) → r < n → l ≡ length w → r < l
-  row_target r l h e = omega (arith, R.roll.room)
-
   -- a cell of the row lies in the slot
-  pub row_cell : (c : ℕ) → c < k → most + (i * k + c) < length s
-  row_cell c h = omega (arith, cell_below most k i c (le_trans R.row R.roll.within) h, R.slot)
+  pub row_cell : (c : ℕ) → c < T.columns → most + (i * T.columns + c) < length s
+  row_cell c h = omega (arith, cell_below most T.columns i c (le_trans R.row R.roll.within) h, R.slot)
 
-  pub row_cell_now : (c l : ℕ) → c < k → l ≡ length s → most + (i * k + c) < l
-  row_cell_now c l h e = rw e (row_cell c h)
-
-  pub row_next : {c m' : ℕ} {w' s' : List ℕ} → Upto Q n k most i m w s c m' w' s' → Fits w64 (m' + 1)
+  pub row_next : {c m' : ℕ} {w' s' : List ℕ} → Upto Q T.states T.columns most i m w s c m' w' s' → Fits w64 (m' + 1)
   row_next U = record { fits = omega (arith, U.roll.within, U.roll.bytes) }
 
-  module _ (p c m' r d : ℕ) (w' s' : List ℕ) (U : Upto Q n k most i m w s c m' w' s') (hc : c < k) (e : p ≡ get_or w (n + n + i) 0) (T : Target base n k t p c r)
+  module _ (p c m' r d : ℕ) (w' s' : List ℕ) (U : Upto Q T.states T.columns most i m w s c m' w' s') (hc : c < T.columns) (e : p ≡ get_or w (T.states + T.states + i) 0) (J : Target T p c r)
       (ed : d ≡ get_or w' r 0) where
     -- what is read is the class that the column leads to
     pub row_class : d ≡ Q.step start c
     row_class =
-        ed ∙ sym (get_or-take n w' r 0 T.inside) ∙ ap (λ l. get_or l r 0) U.kept ∙ ap (λ x. get_or (take n w) x 0) T.step ∙ ap (λ x. Q.step x c) (sym (same p e))
+        ed ∙ sym (get_or-take T.states w' r 0 J.inside) ∙ ap (λ l. get_or l r 0) U.kept ∙ ap (λ x. get_or (take T.states w) x 0) J.step ∙ ap (λ x. Q.step x c) (sym (same p e))
 
-    pub row_below : d < n
-    row_below = rw (ed ∙ sym (get_or-take n w' r 0 T.inside) ∙ ap (λ l. get_or l r 0) U.kept) (R.inside r T.inside)
+    pub row_below : d < T.states
+    row_below = rw (ed ∙ sym (get_or-take T.states w' r 0 J.inside) ∙ ap (λ l. get_or l r 0) U.kept) (R.inside r J.inside)
 
-    module _ (x : ℕ) (w'' : List ℕ) (A : Arrived n most m' d w' w'' x) where
-      added : add nat_test (ordered n m' w') d ≡ add_to nat_test Q (suc c) (ordered n m w) start
+    module _ (x : ℕ) (w'' : List ℕ) (A : Arrived T.states most m' d w' w'' x) where
+      added : add nat_test (ordered T.states m' w') d ≡ add_to nat_test Q (suc c) (ordered T.states m w) start
       unfolding add_to
-      added = ap (λ l. add nat_test l d) U.order ∙ ap (add nat_test (add_to nat_test Q c (ordered n m w) start)) row_class
+      added = ap (λ l. add nat_test l d) U.order ∙ ap (add nat_test (add_to nat_test Q c (ordered T.states m w) start)) row_class
 
-      pub row_full : x ≡ most → most < length (add_to nat_test Q k (ordered n m w) start)
-      row_full z = le_trans (rw added at (A.full z)) (add_to_longer Q (ordered n m w) start (suc c) k hc)
+      pub row_full : x ≡ most → most < length (add_to nat_test Q T.columns (ordered T.states m w) start)
+      row_full z = le_trans (rw added at (A.full z)) (add_to_longer Q (ordered T.states m w) start (suc c) T.columns hc)
 
       pub row_few : x ≢ most → x < most
       row_few z = omega (arith, A.low, U.roll.within)
 
-      pub row_turns : (m'' : ℕ) (s'' : List ℕ) → x ≢ most → length s' ≡ length s → s'' ≡ set s' (most + (i * k + c)) x → m'' ≡ max m' (suc x)
-          → Upto Q n k most i m w s (c + 1) m'' w'' s''
+      pub row_turns : (m'' : ℕ) (s'' : List ℕ) → x ≢ most → length s' ≡ length s → s'' ≡ set s' (most + (i * T.columns + c)) x → m'' ≡ max m' (suc x)
+          → Upto Q T.states T.columns most i m w s (c + 1) m'' w'' s''
       row_turns m'' s'' z len es em = rw (es, em, add-one) record {
         kept = A.kept ∙ U.kept;
         order = A.order few ∙ added;
         roll = A.roll few;
         more = omega (arith, U.more);
-        cells = λ q b. get_or-set_other s' (most + (i * k + c)) (most + q) x 0 (omega arith) ∙ U.cells q b;
+        cells = λ q b. get_or-set_other s' (most + (i * T.columns + c)) (most + q) x 0 (omega arith) ∙ U.cells q b;
         goes = λ a b. goes a (lt_cases a c) (omega arith);
       }
         where
@@ -171,13 +136,13 @@ module _ {base n k most i m : ℕ} {t w s : List ℕ} (R : Rolling base n k most
           few = row_few z
 
           S : List ℕ
-          S = set s' (most + (i * k + c)) x
+          S = set s' (most + (i * T.columns + c)) x
 
           L : List ℕ
-          L = ordered n (max m' (suc x)) w''
+          L = ordered T.states (max m' (suc x)) w''
 
-          grown : Extends 0 (ordered n m' w') L
-          grown = rw (A.order few) (add_extends nat_test 0 (ordered n m' w') d)
+          grown : Extends 0 (ordered T.states m' w') L
+          grown = rw (A.order few) (add_extends nat_test 0 (ordered T.states m' w') d)
 
           inside : x < length L
           inside = rw (ordered_length (A.roll few)) (omega arith)
@@ -185,28 +150,25 @@ module _ {base n k most i m : ℕ} {t w s : List ℕ} (R : Rolling base n k most
           mine : Goes Q L start c x
           mine = record { inside = inside; leads = ordered_at (A.roll few) x (omega arith) ∙ A.place few ∙ row_class }
 
-          goes : (a : ℕ) → LtCases a c → a ≤ c → Goes Q L start a (get_or S (most + (i * k + a)) 0)
+          goes : (a : ℕ) → LtCases a c → a ≤ c → Goes Q L start a (get_or S (most + (i * T.columns + a)) 0)
           goes a (inl y) b =
-              rw (get_or-set_other s' (most + (i * k + c)) (most + (i * k + a)) x 0 (omega (arith, y.0)))
-              (goes_on Q (ordered n m' w') L start a (get_or s' (most + (i * k + a)) 0) grown (U.goes a y.0))
+              rw (get_or-set_other s' (most + (i * T.columns + c)) (most + (i * T.columns + a)) x 0 (omega (arith, y.0)))
+              (goes_on Q (ordered T.states m' w') L start a (get_or s' (most + (i * T.columns + a)) 0) grown (U.goes a y.0))
           goes a (inr y) b =
               let j : a ≡ c = omega arith in
-              rw (j, get_or-set_same s' (most + (i * k + c)) x 0 (rw len (row_cell c hc))) mine
+              rw (j, get_or-set_same s' (most + (i * T.columns + c)) x 0 (rw len (row_cell c hc))) mine
 
   -- the same, of a column whose class has been given its number
-  module _ (p c m' r : ℕ) (w' s' : List ℕ) (U : Upto Q n k most i m w s c m' w' s') (hc : c < k) (e : p ≡ get_or w (n + n + i) 0) (T : Target base n k t p c r)
-      (m'' l x : ℕ) (w'' : List ℕ) (N : Numbered n most m' r w' m'' l x w'') where
+  module _ (p c m' r : ℕ) (w' s' : List ℕ) (U : Upto Q T.states T.columns most i m w s c m' w' s') (hc : c < T.columns) (e : p ≡ get_or w (T.states + T.states + i) 0) (J : Target T p c r)
+      (m'' l x : ℕ) (w'' : List ℕ) (N : Numbered T.states most m' r w' m'' l x w'') where
     column_few : x < most
-    column_few = row_few p c m' r (get_or w' r 0) w' s' U hc e T refl x w'' N.arrived N.few
+    column_few = row_few p c m' r (get_or w' r 0) w' s' U hc e J refl x w'' N.arrived N.few
 
-    pub column_byte : Fits w8 x
-    column_byte = record { fits = omega (arith, column_few, U.roll.bytes) }
+    pub column_turns : (s'' : List ℕ) → length s' ≡ length s → s'' ≡ set s' (most + (i * T.columns + c)) x → Upto Q T.states T.columns most i m w s (c + 1) m'' w'' s''
+    column_turns s'' len es = row_turns p c m' r (get_or w' r 0) w' s' U hc e J refl x w'' N.arrived m'' s'' N.few len es N.grown
 
-    pub column_turns : (s'' : List ℕ) → length s' ≡ length s → s'' ≡ set s' (most + (i * k + c)) x → Upto Q n k most i m w s (c + 1) m'' w'' s''
-    column_turns s'' len es = row_turns p c m' r (get_or w' r 0) w' s' U hc e T refl x w'' N.arrived m'' s'' N.few len es N.grown
-
-    pub column_last : Last n m'' l x w''
+    pub column_last : Last T.states m'' l x w''
     column_last = rw (N.here, N.grown) record {
       low = λ _. omega arith;
-      place = λ h. N.arrived.place column_few ∙ sym (get_or-take n w' r 0 h) ∙ ap (λ v. get_or v r 0) (sym N.arrived.kept) ∙ get_or-take n w'' r 0 h;
+      place = λ h. N.arrived.place column_few ∙ sym (get_or-take T.states w' r 0 h) ∙ ap (λ v. get_or v r 0) (sym N.arrived.kept) ∙ get_or-take T.states w'' r 0 h;
     }

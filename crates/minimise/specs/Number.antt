@@ -1,16 +1,14 @@
 -- Numbering the classes by first arrival, as code keeps it behind the array of classes: for each class its number, and the classes in the order of their numbers.
 -- What holds of these arrays when m classes have numbers, and what one class, one row and one state's flag add to them.
-use Rattle.std.specs.Prelude.{◌≡◌, List, ℕ, suc, max, ◌+◌, ◌*◌, ◌≤◌, ◌<◌, length, get_or, take, drop}
+use Rattle.std.specs.Prelude.{◌≡◌, List, ℕ, suc, max, ◌+◌, ◌*◌, ◌≤◌, ◌<◌, length, get_or, take, drop, Option, Some, None}
 use Rattle.automata.specs.Automaton.{Automaton}
 use Rattle.automata.specs.Basics.{nat_test}
 use Rattle.automata.specs.Listing.{add, add_to}
-use Rattle.automata.specs.Partition.{bit, classes}
+use Rattle.automata.specs.Partition.{classes}
 use Rattle.automata.specs.Smallest.{quotient}
-use Rattle.automata.specs.Table.{flag_of, table_machine, ClosedTable}
-use Rattle.entries.specs.Entries.{class_of}
+use Rattle.entries.specs.declared.table.Table.{Table}
+use Rattle.entries.specs.Entries.{class_of, flag_bit, machine_of}
 use Rattle.minimise.specs.Minimised.{Fitting}
-use Rattle.minimise.specs.declared.Kept.{Kept}
-use Rattle.minimise.specs.declared.Kept.TheVariants.{States, TooMany}
 
 -- the m classes that have numbers, in the order of these
 abbrev pub ordered : ℕ → ℕ → List ℕ → List ℕ
@@ -46,16 +44,15 @@ pub record Goes (Q : Automaton ℕ) (l : List ℕ) (p c x : ℕ) : Type 0 where
   pub leads : get_or l x 0 ≡ Q.step p c
 
 -- the classes as an automaton
-abbrev pub classes_of : ℕ → ℕ → ℕ → List ℕ → List ℕ → Automaton ℕ
-classes_of base n k t cls = quotient (table_machine base n k t) cls
+abbrev pub classes_of : Table → List ℕ → Automaton ℕ
+classes_of T cls = quotient (machine_of T) cls
 
 -- row i of the numbered machine is to be written
-pub record Rolling (base n k most i m : ℕ) (t w s : List ℕ) : Type 0 where
-  pub closed : ClosedTable base n k t
-  pub roll : Roll n most m w
-  pub inside : (q : ℕ) → q < n → class_of (take n w) q < n
+pub record Rolling (T : Table) (most i m : ℕ) (w s : List ℕ) : Type 0 where
+  pub roll : Roll T.states most m w
+  pub inside : (q : ℕ) → q < T.states → class_of (take T.states w) q < T.states
   pub row : i < m
-  pub slot : most + most * k ≤ length s
+  pub slot : most + most * T.columns ≤ length s
 
 -- the moves of row i before column c are written, all that they lead to has numbers
 pub record Upto (Q : Automaton ℕ) (n k most i m : ℕ) (w s : List ℕ) (c m' : ℕ) (w' s' : List ℕ) : Type 0 where
@@ -67,23 +64,22 @@ pub record Upto (Q : Automaton ℕ) (n k most i m : ℕ) (w s : List ℕ) (c m' 
   pub goes : (a : ℕ) → a < c → Goes Q (ordered n m' w') (get_or (ordered n m w) i 0) a (get_or s' (most + (i * k + a)) 0)
 
 -- row i is written, or there are too many classes
-abbrev pub Rowed : ℕ → ℕ → ℕ → ℕ → ℕ → ℕ → List ℕ → List ℕ → List ℕ → List ℕ → List ℕ → Kept → Type 0
-Rowed base n k most i m t w s w' s' (States m') = Upto (classes_of base n k t (take n w)) n k most i m w s k m' w' s'
-Rowed base n k most i m t w s w' s' TooMany = most < length (add_to nat_test (classes_of base n k t (take n w)) k (ordered n m w) (get_or (ordered n m w) i 0))
+abbrev pub Rowed : Table → ℕ → ℕ → ℕ → List ℕ → List ℕ → List ℕ → List ℕ → Option ℕ → Type 0
+Rowed T most i m w s w' s' (Some m') = Upto (classes_of T (take T.states w)) T.states T.columns most i m w s T.columns m' w' s'
+Rowed T most i m w s w' s' None = most < length (add_to nat_test (classes_of T (take T.states w)) T.columns (ordered T.states m w) (get_or (ordered T.states m w) i 0))
 
 -- the m numbered classes are states of the table, and there is room for their flags
-pub record Markable (n m : ℕ) (t w s : List ℕ) : Type 0 where
-  pub states : n ≤ length t
-  pub room : n + n + m ≤ length w
-  pub below : (i : ℕ) → i < m → get_or w (n + n + i) 0 < n
+pub record Markable (T : Table) (m : ℕ) (w s : List ℕ) : Type 0 where
+  pub room : T.states + T.states + m ≤ length w
+  pub below : (i : ℕ) → i < m → get_or w (T.states + T.states + i) 0 < T.states
   pub flags : m ≤ length s
 
 -- the flags of the m numbered classes are written
-pub record Marked (n m : ℕ) (t w s s' : List ℕ) : Type 0 where
-  pub flags : (i : ℕ) → i < m → get_or s' i 0 ≡ bit (flag_of (get_or t (get_or w (n + n + i) 0) 0))
+pub record Marked (T : Table) (m : ℕ) (w s s' : List ℕ) : Type 0 where
+  pub flags : (i : ℕ) → i < m → get_or s' i 0 ≡ flag_bit T.cells.now (get_or w (T.states + T.states + i) 0)
   pub past : (q : ℕ) → m ≤ q → get_or s' q 0 ≡ get_or s q 0
 
 -- the table with its classes found
-pub record Classified (base n k most : ℕ) (t w s : List ℕ) : Type 0 where
-  pub fits : Fitting base n k most t w s
-  pub found : take n w ≡ classes k (table_machine base n k t)
+pub record Classified (T : Table) (most : ℕ) (w s : List ℕ) : Type 0 where
+  pub fits : Fitting T most w s
+  pub found : take T.states w ≡ classes T.columns (machine_of T)

@@ -22,3 +22,9 @@ pub record AcceptKeys (ms ks : List ℕ) : Type 0 where
   pub long : length ks ≡ 120
   pub sound : (p q : ℕ) → p < length ms → q < length ms → get_or ks p 0 ≡ get_or ks q 0 → eqb 1 (get_or ms p 0) ≡ eqb 1 (get_or ms q 0)
   pub whole : (p q : ℕ) → p < length ms → q < length ms → eqb 1 (get_or ms p 0) ≡ eqb 1 (get_or ms q 0) → get_or ks p 0 ≡ get_or ks q 0
+
+-- The row of state p: its m moves, each to a state.
+pub record Row (m : ℕ) (ms bs : List ℕ) (p : ℕ) (row : List ℕ) : Type 0 where
+  pub long : length row ≡ m
+  pub entry : (i : ℕ) → i < m → get_or row i 0 ≡ get_or bs (p * m + i) 0
+  pub inside : (i : ℕ) → i < length row → get_or row i 0 < length ms

@@ -1,2 +1,56 @@
-// Definitions and laws only: they stand in specs/.
+// A table of moves as it lies in a card's bytes, lent. Its definitions and laws stand in specs/.
 #![tactic(auto)]
+
+ghost use Rattle.std.specs.Prelude.{◌≡◌, ◌<◌, ◌*◌, ◌+◌, length, get_or, eqb};
+ghost use Rattle.moves.specs.Holds.{Table, Row};
+
+// A marks byte: 0 where no plan may end and some continuation is allowed, 1 where a plan may end, 2 where no continuation is allowed.
+#[derive(Clone, Copy, PartialEq, Eq, Debug)]
+pub enum Mark {
+    Unfinished = 0,
+    Accepting = 1,
+    Dead = 2,
+}
+
+// The states of a table: marks bytes, one a state, and moves, state by state and letter by letter.
+#[derive(Clone, Copy)]
+pub struct States<'a> {
+    pub marks: &'a [u8],
+    pub moves: &'a [u8],
+    pub letters: usize,
+    pub ghost table: { Table 120 letters marks.now moves.now },
+}
+
+impl<'a> States<'a> {
+    // How many states.
+    pub fn len(self) -> usize
+        ensures { result ≡ length self.entry.marks.now }
+    {
+        self.marks.len()
+    }
+
+    // The moves of state p, letter by letter.
+    pub fn row(self, p: usize) -> &'a [u8]
+        requires { p < length self.marks.now }
+        ensures { Row self.entry.letters self.entry.marks.now self.entry.moves.now p result.now }
+    {
+        let at = p * self.letters;
+        &self.moves[at..at + self.letters]
+    }
+
+    // The state that letter i leads to from state p.
+    pub fn target(self, p: usize, i: usize) -> usize
+        requires { (p < length self.marks.now) × (i < self.letters) }
+        ensures { result ≡ get_or self.entry.moves.now (p * self.entry.letters + i) 0 }
+    {
+        self.moves[p * self.letters + i] as usize
+    }
+
+    // Whether state p accepts.
+    pub fn accepts(self, p: usize) -> bool
+        requires { p < length self.marks.now }
+        ensures { result ≡ eqb 1 (get_or self.entry.marks.now p 0) }
+    {
+        Mark::Accepting as u8 == self.marks[p]
+    }
+}

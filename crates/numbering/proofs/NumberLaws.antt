@@ -1,13 +1,12 @@
 -- Laws of the numbering as a whole: turn by turn it is the listing of the states that letters reach.
-use mathlib.Core.Path.{◌≡◌, sym, ap, ◌∙◌}
+use mathlib.Core.Path.{◌≡◌, refl, sym, ap, ◌∙◌}
 use mathlib.Core.Logic.{◌⊎◌, inl, inr}
 use mathlib.Core.List.{List}
 use Prim.Native.Nat.{ℕ, zero, suc, ◌+◌, ◌*◌, ◌≤◌, ◌<◌}
 use native.Mathlib.Nat.{suc-mul, mul-le-mul_right}
 use native.Mathlib.Omega.{arith}
 use native.Mathlib.Numerals.{add-one}
-use lib.ListN.{length, get_or, take, set, length-set}
-use lib.Seq.{get_or-set_same, take-suc-set}
+use lib.ListN.{length, get_or, take, replicate}
 use Rattle.automata.specs.Automaton.{Automaton, over_more}
 use Rattle.automata.specs.Basics.{nat_test}
 use Rattle.automata.specs.Listing.{add_to, add_to_extends, turn, turn_cases, listing, listed, listing_stays, listing_bound}
@@ -22,22 +21,18 @@ pub record Turns (n m : ℕ) (t o u : List ℕ) (i count : ℕ) : Type 0 where
   pub turns : i ≤ count
   pub done : take count o ≡ listing nat_test (automaton (kept_machine n m t)) m i
 
-pub turns_start : (n m : ℕ) (t o u : List ℕ) → length o ≡ 120 → length u ≡ 120 → Turns n m t (set o 0 0) (set u 0 0) 0 1
-unfolding listing
-turns_start n m t o u a b = record {
-  roll = record {
-    order_long = length-set o 0 0 ∙ a;
-    number_long = length-set u 0 0 ∙ b;
-    within = omega arith;
-    below = λ i h. let z : i ≡ 0 = omega arith in rw (z, first) (omega arith);
-    back = λ i h. let z : i ≡ 0 = omega arith in rw (z, first) (get_or-set_same u 0 0 0 (omega arith));
-  };
-  turns = omega arith;
-  done = take-suc-set o 0 0 (omega arith);
+pub roll_start : Roll 120 1 (replicate 120 0) (replicate 120 0)
+roll_start = record {
+  order_long = refl;
+  number_long = refl;
+  within = omega arith;
+  below = λ i h. let z : i ≡ 0 = omega arith in rw z (omega arith);
+  back = λ i h. let z : i ≡ 0 = omega arith in rw z refl;
 }
-  where
-    first : get_or (set o 0 0) 0 0 ≡ 0
-    first = get_or-set_same o 0 0 0 (omega arith)
+
+pub turns_start : (n m : ℕ) (t o u : List ℕ) (k : ℕ) → (o ≡ replicate 120 0) × (u ≡ replicate 120 0) × (k ≡ 1) → Turns n m t o u 0 k
+unfolding listing
+turns_start n m t o u k e = rw (e.0, e.1, e.2) (record { roll = roll_start; turns = omega arith; done = refl })
 
 module _ (n m : ℕ) (t : List ℕ) (C : ClosedTable 120 n (suc m) t) where
   abbrev M : Machine

@@ -2,78 +2,69 @@
 // Parts for the card writer: they have requires, and are no entries.
 #![tactic(auto)]
 
-ghost use Rattle.std.specs.Prelude.{◌≡◌, suc, ◌<◌, length};
+ghost use Rattle.std.specs.Prelude.{◌≡◌, suc, ◌<◌, replicate};
 ghost use Rattle.automata.specs.Table.{ClosedTable};
 ghost use Rattle.numbering.specs.Arrival.{Roll, Arrived, Row, Rowed, Arranged};
 
-// State s takes the next number where it has none. How many states have numbers then.
-fn arrive(s: usize, count: usize, order: &mut [u8; 120], number: &mut [u8; 120]) -> usize
-    requires roll { Roll 120 count order.old number.old }
-    requires s_bound { s < 120 }
-    ensures { Arrived 120 count s order.old number.old order.new number.new result }
-{
-    let x = wide(number[s]);
-    if x < count {
-        if wide(order[x]) == s {
-            return count;
+// The states that have numbers: `count` of them, in the order of their numbers, and for each state its number, which counts only where the state stands in the
+// order at that number.
+#[derive(Drop)]
+pub struct Numbering {
+    pub order: [u8; 120],
+    pub number: [u8; 120],
+    pub count: usize,
+    pub ghost roll: { Roll 120 count order number },
+}
+
+impl Numbering {
+    // State 0 has number 0.
+    fn new() -> Numbering
+        ensures { (result.order ≡ replicate 120 0) × (result.number ≡ replicate 120 0) × (result.count ≡ 1) }
+    {
+        Numbering {
+            order: [0; 120],
+            number: [0; 120],
+            count: 1,
         }
     }
-    order[count] = s as u8;
-    number[s] = count as u8;
-    count + 1
-}
 
-// What the m moves from the place `at` lead to takes numbers, in the order of the letters. How many states have numbers then.
-fn row(
-    slot: &[u8],
-    at: usize,
-    m: usize,
-    count: usize,
-    order: &mut [u8; 120],
-    number: &mut [u8; 120],
-) -> usize
-    requires row { Row 120 at m slot.now }
-    requires roll { Roll 120 count order.old number.old }
-    ensures { Rowed 120 at m count slot.now order.old number.old order.new number.new result }
-{
-    let mut r = count;
-    let mut c = 0;
-    while c < m {
-        let s = wide(slot[at + c]);
-        r = arrive(s, r, order, number);
-        c += 1;
+    // State s takes the next number where it has none.
+    fn arrive(&mut self, s: usize)
+        requires { s < 120 }
+        ensures { Arrived 120 self.old.count s self.old.order self.old.number self.new.order self.new.number self.new.count }
+    {
+        let x = self.number[s] as usize;
+        if x < self.count && self.order[x] as usize == s {
+            return;
+        }
+        self.order[self.count] = s as u8;
+        self.number[s] = self.count as u8;
+        self.count += 1;
     }
-    r
+
+    // What the m moves from the place `at` lead to takes numbers, in the order of the letters.
+    fn row(&mut self, slot: &[u8], at: usize, m: usize)
+        requires { Row 120 at m slot.now }
+        ensures { Rowed 120 at m self.old.count slot.now self.old.order self.old.number self.new.order self.new.number self.new.count }
+    {
+        for state in &slot[at..at + m] {
+            self.arrive(*state as usize);
+        }
+    }
 }
 
-// All that letters reach from state 0 takes numbers. How many states have numbers then.
-pub fn number(
-    slot: &[u8],
-    n: usize,
-    m: usize,
-    order: &mut [u8; 120],
-    number: &mut [u8; 120],
-) -> usize
-    requires closed_table { ClosedTable 120 n (suc m) slot.now }
-    requires order_len { length order.old ≡ 120 }
-    requires number_len { length number.old ≡ 120 }
-    ensures { Arranged n m slot.now order.new number.new result }
+// All that letters reach from state 0 takes numbers.
+pub fn number(slot: &[u8], n: usize, m: usize) -> Numbering
+    requires { ClosedTable 120 n (suc m) slot.now }
+    ensures { Arranged n m slot.now result.order result.number result.count }
 {
-    order[0] = 0;
-    number[0] = 0;
-    let mut count = 1;
+    let mut numbering = Numbering::new();
     let mut i = 0;
-    while i < count {
-        let s = wide(order[i]);
-        count = row(slot, 120 + s * (m + 1), m, count, order, number);
+    // Stays: a queue, its end moves while it is read.
+    while i < numbering.count {
+        let s = numbering.order[i] as usize;
+        numbering.row(slot, 120 + s * (m + 1), m);
         i += 1;
     }
-    count
-}
-
-// A byte as a number of the machine's own width.
-pub fn wide(b: u8) -> usize
-    ensures { result ≡ b }
-{
-    b as usize
+    numbering
 }

@@ -1,5 +1,5 @@
 -- What bringing an operand into a slot asks, and what the slot then holds.
-use Rattle.std.specs.Prelude.{◌≡◌, refl, cond, ◌⊎◌, ◌≢◌, List, ◌++◌, ℕ, zero, suc, ◌+◌, ◌*◌, ◌-◌, ◌≤◌, ◌<◌, leb, length, get_or, take, drop}
+use Rattle.std.specs.Prelude.{◌≡◌, refl, cond, ◌⊎◌, ◌≢◌, List, ◌++◌, ℕ, suc, ◌+◌, ◌*◌, ◌-◌, ◌≤◌, ◌<◌, leb, length, get_or, take, drop}
 use Rattle.std.proofs.Common.{sym, ap, ◌∙◌, subst, inl, inr, arith, length-drop, drop-cons, length-take-le, mul-le-mul_right, suc-mul, eq-eqb, ne_eqb, le-leb, add-one}
 use Rattle.std.proofs.Math.Seq.{drop-length}
 use Rattle.std.proofs.lemmas.Bool.{lt-leb}
@@ -11,8 +11,11 @@ use Rattle.language.specs.Evaluate.{column}
 use Rattle.slots.specs.Slot.{Slot, slot_machine, Holds, Written}
 use Rattle.slots.specs.Aside.{Aside, part_at}
 use Rattle.operands.specs.Stack.{needs, slot_at, fills, fills_most, slot_filled, slot_same}
-use Rattle.codes.specs.Codes.{given_of}
+use Rattle.codes.specs.Codes.{given_of, index_of, index_small}
 use Rattle.operands.specs.declared.Layout.{Layout}
+use Rattle.codes.specs.declared.Given as given
+use Rattle.codes.specs.declared.Given.TheVariants.{Empty, All, Dot, Mark}
+use Rattle.codes.specs.declared.Register as register
 use Rattle.codes.specs.declared.Source.{Source}
 use Rattle.codes.specs.declared.Source.TheVariants.{Letter, Name, Given, Register}
 
@@ -29,22 +32,22 @@ name_slot size first second x = choose (leb x 77) (λ _. drop ((x - 65) * size) 
 -- the machine of an operand, as the bytes hold it
 abbrev pub operand_in : Layout → List ℕ → List ℕ → List ℕ → List ℕ → Source → Machine
 operand_in l ls first second registers (Letter b) = letter_machine (length ls) (column ls b)
-operand_in l ls first second registers (Name b) = slot_machine l.states (suc (length ls)) (name_slot l.size first second b)
+operand_in l ls first second registers (Name b) = slot_machine l.limits.states (suc (length ls)) (name_slot l.size first second b)
 operand_in l ls first second registers (Given g) = given_of (length ls) g
-operand_in l ls first second registers (Register i) = slot_at l.states (suc (length ls)) l.size registers i
+operand_in l ls first second registers (Register i) = slot_at l.limits.states (suc (length ls)) l.size registers (index_of i)
 
 -- The operand is in its place.
 abbrev pub OperandReady : Layout → ℕ → List ℕ → List ℕ → List ℕ → Source → Type 0
 OperandReady l k first second registers (Letter b) = Unit {0}
-OperandReady l k first second registers (Name b) = (65 ≤ b) × (b ≤ 90) × Slot l.states k (name_slot l.size first second b)
+OperandReady l k first second registers (Name b) = (65 ≤ b) × (b ≤ 90) × Slot l.limits.states k (name_slot l.size first second b)
 OperandReady l k first second registers (Given g) = Unit {0}
-OperandReady l k first second registers (Register i) = (i < 3) × Slot l.states k (drop (i * l.size) registers)
+OperandReady l k first second registers (Register i) = Slot l.limits.states k (drop (index_of i * l.size) registers)
 
 -- Slots are long enough, and so are the buffers of the names and the registers.
 pub record Shelves (l : Layout) (m : ℕ) (first second registers : List ℕ) : Type 0 where
-  pub states : 3 ≤ l.states
+  pub states : 3 ≤ l.limits.states
   pub letters : 1 ≤ m
-  pub slot : needs l.states (suc m) ≤ l.size
+  pub slot : needs l.limits.states (suc m) ≤ l.size
   pub first_long : 13 * l.size ≤ length first
   pub second_long : 13 * l.size ≤ length second
   pub registers_long : 3 * l.size ≤ length registers
@@ -55,7 +58,7 @@ pub record Bringing (l : Layout) (ls first second registers stack : List ℕ) (i
   pub ready : OperandReady l (suc (length ls)) first second registers x
 
 pub record Brought (l : Layout) (ls first second registers s t : List ℕ) (i : ℕ) (x : Source) : Type 0 where
-  pub holds : Holds l.states (suc (length ls)) (drop (i * l.size) t) (operand_in l ls first second registers x)
+  pub holds : Holds l.limits.states (suc (length ls)) (drop (i * l.size) t) (operand_in l ls first second registers x)
   pub aside : Aside (i * l.size) l.size s t
 
 -- ---- what is written
@@ -99,52 +102,52 @@ module _ {l : Layout} {ls first second registers s : List ℕ} {i : ℕ} {x : So
   abbrev part : List ℕ → List ℕ
   part ys = take at s ++ (ys ++ drop (at + l.size - at) (drop at s))
 
-  few : 3 * (length ls + 1) ≤ l.states * suc (length ls)
-  few = rw (add-one (length ls)) (mul-le-mul_right {m = 3} {n = l.states} (suc (length ls)) B.shelves.states)
+  few : 3 * (length ls + 1) ≤ l.limits.states * suc (length ls)
+  few = rw (add-one (length ls)) (mul-le-mul_right {m = 3} {n = l.limits.states} (suc (length ls)) B.shelves.states)
 
-  pub part_long : 2 + (l.states + 3 * (length ls + 1)) ≤ length (take (at + l.size - at) (drop at s))
+  pub part_long : 2 + (l.limits.states + 3 * (length ls + 1)) ≤ length (take (at + l.size - at) (drop at s))
   part_long =
       let z : at + l.size - at ≡ l.size = omega arith in
       let w : length (take l.size (drop at s)) ≡ l.size = length-take-le l.size (drop at s) (omega (arith, length-drop at s, B.room)) in
       rw z (omega (arith, few, B.shelves.slot))
 
-  pub part_writable : Writable l.states (length ls) (take (at + l.size - at) (drop at s))
+  pub part_writable : Writable l.limits.states (length ls) (take (at + l.size - at) (drop at s))
   part_writable = record { states = B.shelves.states; letters = B.shelves.letters; long = part_long }
 
-  from_part : (ys : List ℕ) → length ys ≡ length (take (at + l.size - at) (drop at s)) → Holds l.states k ys (operand_in l ls first second registers x) → Brought l ls first second registers s (part ys) i x
+  from_part : (ys : List ℕ) → length ys ≡ length (take (at + l.size - at) (drop at s)) → Holds l.limits.states k ys (operand_in l ls first second registers x) → Brought l ls first second registers s (part ys) i x
   from_part ys h H =
       let W = part_at at (at + l.size) l.size s ys refl B.room h in
       record { holds = lent ys s (part ys) at l.size B.shelves.slot B.room H W; aside = written_aside W }
 
-  pub brought_letter : (b c : ℕ) (ys : List ℕ) → x ≡ Letter b → c ≡ column ls b → length ys ≡ length (take (at + l.size - at) (drop at s)) → Holds l.states k ys (letter_machine (length ls) c)
+  pub brought_letter : (b c : ℕ) (ys : List ℕ) → x ≡ Letter b → c ≡ column ls b → length ys ≡ length (take (at + l.size - at) (drop at s)) → Holds l.limits.states k ys (letter_machine (length ls) c)
       → Brought l ls first second registers s (part ys) i x
   brought_letter b c ys e q h H =
-      from_part ys h (subst (λ x. Holds l.states k ys (operand_in l ls first second registers x)) (sym e) (subst (λ c. Holds l.states k ys (letter_machine (length ls) c)) q H))
+      from_part ys h (subst (λ x. Holds l.limits.states k ys (operand_in l ls first second registers x)) (sym e) (subst (λ c. Holds l.limits.states k ys (letter_machine (length ls) c)) q H))
 
-  pub brought_given : (g : ℕ) (ys : List ℕ) → x ≡ Given g → length ys ≡ length (take (at + l.size - at) (drop at s)) → Holds l.states k ys (given_of (length ls) g)
+  pub brought_given : (g : given.Given) (ys : List ℕ) → x ≡ Given g → length ys ≡ length (take (at + l.size - at) (drop at s)) → Holds l.limits.states k ys (given_of (length ls) g)
       → Brought l ls first second registers s (part ys) i x
-  brought_given g ys e h H = from_part ys h (subst (λ x. Holds l.states k ys (operand_in l ls first second registers x)) (sym e) H)
+  brought_given g ys e h H = from_part ys h (subst (λ x. Holds l.limits.states k ys (operand_in l ls first second registers x)) (sym e) H)
 
   -- the columns are counted
   pub columns_fit : length ls + 1 ≤ length s
   columns_fit = omega (arith, few, B.shelves.slot, B.room)
 
-  slot_fits : at + needs l.states k ≤ length s
+  slot_fits : at + needs l.limits.states k ≤ length s
   slot_fits = omega (arith, B.room, B.shelves.slot)
 
   -- what copying from a slot elsewhere asks
-  copy_asks : (src : List ℕ) (from : ℕ) → Slot l.states k (drop from src) → Slot l.states (length ls + 1) (drop from src) × (at + needs l.states (length ls + 1) ≤ length s)
+  copy_asks : (src : List ℕ) (from : ℕ) → Slot l.limits.states k (drop from src) → Slot l.limits.states (length ls + 1) (drop from src) × (at + needs l.limits.states (length ls + 1) ≤ length s)
   copy_asks src from S = rw (add-one (length ls)) (S, slot_fits)
 
   -- and what it leaves
-  from_slot : (src : List ℕ) (from : ℕ) (t : List ℕ) → Slot l.states k (drop from src) → slot_machine l.states k (drop from src) ≡ operand_in l ls first second registers x
-      → Written s t at (fills l.states (length ls + 1) (drop from src)) (λ j. get_or src (from + j) 0) → Brought l ls first second registers s t i x
+  from_slot : (src : List ℕ) (from : ℕ) (t : List ℕ) → Slot l.limits.states k (drop from src) → slot_machine l.limits.states k (drop from src) ≡ operand_in l ls first second registers x
+      → Written s t at (fills l.limits.states (length ls + 1) (drop from src)) (λ j. get_or src (from + j) 0) → Brought l ls first second registers s t i x
   from_slot src from t S e W' =
-      let W : Written s t at (fills l.states k (drop from src)) (λ j. get_or src (from + j) 0) = rw (add-one (length ls)) at W' in
+      let W : Written s t at (fills l.limits.states k (drop from src)) (λ j. get_or src (from + j) 0) = rw (add-one (length ls)) at W' in
       let H = copied src from s t at slot_fits S W in
       record { holds = record { slot = H.slot; machine = H.machine ∙ e }; aside = written_within l.size (omega (arith, fills_most S, B.shelves.slot)) W }
 
-  name_ready : (b : ℕ) → x ≡ Name b → (65 ≤ b) × (b ≤ 90) × Slot l.states k (name_slot l.size first second b)
+  name_ready : (b : ℕ) → x ≡ Name b → (65 ≤ b) × (b ≤ 90) × Slot l.limits.states k (name_slot l.size first second b)
   name_ready b e = subst (OperandReady l k first second registers) e B.ready
 
   pub low_room : (b : ℕ) → x ≡ Name b → b ≤ 77 → (65 ≤ b) × ((b - 65) * l.size + l.size ≤ length first)
@@ -157,52 +160,52 @@ module _ {l : Layout} {ls first second registers s : List ℕ} {i : ℕ} {x : So
       let r = (name_ready b e).1 in
       (h, omega (arith, mul-le-mul_right {m = suc (b - 78)} {n = 13} l.size (omega arith), suc-mul (b - 78) l.size, B.shelves.second_long))
 
-  low_slot : (b : ℕ) → x ≡ Name b → b ≤ 77 → Slot l.states k (drop ((b - 65) * l.size) first)
-  low_slot b e h = subst (λ z. Slot l.states k (choose z (λ _. drop ((b - 65) * l.size) first) (λ _. drop ((b - 78) * l.size) second))) (le-leb b 77 h) (name_ready b e).2
+  low_slot : (b : ℕ) → x ≡ Name b → b ≤ 77 → Slot l.limits.states k (drop ((b - 65) * l.size) first)
+  low_slot b e h = subst (λ z. Slot l.limits.states k (choose z (λ _. drop ((b - 65) * l.size) first) (λ _. drop ((b - 78) * l.size) second))) (le-leb b 77 h) (name_ready b e).2
 
-  high_slot : (b : ℕ) → x ≡ Name b → 77 < b → Slot l.states k (drop ((b - 78) * l.size) second)
-  high_slot b e h = subst (λ z. Slot l.states k (choose z (λ _. drop ((b - 65) * l.size) first) (λ _. drop ((b - 78) * l.size) second))) (lt-leb b 77 h) (name_ready b e).2
+  high_slot : (b : ℕ) → x ≡ Name b → 77 < b → Slot l.limits.states k (drop ((b - 78) * l.size) second)
+  high_slot b e h = subst (λ z. Slot l.limits.states k (choose z (λ _. drop ((b - 65) * l.size) first) (λ _. drop ((b - 78) * l.size) second))) (lt-leb b 77 h) (name_ready b e).2
 
-  pub low_asks : (b : ℕ) → x ≡ Name b → b ≤ 77 → Slot l.states (length ls + 1) (drop ((b - 65) * l.size) first) × (at + needs l.states (length ls + 1) ≤ length s)
+  pub low_asks : (b : ℕ) → x ≡ Name b → b ≤ 77 → Slot l.limits.states (length ls + 1) (drop ((b - 65) * l.size) first) × (at + needs l.limits.states (length ls + 1) ≤ length s)
   low_asks b e h = copy_asks first ((b - 65) * l.size) (low_slot b e h)
 
-  pub high_asks : (b : ℕ) → x ≡ Name b → 77 < b → Slot l.states (length ls + 1) (drop ((b - 78) * l.size) second) × (at + needs l.states (length ls + 1) ≤ length s)
+  pub high_asks : (b : ℕ) → x ≡ Name b → 77 < b → Slot l.limits.states (length ls + 1) (drop ((b - 78) * l.size) second) × (at + needs l.limits.states (length ls + 1) ≤ length s)
   high_asks b e h = copy_asks second ((b - 78) * l.size) (high_slot b e h)
 
   pub brought_low : (b : ℕ) (t : List ℕ) → x ≡ Name b → b ≤ 77
-      → Written s t at (fills l.states (length ls + 1) (drop ((b - 65) * l.size) first)) (λ j. get_or first ((b - 65) * l.size + j) 0) → Brought l ls first second registers s t i x
+      → Written s t at (fills l.limits.states (length ls + 1) (drop ((b - 65) * l.size) first)) (λ j. get_or first ((b - 65) * l.size + j) 0) → Brought l ls first second registers s t i x
   brought_low b t e h W =
       from_slot first ((b - 65) * l.size) t (low_slot b e h)
-      (ap (λ z. slot_machine l.states k (choose z (λ _. drop ((b - 65) * l.size) first) (λ _. drop ((b - 78) * l.size) second))) (sym (le-leb b 77 h)) ∙ ap (operand_in l ls first second registers) (sym e)) W
+      (ap (λ z. slot_machine l.limits.states k (choose z (λ _. drop ((b - 65) * l.size) first) (λ _. drop ((b - 78) * l.size) second))) (sym (le-leb b 77 h)) ∙ ap (operand_in l ls first second registers) (sym e)) W
 
   pub brought_high : (b : ℕ) (t : List ℕ) → x ≡ Name b → 77 < b
-      → Written s t at (fills l.states (length ls + 1) (drop ((b - 78) * l.size) second)) (λ j. get_or second ((b - 78) * l.size + j) 0) → Brought l ls first second registers s t i x
+      → Written s t at (fills l.limits.states (length ls + 1) (drop ((b - 78) * l.size) second)) (λ j. get_or second ((b - 78) * l.size + j) 0) → Brought l ls first second registers s t i x
   brought_high b t e h W =
       from_slot second ((b - 78) * l.size) t (high_slot b e h)
-      (ap (λ z. slot_machine l.states k (choose z (λ _. drop ((b - 65) * l.size) first) (λ _. drop ((b - 78) * l.size) second))) (sym (lt-leb b 77 h)) ∙ ap (operand_in l ls first second registers) (sym e)) W
+      (ap (λ z. slot_machine l.limits.states k (choose z (λ _. drop ((b - 65) * l.size) first) (λ _. drop ((b - 78) * l.size) second))) (sym (lt-leb b 77 h)) ∙ ap (operand_in l ls first second registers) (sym e)) W
 
-  register_ready : (j : ℕ) → x ≡ Register j → (j < 3) × Slot l.states k (drop (j * l.size) registers)
+  register_ready : (j : register.Register) → x ≡ Register j → Slot l.limits.states k (drop (index_of j * l.size) registers)
   register_ready j e = subst (OperandReady l k first second registers) e B.ready
 
-  pub register_room : (j : ℕ) → x ≡ Register j → j * l.size + l.size ≤ length registers
-  register_room j e = omega (arith, mul-le-mul_right {m = suc j} {n = 3} l.size (register_ready j e).0, suc-mul j l.size, B.shelves.registers_long)
+  pub register_room : (j : register.Register) (n : ℕ) → n ≡ index_of j → n * l.size + l.size ≤ length registers
+  register_room j n q = rw q (omega (arith, mul-le-mul_right {m = suc (index_of j)} {n = 3} l.size (index_small j), suc-mul (index_of j) l.size, B.shelves.registers_long))
 
-  pub register_asks : (j : ℕ) → x ≡ Register j → Slot l.states (length ls + 1) (drop (j * l.size) registers) × (at + needs l.states (length ls + 1) ≤ length s)
-  register_asks j e = copy_asks registers (j * l.size) (register_ready j e).1
+  pub register_asks : (j : register.Register) (n : ℕ) → n ≡ index_of j → x ≡ Register j → Slot l.limits.states (length ls + 1) (drop (n * l.size) registers) × (at + needs l.limits.states (length ls + 1) ≤ length s)
+  register_asks j n q e = rw q (copy_asks registers (index_of j * l.size) (register_ready j e))
 
-  pub brought_register : (j : ℕ) (t : List ℕ) → x ≡ Register j
-      → Written s t at (fills l.states (length ls + 1) (drop (j * l.size) registers)) (λ n. get_or registers (j * l.size + n) 0) → Brought l ls first second registers s t i x
-  brought_register j t e W = from_slot registers (j * l.size) t (register_ready j e).1 (ap (operand_in l ls first second registers) (sym e)) W
+  pub brought_register : (j : register.Register) (n : ℕ) → n ≡ index_of j → (t : List ℕ) → x ≡ Register j
+      → Written s t at (fills l.limits.states (length ls + 1) (drop (n * l.size) registers)) (λ i. get_or registers (n * l.size + i) 0) → Brought l ls first second registers s t i x
+  brought_register j n q t e W = from_slot registers (index_of j * l.size) t (register_ready j e) (ap (operand_in l ls first second registers) (sym e)) (rw q at W)
 
 -- ---- the place of a letter, looked for from the front
+
+pub column_most : (ls : List ℕ) (b c : ℕ) → c ≡ column ls b → c ≤ length ls
+column_most ls b c e = omega (arith, find_le nat_test b ls)
 
 -- Not among the first i letters.
 pub record Passed (ls : List ℕ) (b i : ℕ) : Type 0 where
   pub inside : i ≤ length ls
   pub rest : i + column (drop i ls) b ≡ column ls b
-
-pub column_most : (ls : List ℕ) (b c : ℕ) → c ≡ column ls b → c ≤ length ls
-column_most ls b c e = omega (arith, find_le nat_test b ls)
 
 pub passed_none : (ls : List ℕ) (b : ℕ) → Passed ls b 0
 passed_none ls b = record { inside = omega arith; rest = zero_plus (column ls b) }
@@ -229,23 +232,23 @@ passed_all {ls} {b} {i} P h =
     the_end : length ls ≤ i → i ≡ length ls
     the_end h = omega (arith, P.inside)
 
--- ---- given machines by their numbers
+-- ---- given machines by their names
 
-module _ {most m : ℕ} {s : List ℕ} (g : ℕ) where
-  numbered : (n : ℕ) → g ≡ n → Holds most (suc m) s (given_of m n) → Holds most (suc m) s (given_of m g)
-  numbered n e h = subst (λ n. Holds most (suc m) s (given_of m n)) (sym e) h
+module _ {most m : ℕ} {s : List ℕ} (g : given.Given) where
+  named : (n : given.Given) → g ≡ n → Holds most (suc m) s (given_of m n) → Holds most (suc m) s (given_of m g)
+  named n e h = subst (λ n. Holds most (suc m) s (given_of m n)) (sym e) h
 
-  pub given_empty : g ≡ 0 → Holds most (suc m) s (empty_machine m) → Holds most (suc m) s (given_of m g)
-  given_empty e h = numbered 0 e h
+  pub given_empty : g ≡ Empty → Holds most (suc m) s (empty_machine m) → Holds most (suc m) s (given_of m g)
+  given_empty e h = named Empty e h
 
-  pub given_all : g ≡ 1 → Holds most (suc m) s (all_machine m) → Holds most (suc m) s (given_of m g)
-  given_all e h = numbered 1 e h
+  pub given_all : g ≡ All → Holds most (suc m) s (all_machine m) → Holds most (suc m) s (given_of m g)
+  given_all e h = named All e h
 
-  pub given_dot : g ≡ 2 → Holds most (suc m) s (dot_machine m) → Holds most (suc m) s (given_of m g)
-  given_dot e h = numbered 2 e h
+  pub given_dot : g ≡ Dot → Holds most (suc m) s (dot_machine m) → Holds most (suc m) s (given_of m g)
+  given_dot e h = named Dot e h
 
-pub given_mark : {most m : ℕ} {s : List ℕ} (g : ℕ) → g ≢ 0 → g ≢ 1 → g ≢ 2 → Holds most (suc m) s (mark_machine m) → Holds most (suc m) s (given_of m g)
-given_mark zero a b c h = absurd (a refl)
-given_mark (suc zero) a b c h = absurd (b refl)
-given_mark (suc (suc zero)) a b c h = absurd (c refl)
-given_mark (suc (suc (suc g))) a b c h = h
+pub given_mark : {most m : ℕ} {s : List ℕ} (g : given.Given) → g ≢ Empty → g ≢ All → g ≢ Dot → Holds most (suc m) s (mark_machine m) → Holds most (suc m) s (given_of m g)
+given_mark Empty a b c h = absurd (a refl)
+given_mark All a b c h = absurd (b refl)
+given_mark Dot a b c h = absurd (c refl)
+given_mark Mark a b c h = h

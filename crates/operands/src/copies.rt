@@ -10,11 +10,7 @@ pub fn copy(src: &[u8], from: usize, dst: &mut [u8], to: usize, most: usize, k: 
     ensures { Written dst.old dst.new to (fills most k (drop from src.now)) (λ i. get_or src.now (from + i) 0) }
 {
     let len = 2 + (most + slots::slot::number(src, from) * k);
-    let mut i = 0;
-    while i < len {
-        dst[to + i] = src[from + i];
-        i += 1;
-    }
+    dst[to..to + len].copy_from_slice(&src[from..from + len]);
 }
 
 // The slot that begins at a place, in the next one too; slots are `size` bytes long.
@@ -24,9 +20,5 @@ pub fn raise(s: &mut [u8], at: usize, size: usize, most: usize, k: usize)
     ensures { Written s.old s.new (at + size) (fills most k (drop at s.old)) (λ i. get_or s.old (at + i) 0) }
 {
     let len = 2 + (most + slots::slot::number(&s[..], at) * k);
-    let mut i = 0;
-    while i < len {
-        s[at + size + i] = s[at + i];
-        i += 1;
-    }
+    s.copy_within(at..at + len, at + size);
 }

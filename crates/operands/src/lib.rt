@@ -5,10 +5,11 @@
 pub mod copies;
 pub mod operand;
 
-// The most sets that a stage may make, the most states that a kept machine may have, and the bytes of a slot.
+use answers::Limits;
+
+// The limits of a stage, and the bytes of a slot.
 #[derive(Clone, Copy)]
 pub struct Layout {
-    pub sets: usize,
-    pub states: usize,
+    pub limits: Limits,
     pub size: usize,
 }

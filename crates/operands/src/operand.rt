@@ -6,35 +6,28 @@ ghost use Rattle.codes.specs.Codes.{given_of};
 ghost use Rattle.operands.specs.Operand.{Writable, Bringing, Brought};
 
 use crate::{Layout, copies};
-use codes::Source;
+use codes::{Given, Source};
 
 // The place of a letter in line 1; the number of the letters where it has none.
 fn column_of(letters: &[u8], b: u8) -> usize
     ensures { result ≡ column letters.now b }
 {
-    let mut i = 0;
-    while i < letters.len() {
-        if letters[i] == b {
-            return i;
-        }
-        i += 1;
-    }
-    i
+    letters
+        .iter()
+        .position(|x| *x == b)
+        .unwrap_or(letters.len())
 }
 
 // A given machine, written into a slot.
-fn given(g: u8, most: usize, m: usize, slot: &mut [u8])
+fn given(given: Given, most: usize, m: usize, slot: &mut [u8])
     requires { Writable most m slot.old }
-    ensures { Holds most (suc m) slot.new (given_of m g) }
+    ensures { Holds most (suc m) slot.new (given_of m given) }
 {
-    if g == 0 {
-        slots::given::empty(slot, most, m);
-    } else if g == 1 {
-        slots::given::all(slot, most, m);
-    } else if g == 2 {
-        slots::given::dot(slot, most, m);
-    } else {
-        slots::given::letter(slot, most, m, m);
+    match given {
+        Given::Empty => slots::given::empty(slot, most, m),
+        Given::All => slots::given::all(slot, most, m),
+        Given::Dot => slots::given::dot(slot, most, m),
+        Given::Mark => slots::given::letter(slot, most, m, m),
     }
 }
 
@@ -53,7 +46,7 @@ pub fn bring(
     ensures { Brought l letters.now first.now second.now registers.now stack.old stack.new i source }
 {
     let size = l.size;
-    let most = l.states;
+    let most = l.limits.states;
     let at = i * size;
     let end = at + size;
     let m = letters.len();
@@ -70,11 +63,11 @@ pub fn bring(
                 copies::copy(second, (b - 78) as usize * size, stack, at, most, k);
             }
         }
-        Source::Given(g) => {
-            given(g, most, m, &mut stack[at..end]);
+        Source::Given(source) => {
+            given(source, most, m, &mut stack[at..end]);
         }
-        Source::Register(j) => {
-            copies::copy(registers, j * size, stack, at, most, k);
+        Source::Register(register) => {
+            copies::copy(registers, register.index() * size, stack, at, most, k);
         }
     }
 }

@@ -1,5 +1,5 @@
 -- A machine kept in a slot among others: what is asked of the buffers, what the slot then holds, and that nothing else is changed.
-use Rattle.std.specs.Prelude.{◌≡◌, ◌⊎◌, ◌≢◌, List, ℕ, ◌+◌, ◌*◌, ◌/◌, ◌%◌, ◌≤◌, ◌<◌, length, drop, set}
+use Rattle.std.specs.Prelude.{◌≡◌, ◌⊎◌, ◌≢◌, List, ℕ, ◌+◌, ◌*◌, ◌/◌, ◌%◌, ◌≤◌, ◌<◌, length, drop, set, Option, Some, None, refl}
 use Rattle.std.proofs.Math.Path.{sym, ap, ap₂}
 use Rattle.std.proofs.Common.{◌∙◌, inl, inr, mul-le-mul_right, arith, get_or-drop}
 use Rattle.std.proofs.Math.Nat.{div-add-mod'}
@@ -9,29 +9,27 @@ use Rattle.automata.specs.Machine.{Machine, size}
 use Rattle.automata.specs.Smallest.{smallest}
 use Rattle.automata.specs.Table.{table_machine, ClosedTable}
 use Rattle.rows.specs.Rows.{number_at}
-use Rattle.minimise.specs.declared.Kept.{Kept}
-use Rattle.minimise.specs.declared.Kept.TheVariants.{States, TooMany}
+use Rattle.entries.specs.declared.table.Table.{Table}
 use Rattle.minimise.specs.Minimised.{Minimised}
 use Rattle.minimise.specs.MinimisedLaws.{Found, kept_many}
 use Rattle.slots.specs.Slot.{slot_machine, Holds, Written, table_same, number_drop}
 use Rattle.slots.specs.Aside.{Aside}
 
--- A table of n states over k columns, room for the classes, and room for a slot at a place.
-pub record Keepable (base n k most at : ℕ) (t w s : List ℕ) : Type 0 where
-  pub closed : ClosedTable base n k t
-  pub few : n < 65536
+-- A table, room for the classes, and room for a slot at a place.
+pub record Keepable (T : Table) (most at : ℕ) (w s : List ℕ) : Type 0 where
+  pub few : T.states < 65536
   pub some : 1 ≤ most
   pub bytes : most ≤ 256
-  pub arrays : n + (n + n) ≤ length w
-  pub order : n + n + most ≤ length w
-  pub slot : at + 2 + (most + most * k) ≤ length s
+  pub arrays : T.states + (T.states + T.states) ≤ length w
+  pub order : T.states + T.states + most ≤ length w
+  pub slot : at + 2 + (most + most * T.columns) ≤ length s
 
 -- The slot holds the smallest machine of M, which has m states; or that has more than so many.
-abbrev pub KeptIn : ℕ → ℕ → ℕ → Machine → List ℕ → Kept → Type 0
-KeptIn k most at M s (States m) = Holds most k (drop at s) (smallest k M) × (size (smallest k M) ≡ m) × (m ≤ most)
-KeptIn k most at M s TooMany = most < size (smallest k M)
+abbrev pub KeptIn : ℕ → ℕ → ℕ → Machine → List ℕ → Option ℕ → Type 0
+KeptIn k most at M s (Some m) = Holds most k (drop at s) (smallest k M) × (size (smallest k M) ≡ m) × (m ≤ most)
+KeptIn k most at M s None = most < size (smallest k M)
 
-pub record KeptAt (k most at : ℕ) (M : Machine) (s t : List ℕ) (r : Kept) : Type 0 where
+pub record KeptAt (k most at : ℕ) (M : Machine) (s t : List ℕ) (r : Option ℕ) : Type 0 where
   pub answer : KeptIn k most at M t r
   pub aside : Aside at (2 + (most + most * k)) s t
 
@@ -46,8 +44,8 @@ module _ (k most at : ℕ) (M : Machine) (s t ys : List ℕ) (W : Written s t (a
       out j (inl h) = inl (omega arith)
       out j (inr h) = inr (omega arith)
 
-  pub keep_many : (r : Kept) → Minimised k most M ys r → r ≡ TooMany → KeptAt k most at M s t TooMany
-  keep_many r R e = record { answer = kept_many R e; aside = part_aside }
+  pub keep_many : Minimised k most M ys None → KeptAt k most at M s t None
+  keep_many R = record { answer = kept_many R refl; aside = part_aside }
 
   module _ (m : ℕ) (F : Found k most M ys m) where
     -- with the number of states in front
@@ -83,7 +81,7 @@ module _ (k most at : ℕ) (M : Machine) (s t ys : List ℕ) (W : Written s t (a
     unfolding slot_machine
     holds = record { slot = record { closed = rw count table.0 }; machine = ap (λ n. table_machine most n k (drop 2 (drop at numbered))) count ∙ sym table.1 ∙ F.table }
 
-    pub keep_found : KeptAt k most at M s (set (set t at (m % 256)) (at + 1) (m / 256)) (States m)
+    pub keep_found : KeptAt k most at M s (set (set t at (m % 256)) (at + 1) (m / 256)) (Some m)
     unfolding numbered
     keep_found = record {
       answer = (holds, F.states, F.within);

@@ -1,19 +1,22 @@
 -- Partition refinement column by column, and that it says whether two states of the machine are equivalent.
 use mathlib.Core.Path.{◌≡◌, refl, sym, ap, ◌∙◌}
 use mathlib.Core.Bool.{true, false, false≢true}
-use mathlib.Core.Logic.{inl, inr, ◌≢◌}
+use mathlib.Core.Logic.{◌⊎◌, inl, inr, ◌≢◌}
 use mathlib.Core.List.{List, [], ◌∷◌}
 use Prim.Native.Nat.{ℕ, ◌+◌, ◌*◌, ◌≤◌, ◌<◌}
 use native.Mathlib.Nat.{le_refl, not-suc-le-zero}
 use native.Mathlib.Omega.{arith}
 use lib.ListN.{length, get_or, replicate}
 use lib.Dec.{eqb}
-use Rattle.automata.specs.Basics.{LtCases, lt_cases}
+use Rattle.std.proofs.Common.{nat_eq}
+use Rattle.automata.specs.Booleans.{bool_cases}
+use Rattle.automata.specs.Decide.{contradict}
+use Rattle.automata.specs.Basics.{LtCases, lt_cases, nat_test}
 use Rattle.automata.specs.Machine.{Machine, Equivalent, Reduced}
 use Rattle.automata.specs.Refinement.{Settled, settled_equivalent, coarse_apart}
 use Rattle.moves.specs.Holds.{Table, Holds, AcceptKeys}
 use Rattle.sweeps.specs.Change.{Alike}
-use Rattle.splits.specs.Splits.{Named, owned, Split, Columns, Refined}
+use Rattle.splits.specs.Splits.{Named, owned, Split, Refined}
 use Rattle.partition.specs.Classes.{ReducedExactly, Classed, Stretch, ClassesExactly}
 use Rattle.splits.proofs.ClassLaws.{none_linked, owned_le, owned_all, owned_some, owned_mono, owned_same}
 use Rattle.moves.specs.TableLaws.{move_inside}
@@ -49,9 +52,6 @@ pub refined_low : (m n c : ℕ) (bs cs ns : List ℕ) (r : ℕ) → Refined m bs
 refined_low m n c bs cs ns r u = omega (arith, u.count, owned_le ns n)
 
 module _ (m : ℕ) (ms bs : List ℕ) (t : Table 120 m ms bs) where
-  pub columns_of : (n c : ℕ) → n ≡ length ms → c < m → Columns m n c bs
-  columns_of n c e h = rw e (record { some = t.some; most = t.states_most; column = h; long = t.long; inside = t.inside })
-
   module _ (cs : List ℕ) (k before c : ℕ) (u : ClassesUpto m ms bs cs k before c) where
     refined_keeps : (ns : List ℕ) (r : ℕ) → Refined m bs (length ms) c cs ns r → (p : ℕ) → p < length ms → get_or cs p 0 ≡ p → get_or ns p 0 ≡ p
     refined_keeps ns r s p a x =
@@ -64,7 +64,7 @@ module _ (m : ℕ) (ms bs : List ℕ) (t : Table 120 m ms bs) where
     pub refined_grows : (n : ℕ) (ns : List ℕ) (r : ℕ) → n ≡ length ms → Refined m bs n c cs ns r → k ≤ r
     refined_grows n ns r e s₀ = let s : Refined m bs (length ms) c cs ns r = rw e at s₀ in omega (arith, u.count, s.count, owned_mono cs ns (length ms) (refined_keeps ns r s))
 
-    -- one column more
+    -- one column more, which splits no class,
     pub classes_next : (n : ℕ) (ns : List ℕ) (r : ℕ) → n ≡ length ms → c < m → Refined m bs n c cs ns r → ClassesUpto m ms bs ns r before (c + 1)
     classes_next n ns r e h s₀ = record {
       long = s.long;
@@ -101,10 +101,6 @@ module _ (m : ℕ) (ms bs : List ℕ) (t : Table 120 m ms bs) where
             ∙ u.quiet (omega (arith, u.more, grows)) p q i a b z.0 (sym (same x p a) ∙ y ∙ same x q b) ∙ sym (same x (get_or bs (q * m + i) 0) (move_inside _ _ _ _ t q i b (omega arith)))
         still x p q i a b v y (inr z) = let j : i ≡ c = omega arith in
             rw j (same x (get_or bs (p * m + c) 0) (move_inside _ _ _ _ t p c a h) ∙ (s.parts p q a b y).1 ∙ sym (same x (get_or bs (q * m + c) 0) (move_inside _ _ _ _ t q c b h)))
-
-    -- the column splits no class,
-    pub classes_on : (n : ℕ) (ns : List ℕ) (r : ℕ) → n ≡ length ms → c < m → Refined m bs n c cs ns r → r ≡ k → ClassesUpto m ms bs ns k before (c + 1)
-    classes_on n ns r e h s x = rw (← x) (classes_next n ns r e h s)
 
     -- or it does, and the same column comes again.
     pub classes_stay : (n : ℕ) (ns : List ℕ) (r : ℕ) → n ≡ length ms → c < m → Refined m bs n c cs ns r → ClassesUpto m ms bs ns r before c
@@ -217,6 +213,13 @@ module _ (m : ℕ) (ms bs cs : List ℕ) (k : ℕ) (u : ClassesExactly m ms bs c
           let q : ℕ = get_or cs p 0 in
           let c' : q < length ms = omega (arith, u.named.low p b) in
           d (R q p (rw H.states c') (rw H.states b) (u.sound M H q p c' b (u.named.own p b)))
+
+  pub reduced_exactly : ReducedExactly m ms bs (nat_eq k (length ms))
+  reduced_exactly = go (bool_cases (nat_eq k (length ms)))
+    where
+      go : (nat_eq k (length ms) ≡ true) ⊎ (nat_eq k (length ms) ≡ false) → ReducedExactly m ms bs (nat_eq k (length ms))
+      go (inl e) = rw e (reduced_yes (nat_test.sound k (length ms) e))
+      go (inr e) = rw e (reduced_no (λ x. contradict (rw x (nat_test.whole (length ms))) e))
 
 -- ---- the split by how far a change is
 

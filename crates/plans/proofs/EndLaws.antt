@@ -26,6 +26,3 @@ module _ (s : List ℕ) (from i : ℕ) (p : Passed s from i) where
 
   pub ends_here : i < length s → get_or s i 0 ≡ line_end → LineEnd s from i
   ends_here b e = record { low = p.low; most = omega arith; before = p.before; end = λ _. e }
-
-  pub ends_last : i ≤ length s → length s ≤ i → LineEnd s from i
-  ends_last b f = record { low = p.low; most = b; before = p.before; end = λ h. absurd (omega arith) }

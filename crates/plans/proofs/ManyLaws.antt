@@ -1,7 +1,5 @@
 -- Plan after plan: what was judged so far, one plan more, and the end.
 use mathlib.Core.Path.{◌≡◌, refl, sym, ap, ◌∙◌}
-use mathlib.Core.Bool.{true, false}
-use mathlib.Core.Logic.{◌⊎◌, inl, inr}
 use mathlib.Core.List.{List, [], ◌∷◌, ◌++◌}
 use Prim.Native.Nat.{ℕ, zero, suc, ◌+◌, ◌-◌, ◌*◌, ◌≤◌, ◌<◌}
 use native.Mathlib.Numerals.{add-one}
@@ -10,20 +8,21 @@ use mir.Syntax.{w64}
 use mir.Val.{Fits}
 use lib.ListN.{length, take, drop, set, length-append, length-take, length-drop, drop_of_length-le}
 use lib.Seq.{sets, sets-eq, take_at, drop_at, drop-drop, length-take-le}
-use lib.Dec.{eqb}
-use Rattle.automata.specs.Booleans.{bool_cases}
 use Rattle.automata.specs.Format.{narrow}
 use Rattle.card.specs.Load.{load_test}
 use Rattle.card.specs.Verdict.{Verdict}
 use Rattle.card.specs.Reply.{Reply}
 use Rattle.card.specs.Judge.{judge}
-use Rattle.card.specs.Layout.{letter_count, state_count}
-use Rattle.card.specs.Answer.{reply_numbers, holds, rejected, load}
-use Rattle.run.specs.declared.Answer.{Answer}
+use Rattle.card.specs.Answer.{reply_numbers, rejected, load}
+use Rattle.std.specs.Prelude.{Result, Ok, Err}
+use Rattle.loading.specs.declared.Fault.{Fault}
+use Rattle.loading.specs.Faults.{fault_number}
+use Rattle.run.specs.declared.Verdict.{Verdict as Verdict'}
+use Rattle.run.specs.declared.UnknownLetter.{UnknownLetter}
 use Rattle.run.specs.Reading.{reply_of}
+use Rattle.board.proofs.EntryLaws.{rejected_test}
 use Rattle.plans.specs.Plans.{plans_of, consumed, line_of, LineEnd}
 use Rattle.plans.proofs.PlansLaws.{consumed_next, plans_line, plans_end, consumed_line, consumed_end}
-use Rattle.plans.specs.declared.Many.TheVariants.{Judged, Refused}
 use Rattle.plans.specs.Many.{three, replies_to, judged_count, many_numbers, many_replies, JudgesLines}
 
 -- ---- lists
@@ -54,7 +53,7 @@ pub three_sets : (l : List ℕ) (at x y z : ℕ) → set (set (set l at x) (at +
 three_sets l at x y z = let p : at + 1 ≡ suc at = omega arith in let q : at + 2 ≡ suc (suc at) = omega arith in rw (p, q)
 
 -- the answer a is read as r
-pub sets_as : (old new : List ℕ) (at : ℕ) (a : Answer) (r : Reply Verdict) → new ≡ sets old at (three (reply_numbers r)) → r ≡ reply_of a → new ≡ sets old at (three (reply_numbers (reply_of a)))
+pub sets_as : (old new : List ℕ) (at : ℕ) (a : Result Verdict' UnknownLetter) (r : Reply Verdict) → new ≡ sets old at (three (reply_numbers r)) → r ≡ reply_of a → new ≡ sets old at (three (reply_numbers (reply_of a)))
 sets_as old new at a r p e = p ∙ ap (λ x. sets old at (three (reply_numbers x))) e
 
 -- a line is no longer than the whole
@@ -111,7 +110,7 @@ module _ (c s old : List ℕ) where
     upto_count f = record { fits = omega (arith, u.place, f.fits) }
 
     -- one plan more, which begins at `from` and ends at e
-    module _ (b : from < length s) (e : ℕ) (l : LineEnd s from e) (a : Answer) (j : reply_of a ≡ judge narrow c (line_of s from e)) (h : at + 3 ≤ length old)
+    module _ (b : from < length s) (e : ℕ) (l : LineEnd s from e) (a : Result Verdict' UnknownLetter) (j : reply_of a ≡ judge narrow c (line_of s from e)) (h : at + 3 ≤ length old)
         (new' : List ℕ) (w : new' ≡ sets new at (three (reply_numbers (reply_of a)))) where
       module _ (next : ℕ) (low : from ≤ next) (in' : next ≤ length s) (p : plans_of (drop from s) ≡ line_of s from e ∷ plans_of (drop next s)) (g : consumed 1 (drop from s) ≡ next - from) where
         head : drop k (plans_of s) ≡ line_of s from e ∷ plans_of (drop next s)
@@ -152,7 +151,7 @@ module _ (c s old : List ℕ) where
     -- ---- the end
 
     module _ (loads : load_test narrow c ≡ 0) where
-      judges : k ≡ judged_count s (length old) → JudgesLines c s old new (Judged k from)
+      judges : k ≡ judged_count s (length old) → JudgesLines c s old new (Ok (record { plans = k; bytes = from }))
       unfolding many_numbers many_replies
       judges e = record {
         answer = rw loads (λ i. record { number = 0; first = e i; second = (u.used ∙ ap (λ x. consumed x s) e) i });
@@ -160,19 +159,15 @@ module _ (c s old : List ℕ) where
       }
 
       -- no plan is left
-      pub judges_all : length s ≤ from → JudgesLines c s old new (Judged k from)
+      pub judges_all : length s ≤ from → JudgesLines c s old new (Ok (record { plans = k; bytes = from }))
       judges_all h = judges (omega (arith, u.place, u.room, ap length (sym u.rest ∙ ap plans_of (drop_of_length-le s {i = from} h)), length-drop k (plans_of s), u.count))
 
       -- or no room
-      pub judges_full : length old - at < 3 → JudgesLines c s old new (Judged k from)
+      pub judges_full : length old - at < 3 → JudgesLines c s old new (Ok (record { plans = k; bytes = from }))
       judges_full h = judges (omega (arith, u.place, u.room, u.count))
 
 -- the card is refused
-pub judges_refused : (c s old : List ℕ) (n : ℕ) → rejected n ≡ load narrow c → JudgesLines c s old old (Refused n)
-unfolding load many_numbers many_replies
-judges_refused c s old n e = go (bool_cases (eqb (load_test narrow c) 0))
-  where
-    go : (eqb (load_test narrow c) 0 ≡ true) ⊎ (eqb (load_test narrow c) 0 ≡ false) → JudgesLines c s old old (Refused n)
-    go (inl t) = let f : rejected n ≡ holds (letter_count narrow c) (state_count narrow c) = rw t at e in absurd (let z : ◌≡◌ {A = ℕ} 0 1 = cc in omega arith)
-    go (inr t) = let f : rejected n ≡ rejected (load_test narrow c) = rw t at e in let z : n ≡ load_test narrow c = cc in
-        record { answer = rw t (λ i. record { number = z i; first = 0; second = 0 }); replies = rw t }
+pub judges_refused : (c s old : List ℕ) (f : Fault) → rejected (fault_number f) ≡ load narrow c → JudgesLines c s old old (Err f)
+unfolding many_numbers many_replies
+judges_refused c s old f e = let (z, t) = rejected_test c (fault_number f) e in
+    record { answer = rw t (λ i. record { number = sym z i; first = 0; second = 0 }); replies = rw t }

@@ -1,13 +1,14 @@
 -- Judging many plans on one card: the card is tested once, and each plan's answer is that of judging it alone.
-use Rattle.std.specs.Prelude.{◌≡◌, List, [], ◌∷◌, ◌++◌, ℕ, ◌*◌, ◌/◌, min, length, take, drop, eqb}
+use Rattle.std.specs.Prelude.{Result, Ok, Err, ◌≡◌, List, [], ◌∷◌, ◌++◌, ℕ, ◌*◌, ◌/◌, min, length, take, drop, eqb}
 use Rattle.automata.specs.Booleans.{choose}
 use Rattle.automata.specs.Format.{narrow}
 use Rattle.card.specs.Load.{load_test}
 use Rattle.card.specs.Judge.{judge}
 use Rattle.card.specs.Answer.{Numbers, reply_numbers}
 use Rattle.plans.specs.Plans.{plans_of, consumed}
-use Rattle.plans.specs.declared.Many.{Many}
-use Rattle.plans.specs.declared.Many.TheVariants.{Judged, Refused}
+use Rattle.loading.specs.declared.Fault.{Fault}
+use Rattle.loading.specs.Faults.{fault_number}
+use Rattle.plans.specs.declared.Judged.{Judged}
 
 abbrev pub three : Numbers → List ℕ
 three n = n.number ∷ n.first ∷ n.second ∷ []
@@ -37,10 +38,10 @@ many_replies c s old = if_loads c (let k = judged_count s (length old) in replie
 
 -- ---- the code's answer
 
-abbrev pub many_of : Many → Numbers
-many_of (Judged plans bytes) = record { number = 0; first = plans; second = bytes }
-many_of (Refused number) = record { number = number; first = 0; second = 0 }
+abbrev pub many_of : Result Judged Fault → Numbers
+many_of (Ok judged) = record { number = 0; first = judged.plans; second = judged.bytes }
+many_of (Err fault) = record { number = fault_number fault; first = 0; second = 0 }
 
-pub record JudgesLines (c s old new : List ℕ) (r : Many) : Type 0 where
+pub record JudgesLines (c s old new : List ℕ) (r : Result Judged Fault) : Type 0 where
   pub answer : many_of r ≡ many_numbers c s (length old)
   pub replies : new ≡ many_replies c s old

@@ -1,49 +1,36 @@
-// What `view_run` and `delivery_run` print, on standard output: a word with a number behind it, a verdict, a board's reply, and the answers of the whole way.
+// What `view_run` and `delivery_run` print, on standard output: a board's reply, and the answers of the whole way.
 #![tactic(auto)]
 
-use handing::{BoardAnswer, Delivered};
-use run::{Answer, Verdict};
+use board::Refusal;
+use handing::{Delivered, OnCard};
+use loading::Fault;
+use run::Verdict;
 use std::io;
 
-pub fn word(rt: &impl Print, text: &[u8]) -> io::Result<()> {
-    rt.write_all(text)
-}
-
-pub fn number(rt: &impl Print, text: &[u8], n: usize) -> io::Result<()> {
-    word(rt, text)?;
-    rt.print(n)
-}
-
-fn verdict(rt: &impl Print, found: Verdict) -> io::Result<()> {
-    match found {
-        Verdict::Allowed => word(rt, b"allowed"),
-        Verdict::Unfinished(owed) => number(rt, b"unfinished ", owed),
-        Verdict::Hopeless(k) => number(rt, b"hopeless ", k),
-    }
-}
-
-pub fn reply(rt: &impl Print, answer: Answer) -> io::Result<()> {
+pub fn reply(rt: &impl Print, answer: Result<Verdict, Refusal>) -> io::Result<()> {
     match answer {
-        Answer::Judged(found) => verdict(rt, found)?,
-        Answer::Refused(n, before) => {
-            number(rt, b"refused ", n as usize)?;
-            number(rt, b" after ", before)?;
+        Ok(Verdict::Allowed) => println!(rt; "allowed"),
+        Ok(Verdict::Unfinished(owed)) => println!(rt; "unfinished {owed}"),
+        Ok(Verdict::Hopeless(k)) => println!(rt; "hopeless {k}"),
+        Err(refusal) => {
+            let number = refusal.number();
+            let before = refusal.before();
+            println!(rt; "refused {number} after {before}")
         }
     }
-    word(rt, b"\n")
 }
 
-fn board(rt: &impl Print, answer: BoardAnswer) -> io::Result<()> {
+fn board(rt: &impl Print, answer: Result<OnCard, Fault>) -> io::Result<()> {
     match answer {
-        BoardAnswer::Judged(m, n, judged) => {
-            number(rt, b" letters ", m)?;
-            number(rt, b" states ", n)?;
-            word(rt, b": ")?;
-            reply(rt, judged)
+        Ok(on_card) => {
+            let letters = on_card.counts.letters;
+            let states = on_card.counts.states;
+            print!(rt; " letters {letters} states {states}: ")?;
+            reply(rt, on_card.answer)
         }
-        BoardAnswer::NotLoaded(n) => {
-            number(rt, b" not loaded ", n as usize)?;
-            word(rt, b"\n")
+        Err(fault) => {
+            let number = fault.number();
+            println!(rt; " not loaded {number}")
         }
     }
 }
@@ -51,14 +38,9 @@ fn board(rt: &impl Print, answer: BoardAnswer) -> io::Result<()> {
 pub fn delivered(rt: &impl Print, answer: Delivered) -> io::Result<()> {
     match answer {
         Delivered::Card(length, peak, answered) => {
-            number(rt, b"length ", length)?;
-            number(rt, b" peak ", peak)?;
+            print!(rt; "length {length} peak {peak}")?;
             board(rt, answered)
         }
-        Delivered::Refused(n, line) => {
-            number(rt, b"refused ", n as usize)?;
-            number(rt, b" line ", line)?;
-            word(rt, b"\n")
-        }
+        Delivered::Refused(number, line) => println!(rt; "refused {number} line {line}"),
     }
 }

@@ -1,2 +1,2 @@
--- The book in the making behind each line, what the reader says of a line, and what the book says at its end.
+-- The book in the making behind each line, and what the reader says of a line.
 pub mod Progress

@@ -1,16 +1,17 @@
--- The book in the making, as far as it is no machine: behind line 1, behind a definition and a rule; what the reader says of a line, and what the book says
--- behind its last line.
-use Rattle.std.specs.Prelude.{◌≡◌, true, false, [], ℕ, suc, max}
+-- The book in the making, as far as it is no machine: behind line 1, behind a definition and a rule; and what the reader says of a line.
+use Rattle.std.specs.Prelude.{◌≡◌, [], Result, Ok, Err, ℕ, suc, max}
 use Rattle.std.proofs.Common.{sym, subst}
 use Rattle.reader.specs.Names.{Holds, More}
-use Rattle.reader.specs.declared.line.LineAnswer.{LineAnswer}
-use Rattle.reader.specs.declared.line.LineAnswer.TheVariants as answer
+use Rattle.book.specs.Refusals.{refusal_number}
+use Rattle.book.specs.declared.refusal.Refusal as refused
+use Rattle.forms.specs.declared.Code.{Code}
+use Rattle.forms.specs.declared.Code.TheVariants.{Define, Rule}
+use Rattle.reader.specs.declared.line.Line.{Line}
 use Rattle.kept.specs.declared.Place.{Place}
 use Rattle.kept.specs.declared.Place.TheVariants as place
 use Rattle.progress.specs.declared.Book.{Book}
-use Rattle.progress.specs.declared.Told.{Told}
-use Rattle.progress.specs.declared.Ended.{Ended}
-use Rattle.progress.specs.declared.Ended.TheVariants.{Done}
+use Rattle.progress.specs.declared.Read.{Read}
+use Rattle.compiler.specs.declared.Refusal.{Refusal}
 
 -- The book behind line 1.
 pub record Starts (next : ℕ) (r : Book) : Type 0 where
@@ -40,12 +41,11 @@ Behind place.Book b next p r = Ruled b next p r
 pub behind_at : (b : Book) (next p : ℕ) (r : Book) (pl q : Place) → pl ≡ q → Behind q b next p r → Behind pl b next p r
 behind_at b next p r pl q e U = subst (λ q. Behind q b next p r) (sym e) U
 
--- what the reader says of a line
-abbrev pub tell_of : LineAnswer → Told
-tell_of (answer.Define x len next) = record { on = true; number = 0; place = place.Name x; len = len; next = next }
-tell_of (answer.Rule len next) = record { on = true; number = 0; place = place.Book; len = len; next = next }
-tell_of (answer.Refused n) = record { on = false; number = n; place = place.Book; len = 0; next = 0 }
+-- what the reader says of the line of a number
+abbrev pub tell_code : Code → ℕ → Read
+tell_code (Define x len) next = record { place = place.Name x; len = len; next = next }
+tell_code (Rule len) next = record { place = place.Book; len = len; next = next }
 
--- What the book says behind its last line, with a rule or without: the most sets that a stage made.
-abbrev pub end_of : Book → Ended
-end_of b = Done b.peak
+abbrev pub tell_of : Result Line refused.Refusal → ℕ → Result Read Refusal
+tell_of (Ok n) line = Ok (tell_code n.code n.next)
+tell_of (Err r) line = Err (record { number = refusal_number r; line = line })

@@ -1,16 +1,19 @@
 // A book in the making, as far as it is no machine: where the next line starts and its number, the names defined so far, and the most sets that a
-// stage made; and what a line and the end of the text say of it. These are parts: callers give a line's number that fits.
+// stage made; and what the reader says of a line. These are parts: callers give a line's number that fits.
 
 #![tactic(auto)]
 
-ghost use Rattle.std.specs.Prelude.{◌≡◌, true, false};
+ghost use Rattle.std.specs.Prelude.{◌≡◌, true};
 ghost use Prim.Native.Nat.{◌<◌};
 ghost use Rattle.book.specs.Kind.{is_name};
 ghost use Rattle.kept.specs.Stored.{Right};
-ghost use Rattle.progress.specs.Progress.{Defined, Ruled, Behind, Starts, tell_of, end_of};
+ghost use Rattle.progress.specs.Progress.{Defined, Ruled, Behind, Starts, tell_of};
 
+use book::refusal;
+use compiler::Refusal;
+use forms::Code;
 use kept::Place;
-use reader::line::LineAnswer;
+use reader::line::Line;
 use reader::names::Names;
 
 #[derive(Clone, Copy)]
@@ -19,22 +22,6 @@ pub struct Book {
     pub line: usize,
     pub names: Names,
     pub peak: usize,
-}
-
-// The most sets that a stage made, or the number of a refusal with its line.
-#[derive(Clone, Copy)]
-pub enum Ended {
-    Done(usize),
-    Refused(u8, usize),
-}
-
-fn greater(a: usize, b: usize) -> usize
-    ensures { result ≡ Prim.Native.Nat.max a b }
-{
-    if a < b {
-        return b;
-    }
-    a
 }
 
 impl Book {
@@ -61,7 +48,7 @@ impl Book {
             at: next,
             line: self.line + 1,
             names: names.with(name),
-            peak: greater(self.peak, peak),
+            peak: self.peak.max(peak),
         }
     }
 
@@ -70,12 +57,11 @@ impl Book {
         requires { self.line < 65536 }
         ensures { Ruled self next peak result }
     {
-        let names = self.names;
         Book {
             at: next,
             line: self.line + 1,
-            names: names,
-            peak: greater(self.peak, peak),
+            names: self.names,
+            peak: self.peak.max(peak),
         }
     }
 
@@ -89,80 +75,36 @@ impl Book {
             Place::Book => self.with_rule(next, peak),
         }
     }
-
-    // What the book says behind its last line.
-    pub fn end(self) -> Ended
-        ensures { result ≡ end_of self }
-    {
-        Ended::Done(self.peak)
-    }
 }
 
-// What the reader says of a line: whether it was read; then where its machine is kept, the length of its program and where the next line starts; else
-// the number of a refusal.
+// A line that was read: where its machine is kept, the length of its program and where the next line starts.
 #[derive(Clone, Copy)]
-pub struct Told {
-    pub on: bool,
-    pub number: u8,
+pub struct Read {
     pub place: Place,
     pub len: usize,
     pub next: usize,
 }
 
-pub fn tell(answer: LineAnswer) -> Told
-    ensures { result ≡ tell_of answer }
+// What the reader says of the line of a number.
+pub fn tell(answer: Result<Line, refusal::Refusal>, line: usize) -> Result<Read, Refusal>
+    ensures { result ≡ tell_of answer line }
 {
     match answer {
-        LineAnswer::Define(name, len, next) => Told {
-            on: true,
-            number: 0,
-            place: Place::Name(name),
-            len: len,
-            next: next,
+        Ok(read) => match read.code {
+            Code::Define { name, length } => Ok(Read {
+                place: Place::Name(name),
+                len: length,
+                next: read.next,
+            }),
+            Code::Rule { length } => Ok(Read {
+                place: Place::Book,
+                len: length,
+                next: read.next,
+            }),
         },
-        LineAnswer::Rule(len, next) => Told {
-            on: true,
-            number: 0,
-            place: Place::Book,
-            len: len,
-            next: next,
-        },
-        LineAnswer::Refused(n) => Told {
-            on: false,
-            number: n,
-            place: Place::Book,
-            len: 0,
-            next: 0,
-        },
-    }
-}
-
-// Whether the book goes on; then the book behind the line, else the number of a refusal.
-#[derive(Clone, Copy)]
-pub struct Next {
-    pub on: bool,
-    pub number: u8,
-    pub book: Book,
-}
-
-pub fn goes(place: Place, book: Book, next: usize, peak: usize) -> Next
-    requires { Right place × (book.line < 65536) }
-    ensures { (result.on ≡ true) × Behind place book next peak result.book }
-{
-    let behind = book.behind(place, next, peak);
-    Next {
-        on: true,
-        number: 0,
-        book: behind,
-    }
-}
-
-pub fn stops(book: Book, n: u8) -> Next
-    ensures { (result.on ≡ false) × (result.number ≡ n) }
-{
-    Next {
-        on: false,
-        number: n,
-        book: book,
+        Err(refusal) => Err(Refusal {
+            number: refusal.number(),
+            line,
+        }),
     }
 }

@@ -1,12 +1,12 @@
 -- Laws of a later line's tests: 6 on a line's program, and the order of 3 to 7.
 use mathlib.Core.Path.{◌≡◌, refl, sym, ap, ◌∙◌, subst}
-use mathlib.Core.Bool.{Bool, true, false, ◌&&◌, true≢false}
+use mathlib.Core.Bool.{Bool, true, false, ◌&&◌}
 use mathlib.Core.Logic.{inl, inr}
 use mathlib.Core.List.{List, [], ◌∷◌, ◌++◌, append_assoc, append-nil}
 use Prim.Native.Nat.{ℕ, ◌+◌, ◌*◌, ◌-◌, ◌≤◌, ◌<◌}
 use native.Mathlib.Numerals.{add-one}
 use native.Mathlib.Omega.{arith}
-use borrow.Author.Tests.{eq-eqb, ne_eqb}
+use borrow.Author.Tests.{ne_eqb}
 use lib.Dec.{ltb}
 use lib.ListN.{length, take, drop, get_or, length-take, length-drop}
 use Rattle.automata.specs.Booleans.{choose, and_true}
@@ -31,9 +31,11 @@ use Rattle.reader.specs.Answers.{program_length, ReadsLine, ReadsNext}
 use Rattle.reader.specs.declared.names.Names.{Names}
 use Rattle.forms.specs.declared.Code.{Code}
 use Rattle.forms.specs.declared.Code as code
-use Rattle.reader.specs.declared.line.Answer as answer
-use Rattle.reader.specs.declared.line.Answer.{Answer}
-use Rattle.reader.specs.declared.line.LineAnswer as line_answer
+use Rattle.std.specs.Prelude.{Ok, Err, Some}
+use Rattle.book.specs.Refusals.{refusal_number}
+use Rattle.book.specs.declared.refusal.Refusal.{Refusal}
+use Rattle.book.specs.declared.refusal.Refusal.TheVariants.{MalformedLine, UndefinedSymbol, DuplicateName}
+use Rattle.scans.proofs.LineLaws.{refused_not}
 
 -- ---- 6, on the code
 
@@ -85,67 +87,63 @@ module _ (ls ns : List ℕ) where
   rule_known : (n : ℕ) (kind : RuleKind) (p : Expr) (cs : List (Expr × Expr)) → FormHeld n (rule kind p cs) → code_known ls ns (program (rule kind p cs)) ≡ known ls ns p && all_known ls ns cs
   rule_known n kind p cs (a, s, x) = rw (known_code (pattern_of kind p) a.leaves, pattern_known ls ns kind p) (ap (λ t. known ls ns p && t) (set_known n kind cs s))
 
--- a part of the buffer that starts at its first byte
-first_part : (o : List ℕ) (len : ℕ) → take (len - 0) (drop 0 o) ≡ take len o
-first_part o len = let z : len - 0 ≡ len = omega arith in rw z
-
 -- what is known of the bytes up to the program's length, as it is of the form's own length
-pub program_known : (o' : List ℕ) {ls : List ℕ} {f : Names} {r : Bool} {len : ℕ} {x y : Code} → len ≡ program_length x → x ≡ y → Knows (take (len - 0) (drop 0 o')) ls f r
-    → Knows (take (program_length y - 0) (drop 0 o')) ls f r
-program_known o' {ls} {f} {r} p e k = subst (λ n. Knows (take (n - 0) (drop 0 o')) ls f r) (p ∙ ap program_length e) k
+pub program_known : (o' : List ℕ) {ls : List ℕ} {f : Names} {r : Bool} {len : ℕ} {x y : Code} → len ≡ program_length x → x ≡ y → Knows (take len o') ls f r
+    → Knows (take (program_length y) o') ls f r
+program_known o' {ls} {f} {r} p e k = subst (λ n. Knows (take n o') ls f r) (p ∙ ap program_length e) k
 
 -- ---- what passing the tests along the line says
 
-module _ (s : List ℕ) (ended : Bool) (n : ℕ) (q : n ≡ line_test (line_of s ended)) where
+module _ (s : List ℕ) (ended : Bool) where
   tests_are : (d : Bool) (c : LtCases 4 (count_of underscore_kind s)) (f : Bool) → ◌≡◌ {A = ℕ} (choose d (λ _. 3) (λ _. choose (ltb 4 (count_of underscore_kind s)) (λ _. 4) (λ _. choose f (λ _. 0) (λ _. 5)))) 0 → (count_of underscore_kind s ≤ 4) × (f ≡ true)
   tests_are true c f e = absurd (omega arith)
   tests_are false (inl p) f e = absurd (omega (arith, rw p.1 at e))
   tests_are false (inr p) true e = (p.0, refl)
   tests_are false (inr p) false e = absurd (omega (arith, rw p.1 at e))
 
-  passed : n ≡ 0 → (count_of underscore_kind s ≤ 4) × (ended ≡ true)
+  passed : line_test (line_of s ended) ≡ 0 → (count_of underscore_kind s ≤ 4) × (ended ≡ true)
   unfolding line_test
-  passed e = tests_are (too_deep 0 0 s) (lt_cases 4 (count_of underscore_kind s)) ended (sym q ∙ e)
+  passed e = tests_are (too_deep 0 0 s) (lt_cases 4 (count_of underscore_kind s)) ended e
 
-  pub passed_few : n ≡ 0 → count_of underscore_kind s ≤ 4
+  pub passed_few : line_test (line_of s ended) ≡ 0 → count_of underscore_kind s ≤ 4
   passed_few e = (passed e).0
 
   module _ (ls : List ℕ) (f : Names) (o o' : List ℕ) where
     -- 3, 4, or 5 for the missing end
-    pub stopped_tests : (n ≡ 0 → ⊥) → ReadsLine (line_of s ended) ls f o o' (answer.TheVariants.Refused n)
+    pub stopped_tests : (r : Refusal) → line_test (line_of s ended) ≡ refusal_number r → ReadsLine (line_of s ended) ls f o o' (Err r)
     unfolding read_line
-    stopped_tests h = record { says = record { is = λ ns _. rw (← q, ne_eqb n 0 h) } }
+    stopped_tests r q = record { says = record { is = λ ns _. rw (q, ne_eqb (refusal_number r) 0 (refused_not r)) } }
 
-    module _ (z : n ≡ 0) where
+    module _ (z : line_test (line_of s ended) ≡ 0) where
       form_read : (ns : List ℕ) → read_line ls ns (line_of s ended) ≡ check_form ls ns (form_of s)
       unfolding read_line
-      form_read ns = rw (← q, eq-eqb n 0 z)
+      form_read ns = rw z
 
       -- 5
-      pub stopped_form : form_of s ≡ malformed → ReadsLine (line_of s ended) ls f o o' (answer.TheVariants.Refused 5)
+      pub stopped_form : form_of s ≡ malformed → ReadsLine (line_of s ended) ls f o o' (Err MalformedLine)
       unfolding check_form
       stopped_form e = record { says = record { is = λ ns _. form_read ns ∙ ap (check_form ls ns) e } }
 
-      module _ {x len : ℕ} (d : Defines s o o' x len) {r : Bool} (k : Knows (take (len - 0) (drop 0 o')) ls f r) where
+      module _ {x len : ℕ} (d : Defines s o o' x len) {r : Bool} (k : Knows (take len o') ls f r) where
         held : FormHeld 17 (define x d.body)
-        held = subst (FormHeld 17) d.form (line_held (line_of s ended) (sym q ∙ z))
+        held = subst (FormHeld 17) d.form (line_held (line_of s ended) z)
 
         known_is : (ns : List ℕ) → Holds f ns → known ls ns d.body ≡ r
-        known_is ns h = sym (k.says ns h ∙ ap (code_known ls ns) (first_part o' len ∙ d.code) ∙ define_known ls ns 17 x d.body held)
+        known_is ns h = sym (k.says ns h ∙ ap (code_known ls ns) (d.code) ∙ define_known ls ns 17 x d.body held)
 
         named_read : (ns : List ℕ) → read_line ls ns (line_of s ended) ≡ unless (known ls ns d.body) (λ _. stops 6) (λ _. choose (member x ns) (λ _. stops 7) (λ _. reads (define x d.body)))
         unfolding check_form
         named_read ns = form_read ns ∙ ap (check_form ls ns) d.form
 
         -- 6
-        stopped_symbol : r ≡ false → ReadsLine (line_of s ended) ls f o o' (answer.TheVariants.Refused 6)
+        stopped_symbol : r ≡ false → ReadsLine (line_of s ended) ls f o o' (Err UndefinedSymbol)
         stopped_symbol e = record { says = record { is = λ ns h. named_read ns ∙ rw (known_is ns h, e) } }
 
         -- 7
-        pub stopped_name : r ≡ true → (t : Bool) → t ≡ get_or f.defined (x - 65) false → t ≡ true → ReadsLine (line_of s ended) ls f o o' (answer.TheVariants.Refused 7)
+        pub stopped_name : r ≡ true → (t : Bool) → t ≡ get_or f.defined (x - 65) false → t ≡ true → ReadsLine (line_of s ended) ls f o o' (Err DuplicateName)
         stopped_name e t u v = record { says = record { is = λ ns h. named_read ns ∙ rw (known_is ns h, e, h.says x d.named ∙ sym u ∙ v) } }
 
-        pub read_name : r ≡ true → (t : Bool) → t ≡ get_or f.defined (x - 65) false → t ≡ false → ReadsLine (line_of s ended) ls f o o' (answer.TheVariants.Define x len)
+        pub read_name : r ≡ true → (t : Bool) → t ≡ get_or f.defined (x - 65) false → t ≡ false → ReadsLine (line_of s ended) ls f o o' (Ok (code.TheVariants.Define x len))
         read_name e t u v = record {
           says = record {
             body = d.body;
@@ -161,21 +159,21 @@ module _ (s : List ℕ) (ended : Bool) (n : ℕ) (q : n ≡ line_test (line_of s
           };
         }
 
-      module _ {len : ℕ} (d : Rules s o 0 o' len) {r : Bool} (k : Knows (take (len - 0) (drop 0 o')) ls f r) where
+      module _ {len : ℕ} (d : Rules s o 0 o' len) {r : Bool} (k : Knows (take len o') ls f r) where
         held_rule : FormHeld 17 (rule d.kind d.pattern d.contexts)
-        held_rule = subst (FormHeld 17) d.form (line_held (line_of s ended) (sym q ∙ z))
+        held_rule = subst (FormHeld 17) d.form (line_held (line_of s ended) z)
 
         rule_is : (ns : List ℕ) → Holds f ns → known ls ns d.pattern && all_known ls ns d.contexts ≡ r
-        rule_is ns h = sym (k.says ns h ∙ ap (code_known ls ns) (first_part o' len ∙ d.code) ∙ rule_known ls ns 17 d.kind d.pattern d.contexts held_rule)
+        rule_is ns h = sym (k.says ns h ∙ ap (code_known ls ns) (d.code) ∙ rule_known ls ns 17 d.kind d.pattern d.contexts held_rule)
 
         rule_read : (ns : List ℕ) → read_line ls ns (line_of s ended) ≡ unless (known ls ns d.pattern && all_known ls ns d.contexts) (λ _. stops 6) (λ _. reads (rule d.kind d.pattern d.contexts))
         unfolding check_form
         rule_read ns = form_read ns ∙ ap (check_form ls ns) d.form
 
-        stopped_rule : r ≡ false → ReadsLine (line_of s ended) ls f o o' (answer.TheVariants.Refused 6)
+        stopped_rule : r ≡ false → ReadsLine (line_of s ended) ls f o o' (Err UndefinedSymbol)
         stopped_rule e = record { says = record { is = λ ns h. rule_read ns ∙ rw (rule_is ns h, e) } }
 
-        pub read_rule : r ≡ true → ReadsLine (line_of s ended) ls f o o' (answer.TheVariants.Rule len)
+        pub read_rule : r ≡ true → ReadsLine (line_of s ended) ls f o o' (Ok (code.TheVariants.Rule len))
         read_rule e = record {
           says = record {
             kind = d.kind;
@@ -192,42 +190,29 @@ module _ (s : List ℕ) (ended : Bool) (n : ℕ) (q : n ≡ line_test (line_of s
           };
         }
 
-      -- 6, of whichever form: a line without a program has no symbol
-      pub stopped_known : (x : Code) → ReadsForm s o o' x → {len : ℕ} → len ≡ program_length x → {r : Bool} → Knows (take (len - 0) (drop 0 o')) ls f r → r ≡ false → ReadsLine (line_of s ended) ls f o o' (answer.TheVariants.Refused 6)
+      -- 6, of whichever form
+      pub stopped_known : (x : Code) → ReadsForm s o o' (Some x) → {len : ℕ} → len ≡ program_length x → {r : Bool} → Knows (take len o') ls f r → r ≡ false → ReadsLine (line_of s ended) ls f o o' (Err UndefinedSymbol)
       stopped_known (code.TheVariants.Define x n) d p k e = stopped_symbol d.says (program_known o' {y = code.TheVariants.Define x n} p refl k) e
       stopped_known (code.TheVariants.Rule n) d p k e = stopped_rule d.says (program_known o' {y = code.TheVariants.Rule n} p refl k) e
-      stopped_known code.TheVariants.Malformed d p k e = record { says = record { is = λ ns h. absurd (true≢false (sym ((program_known o' {y = code.TheVariants.Malformed} p refl k).says ns h) ∙ e)) } }
 
--- ---- what the functions answer, case by case
+      -- a form that is no definition
+      pub read_other : (x : Code) → ReadsForm s o o' (Some x) → {len : ℕ} → len ≡ program_length x → {r : Bool} → Knows (take len o') ls f r → r ≡ true
+          → ((b n : ℕ) → x ≡ code.TheVariants.Define b n → ⊥) → ReadsLine (line_of s ended) ls f o o' (Ok x)
+      read_other (code.TheVariants.Define b n) d p k e h = absurd (h b n refl)
+      read_other (code.TheVariants.Rule n) d p k e h = read_rule d.says (program_known o' {y = code.TheVariants.Rule n} p refl k) e
 
-module _ {s o o' : List ℕ} {r : Code} (d : ReadsForm s o o' r) where
-  pub form_name : {x len : ℕ} → r ≡ code.TheVariants.Define x len → Defines s o o' x len
-  form_name e = rw e at d.says
-
-  pub form_rules : {len : ℕ} → r ≡ code.TheVariants.Rule len → Rules s o 0 o' len
-  form_rules e = rw e at d.says
-
-  pub form_not : r ≡ code.TheVariants.Malformed → form_of s ≡ malformed
-  form_not e = rw e at d.says
-
-pub form_fits : {s o o' : List ℕ} {len : ℕ} (r : Code) → ReadsForm s o o' r → len ≡ program_length r → len ≤ length o'
+pub form_fits : {s o o' : List ℕ} {len : ℕ} (r : Code) → ReadsForm s o o' (Some r) → len ≡ program_length r → len ≤ length o'
 form_fits (code.TheVariants.Define x n) d e = omega (arith, d.says.fits)
 form_fits (code.TheVariants.Rule n) d e = omega (arith, d.says.fits)
-form_fits code.TheVariants.Malformed d e = omega arith
 
 -- ---- the line that starts at a place of the text
 
-module _ {s : List ℕ} {at end : ℕ} (e : Ends s at end) {ls : List ℕ} {f : Names} {o o' : List ℕ} {r : Answer} (d : ReadsLine (line_at s at end) ls f o o' r) where
-  pub next_name : {x len : ℕ} → r ≡ answer.TheVariants.Define x len → ReadsNext s at ls f o o' (line_answer.TheVariants.Define x len (end + 1))
-  next_name q = record { end = end; ends = e; says = (rw q at d.says, add-one end) }
+module _ {s : List ℕ} {at end : ℕ} (e : Ends s at end) {ls : List ℕ} {f : Names} {o o' : List ℕ} where
+  pub next_read : {x : Code} → ReadsLine (line_at s at end) ls f o o' (Ok x) → ReadsNext s at ls f o o' (Ok (record { code = x; next = end + 1 }))
+  next_read d = record { end = end; ends = e; says = (d.says, add-one end) }
 
-  pub next_rule : {len : ℕ} → r ≡ answer.TheVariants.Rule len → ReadsNext s at ls f o o' (line_answer.TheVariants.Rule len (end + 1))
-  next_rule q = record { end = end; ends = e; says = (rw q at d.says, add-one end) }
-
-  pub next_not : {n : ℕ} → r ≡ answer.TheVariants.Refused n → ReadsNext s at ls f o o' (line_answer.TheVariants.Refused n)
-  next_not q = record { end = end; ends = e; says = rw q at d.says }
-
--- ---- where a line lies
+  pub next_not : {q : Refusal} → ReadsLine (line_at s at end) ls f o o' (Err q) → ReadsNext s at ls f o o' (Err q)
+  next_not d = record { end = end; ends = e; says = d.says }
 
 pub from_first : (e : ℕ) → 0 ≤ e
 from_first e = omega arith

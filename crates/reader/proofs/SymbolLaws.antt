@@ -12,6 +12,8 @@ use lib.Seq.{get_or-set_same, get_or-set_other}
 use Rattle.automata.specs.Booleans.{choose, and_left, and_right}
 use Rattle.automata.specs.Basics.{LtCases, lt_cases, SameCases, same_cases, nat_test, find, lt_ltb, ltb_false}
 use Rattle.language.specs.Expression.{member}
+use Rattle.std.specs.List.{list_any}
+use Rattle.std.proofs.Common.{nat_eq}
 use Rattle.book.specs.Kind.{kind_of, is_name, signs, sign_kind, letter_kind, name_kind, dot_kind}
 use Rattle.reader.specs.declared.names.Names.{Names}
 use Rattle.reader.specs.Names.{Holds, More}
@@ -30,14 +32,14 @@ member_other x y l n = rw (ne_eqb x y (λ e. n (sym e))) (go (lt_cases (find nat
     go (inl p) = lt_ltb (suc (find nat_test x l)) (suc (length l)) (omega arith) ∙ sym p.1
     go (inr p) = ltb_false (suc (find nat_test x l)) (suc (length l)) (omega arith) ∙ sym p.1
 
-pub member_at : (l : List ℕ) (i x : ℕ) → i < length l → get_or l i 0 ≡ x → member x (drop i l) ≡ true
-member_at l i x h e = rw (front l i h) (member_same x (get_or l i 0) (drop (i + 1) l) e)
-
-pub member_past : (l : List ℕ) (i x : ℕ) → i < length l → (get_or l i 0 ≡ x → ⊥) → member x (drop (i + 1) l) ≡ member x (drop i l)
-member_past l i x h n = rw (front l i h) (sym (member_other x (get_or l i 0) (drop (i + 1) l) n))
-
-pub member_end : (l : List ℕ) (i x : ℕ) → length l ≤ i → member x (drop i l) ≡ false
-member_end l i x h = rw (drop_of_length-le l {i = i} h)
+-- the letters as the library's test of a list
+pub member_any : (x : ℕ) (l : List ℕ) → list_any (λ y. nat_eq y x) l ≡ member x l
+member_any x [] = refl
+member_any x (y ∷ l) = go (same_cases nat_test y x) (member_any x l)
+  where
+    go : SameCases nat_test y x → list_any (λ y. nat_eq y x) l ≡ member x l → list_any (λ y. nat_eq y x) (y ∷ l) ≡ member x (y ∷ l)
+    go (inl p) e = rw (p.1, member_same x y l p.0) refl
+    go (inr p) e = rw (p.1, member_other x y l p.0) e
 
 -- ---- names
 

@@ -3,24 +3,24 @@
 #![tactic(auto)]
 
 ghost use Rattle.std.specs.Prelude.{◌≤◌, length};
-ghost use Rattle.lexer.specs.Kinds.{Kinds};
 
-use lexer::kinds::KindTable;
-use reader::line::{LineAnswer, read_line};
+use book::refusal::Refusal;
+use forms::Code;
+use reader::line::read_line;
 use reader::names::Names;
 use scans::ends::line_end;
-use scans::head::{Head, read_head};
+use scans::head::read_head;
 use std::io;
 
+// Why a text is refused, and the line that is at fault.
 #[derive(Clone, Copy)]
-struct Outcome {
-    number: u8,
+struct Refused {
+    refusal: Refusal,
     line: usize,
 }
 
 // The lines behind line 1, whose letters these are.
-fn later(kinds: &KindTable, text: &[u8], start: usize, letters: &[u8]) -> Outcome
-    requires kinds { Kinds kinds.now }
+fn later(text: &[u8], start: usize, letters: &[u8]) -> Result<(), Refused>
     requires text_len_bound { length text.now ≤ 4096 }
     requires le_start { 2 ≤ start }
 {
@@ -28,70 +28,64 @@ fn later(kinds: &KindTable, text: &[u8], start: usize, letters: &[u8]) -> Outcom
     let mut names = Names::none();
     let mut line = 2;
     let mut at = start;
+    // Stays: where a line ends tells where the next begins, no index is counted.
     while at < text.len() {
-        match read_line(kinds, text, at, letters, names, &mut out) {
-            LineAnswer::Define(name, _, next) => {
-                names = names.with(name);
-                at = next;
+        match read_line(text, at, letters, names, &mut out) {
+            Ok(read) => {
+                if let Code::Define { name, .. } = read.code {
+                    names = names.with(name);
+                }
+                at = read.next;
             }
-            LineAnswer::Rule(_, next) => {
-                at = next;
-            }
-            LineAnswer::Refused(number) => {
-                return Outcome { number, line };
-            }
+            Err(refusal) => return Err(Refused { refusal, line }),
         }
         line += 1;
     }
-    Outcome { number: 0, line: 0 }
+    Ok(())
 }
 
-fn first_refusal(kinds: &KindTable, text: &[u8]) -> Outcome
-    requires kinds { Kinds kinds.now }
-    requires text_len_bound { length text.now ≤ 4096 }
+// Each line of a text.
+fn check(text: &[u8]) -> Result<(), Refused>
+    requires { length text.now ≤ 4096 }
 {
-    if text.len() == 0 {
-        return Outcome { number: 0, line: 0 };
+    if text.is_empty() {
+        return Ok(());
     }
     let end = line_end(text, 0);
     let ended = end < text.len();
-    match read_head(kinds, &text[0..end], ended) {
-        Head::Refused(number) => Outcome { number, line: 1 },
-        Head::Letters(_) => {
-            if end < 1 {
-                return Outcome { number: 5, line: 1 };
-            }
-            if text.len() <= end {
-                return Outcome { number: 5, line: 1 };
-            }
-            later(kinds, text, end + 1, &text[1..end])
+    match read_head(&text[..end], ended) {
+        Err(refusal) => Err(Refused { refusal, line: 1 }),
+        Ok(_) if end < 1 || !ended => Err(Refused {
+            refusal: Refusal::MalformedLine,
+            line: 1,
+        }),
+        Ok(_) => later(text, end + 1, &text[1..end]),
+    }
+}
+
+fn report(rt: &impl Print, text: &[u8]) -> io::Result<()>
+    requires { length text.now ≤ 4096 }
+{
+    match check(text) {
+        Ok(()) => println!(rt; "0 0"),
+        Err(refused) => {
+            let number = refused.refusal.number();
+            let line = refused.line;
+            println!(rt; "{number} {line}")
         }
     }
 }
 
-fn report(rt: &impl Print, kinds: &KindTable, text: &[u8]) -> io::Result<()>
-    requires kinds { Kinds kinds.now }
-    requires text_len_bound { length text.now ≤ 4096 }
-{
-    let o = first_refusal(kinds, text);
-    let number = o.number;
-    let line = o.line;
-    println!(rt; "{number} {line}")
-}
-
 // Each text of the input.
-fn report_all(rt: &impl Print, kinds: &KindTable, input: &[u8]) -> io::Result<()>
-    requires kinds { Kinds kinds.now }
-    requires input_len_bound { length input.now ≤ 4096 }
+fn report_all(rt: &impl Print, input: &[u8]) -> io::Result<()>
+    requires { length input.now ≤ 4096 }
 {
     let mut from = 0;
-    let mut i = 0;
-    while i < input.len() {
-        if input[i] == 0x1E {
-            report(rt, kinds, &input[from..i])?;
+    for (i, byte) in input.iter().enumerate() {
+        if *byte == 0x1E {
+            report(rt, &input[from..i])?;
             from = i + 1;
         }
-        i += 1;
     }
     Ok(())
 }
@@ -100,6 +94,5 @@ fn main(rt: HostRuntime) -> io::Result<()> {
     let mut text = [0u8; 4096];
     let mut input = rt.stdin();
     let n = stream::read_full(&mut input, &mut text)?;
-    let kinds = lexer::kinds::table();
-    report_all(&rt, &kinds, &text[..n])
+    report_all(&rt, &text[..n])
 }

@@ -23,7 +23,8 @@ pub fn list(
     requires w_in_bounds { (state * s.w + s.w ≤ length rows.now) × RowFits (operation_of s.op) s.na s.nb (row_at s.w state rows.now) }
     requires listing { Listing s members.old }
     requires listed { 0 < column → Listed (operation_of s.op) s.na s.nb (row_at s.w state rows.now) held members.old }
-    ensures { Listed (operation_of s.op) s.na s.nb (row_at s.w state rows.now) result members.new }
+    ensures within { held ≤ length members.old → result ≤ length members.new }
+    ensures listed { Listed (operation_of s.op) s.na s.nb (row_at s.w state rows.now) result members.new }
 {
     if 0 < column {
         return held;
@@ -38,11 +39,8 @@ pub fn flag_rows(a: &[u16], b: &[u16], s: Shape, rows: &[u8], table: &mut [u16],
     requires { Flagging s a.now b.now count rows.now table.old }
     ensures { Flagged (rows_for s a.now b.now) s.w s.limit count rows.now table.old table.new }
 {
-    let w = s.w;
-    let mut p = 0;
-    while p < count {
-        let at = p * w;
-        table[p] = dispatch::flag(a, b, s, &rows[at..at + w]);
-        p += 1;
+    for p in 0..count {
+        let at = p * s.w;
+        table[p] = dispatch::flag(a, b, s, &rows[at..at + s.w]);
     }
 }

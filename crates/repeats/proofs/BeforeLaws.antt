@@ -2,31 +2,26 @@
 use mathlib.Core.Path.{◌≡◌, refl, sym, ap, ◌∙◌}
 use mathlib.Core.Bool.{Bool, true}
 use mathlib.Core.List.{List}
-use mathlib.Core.Logic.{inl, inr}
-use Prim.Native.Nat.{ℕ, zero, suc, ◌+◌, ◌*◌, ◌-◌, ◌≤◌, ◌<◌}
+use mathlib.Core.Logic.{◌⊎◌, inl, inr}
+use Prim.Native.Nat.{ℕ, ◌+◌, ◌*◌, ◌-◌, ◌<◌}
 use native.Mathlib.Nat.{zero-mul}
 use native.Mathlib.Omega.{arith}
 use lib.ListN.{get_or, take, drop}
-use Rattle.automata.specs.Basics.{SameCases, same_cases, nat_test}
 use Rattle.automata.specs.Machine.{automaton}
 use Rattle.automata.specs.Table.{ClosedTable, table_machine, table_step}
 use Rattle.rows.specs.Rows.{row_at, flag_at, number_at}
-use Rattle.rows.proofs.RowLaws.{row_part}
+use Rattle.rows.proofs.RowLaws.{row_part, row_within}
 use Rattle.flags.specs.Flags.{cell}
 use Rattle.flags.specs.Members.{Lists}
 use Rattle.sets.specs.Fits.{rows_for, left_of, right_of, Listed}
-use Rattle.sets.specs.Operations.{operation_of, concatenation, star, erase}
+use Rattle.sets.specs.Operations.{operation_of, is_pairing, concatenation, star, erase}
 use Rattle.sets.specs.declared.Shape.{Shape}
 use Rattle.sets.proofs.ConcatLaws.{concat_left}
-use Rattle.sets.proofs.FitLaws.{is_star, is_erase, row_source}
+use Rattle.sets.proofs.FitLaws.{row_source}
 use Rattle.sets.proofs.PairLaws.{pair_next}
 use Rattle.repeats.specs.Repeats.{Repeats, Asking, Looks}
 use Rattle.repeats.specs.Twins.{Twins}
 use Rattle.repeats.proofs.TwinLaws.{alike_step, twin_step, mark_step}
-
--- the cell by the column before stands just before
-pub state_alike : (base k p c : ℕ) (t : List ℕ) → 0 < c → get_or t (base + (p * k + c) - 1) 0 ≡ get_or t (base + (p * k + c)) 0 → cell base k (c - 1) t p ≡ cell base k c t p
-state_alike base k p c t h e = let z : base + (p * k + (c - 1)) ≡ base + (p * k + c) - 1 = omega arith in ap (λ (n : ℕ). get_or t n 0) z ∙ e
 
 module _ (s : Shape) (a b : List ℕ) (c : ℕ) (from : List ℕ) (L : Looks s a b c from) where
   prior : c - 1 < s.k
@@ -40,7 +35,7 @@ module _ (s : Shape) (a b : List ℕ) (c : ℕ) (from : List ℕ) (L : Looks s a
       let (i, l, y) = S.all q h f in
       table_step base n s.k t T q (c - 1) h prior ∙ rw y at (e i l) ∙ sym (table_step base n s.k t T q c h L.column)
 
-  pub before_pair : (h : s.op < 3) → (p r : ℕ) → p ≡ number_at from 0 → r ≡ number_at from 2 → cell s.ba s.k (c - 1) a p ≡ cell s.ba s.k c a p
+  pub before_pair : (h : is_pairing (operation_of s.op) ≡ true) → (p r : ℕ) → p ≡ number_at from 0 → r ≡ number_at from 2 → cell s.ba s.k (c - 1) a p ≡ cell s.ba s.k c a p
       → cell s.bb s.k (c - 1) b r ≡ cell s.bb s.k c b r → (rows_for s a b).step from (c - 1) ≡ (rows_for s a b).step from c
   before_pair h p r ep er x y =
       let x' : cell s.ba s.k (c - 1) a (number_at from 0) ≡ cell s.ba s.k c a (number_at from 0) = rw ep at x in
@@ -67,30 +62,17 @@ module _ (s : Shape) (a b : List ℕ) (c : ℕ) (from : List ℕ) (L : Looks s a
     before_erase is o = rw is (alike_step (s.k - 1) s.na s.nb (left_of s a) (right_of s b) (c - 1) c erase from
         (λ z. omega (arith, L.column, L.some), λ z. o (omega (arith, L.column)), members_alike s.ba s.na a L.fits.left (flag_at from) held members S e))
 
--- star and erase have the states of A as flags, listed
-pub flags_listed : (x na nb held : ℕ) (r members : List ℕ) → 3 ≤ x → (x ≡ 3 → ⊥) → Listed (operation_of x) na nb r held members → Lists (flag_at r) na held members
-flags_listed zero na nb held r members h o L = absurd (omega arith)
-flags_listed (suc zero) na nb held r members h o L = absurd (omega arith)
-flags_listed (suc (suc zero)) na nb held r members h o L = absurd (omega arith)
-flags_listed (suc (suc (suc zero))) na nb held r members h o L = absurd (o refl)
-flags_listed (suc (suc (suc (suc zero)))) na nb held r members h o L = L
-flags_listed (suc (suc (suc (suc (suc x))))) na nb held r members h o L = L
-
-pub before_flags : (s : Shape) (a b : List ℕ) (c : ℕ) (from : List ℕ) → Looks s a b c from → (held : ℕ) (members : List ℕ) → 3 ≤ s.op → (s.op ≡ 3 → ⊥) → (c + 1 ≡ s.k → ⊥)
-    → Listed (operation_of s.op) s.na s.nb from held members
-    → ((i : ℕ) → i < held → cell s.ba s.k (c - 1) a (get_or members i 0) ≡ cell s.ba s.k c a (get_or members i 0)) → (rows_for s a b).step from (c - 1) ≡ (rows_for s a b).step from c
-before_flags s a b c from L held members h o last S e = go (same_cases nat_test s.op 4)
-  where
-    lists : Lists (flag_at from) s.na held members
-    lists = flags_listed s.op s.na s.nb held from members h o S
-
-    go : SameCases nat_test s.op 4 → (rows_for s a b).step from (c - 1) ≡ (rows_for s a b).step from c
-    go (inl p) = before_star s a b c from L held members lists e (is_star s.op p.0)
-    go (inr p) = before_erase s a b c from L held members lists e (is_erase s.op h o p.0) last
-
 -- ---- an earlier transition
 
 module _ (s : Shape) (a b rows : List ℕ) (held : ℕ) (members : List ℕ) (state column q : ℕ) (A : Asking s a b rows held members state column q) where
+  -- it lies before
+  pub earlier_less : (r : ℕ) → Repeats s a b rows state column r → r < q
+  earlier_less r E = go E.before
+    where
+      go : (E.row < state) ⊎ ((E.row ≡ state) × (E.by < column)) → r < q
+      go (inl h) = omega (arith, row_within E.row state s.k h, E.within, E.place, A.place)
+      go (inr h) = let e : E.row * s.k ≡ state * s.k = ap (λ (n : ℕ). n * s.k) h.0 in omega (arith, e, h.1, E.place, A.place)
+
   pub earlier_twin : (d : ℕ) → d < column → Twins s a b d column → Repeats s a b rows state column (q - (column - d))
   earlier_twin d h W = record {
     row = state;

@@ -1,6 +1,7 @@
 -- Columns that lead the states of a row to the same places lead the row to the same row.
 use mathlib.Core.Path.{◌≡◌, refl, sym, ap, ap₂, ◌∙◌}
 use mathlib.Core.Bool.{Bool, true, false, ◌&&◌, ◌||◌}
+use Rattle.std.specs.Prelude.{Option, Some, None, IfSome}
 use mathlib.Core.List.{List}
 use mathlib.Core.Logic.{◌⊎◌, inl, inr}
 use Rattle.automata.specs.Booleans.{bool_cases}
@@ -83,35 +84,34 @@ mark_step s a b r r' c o e = rw (o, eq-eqb c (s.k - 1) e)
 
 -- ---- the table of twins
 
--- The columns before c have their twins, the entries from c on are not below their place.
-pub record TwinsTo (s : Shape) (a b l : List ℕ) (c : ℕ) : Type 0 where
+-- The columns before c have their twins, those from c on none.
+pub record TwinsTo (s : Shape) (a b : List ℕ) (l : List (Option ℕ)) (c : ℕ) : Type 0 where
   pub within : c ≤ 64
   pub long : length l ≡ 64
-  pub none : (i : ℕ) → c ≤ i → i < 64 → get_or l i 0 ≡ 255
-  pub some : (i : ℕ) → i < c → (get_or l i 0 ≤ i) × (get_or l i 0 < i → Twins s a b (get_or l i 0) i)
+  pub none : (i : ℕ) → c ≤ i → i < 64 → get_or l i None ≡ None
+  pub some : (i d : ℕ) → i < c → get_or l i None ≡ Some d → (d < i) × Twins s a b d i
 
-pub twins_none : (s : Shape) (a b : List ℕ) → TwinsTo s a b (replicate 64 255) 0
-twins_none s a b = record { within = omega arith; long = length-replicate {A = ℕ} 64 255; none = λ i h g. get_or-replicate {A = ℕ} 64 i 255 0 g; some = λ i h. absurd (omega arith) }
+pub twins_none : (s : Shape) (a b : List ℕ) → TwinsTo s a b (replicate 64 None) 0
+twins_none s a b = record { within = omega arith; long = length-replicate {A = Option ℕ} 64 None; none = λ i h g. get_or-replicate {A = Option ℕ} 64 i None None g; some = λ i d h z. absurd (omega arith) }
 
-pub twins_more : (s : Shape) (a b l : List ℕ) (c v : ℕ) → TwinsTo s a b l c → c < 64 → (v ≤ c) × (v < c → Twins s a b v c) → TwinsTo s a b (set l c v) (c + 1)
-twins_more s a b l c v T h new = record {
+pub twins_more : (s : Shape) (a b : List ℕ) (l : List (Option ℕ)) (c : ℕ) (o : Option ℕ) → TwinsTo s a b l c → c < 64 → IfSome o (λ d. (d < c) × Twins s a b d c) → TwinsTo s a b (set l c o) (c + 1)
+twins_more s a b l c o T h new = record {
   within = omega arith;
-  long = length-set l c v ∙ T.long;
-  none = λ i g x. get_or-set_other l c i v 0 (λ z. omega arith) ∙ T.none i (omega arith) x;
-  some = λ i g. go i g (lt_cases i c);
+  long = length-set l c o ∙ T.long;
+  none = λ i g x. get_or-set_other l c i o None (λ z. omega arith) ∙ T.none i (omega arith) x;
+  some = λ i d g z. go i d g z (lt_cases i c);
 }
   where
-    go : (i : ℕ) → i < c + 1 → LtCases i c → (get_or (set l c v) i 0 ≤ i) × (get_or (set l c v) i 0 < i → Twins s a b (get_or (set l c v) i 0) i)
-    go i g (inl x) = rw (get_or-set_other l c i v 0 (λ z. omega (arith, x.0))) (T.some i x.0)
-    go i g (inr x) = let e : i ≡ c = omega (arith, x.0) in rw (e, get_or-set_same l c v 0 (omega (arith, T.long))) new
+    go : (i d : ℕ) → i < c + 1 → get_or (set l c o) i None ≡ Some d → LtCases i c → (d < i) × Twins s a b d i
+    go i d g z (inl x) = T.some i d x.0 (rw (get_or-set_other l c i o None (λ y. omega (arith, x.0))) at z)
+    go i d g z (inr x) =
+        let e : i ≡ c = omega (arith, x.0) in
+        let y : get_or (set l c o) c None ≡ Some d = rw e at z in
+        rw e (rw (rw (get_or-set_same l c o None (omega (arith, T.long))) at y) at new)
 
-pub twins_all : (s : Shape) (a b l : List ℕ) (c : ℕ) → TwinsTo s a b l c → TwinTable s a b l
-twins_all s a b l c T = record { small = λ i h. small i h (lt_cases i c); twin = λ i h g. twin i h g (lt_cases i c) }
+pub twins_all : (s : Shape) (a b : List ℕ) (l : List (Option ℕ)) (c : ℕ) → TwinsTo s a b l c → TwinTable s a b l
+twins_all s a b l c T = record { twin = λ i d h z. go i d h z (lt_cases i c) }
   where
-    small : (i : ℕ) → i < 64 → LtCases i c → get_or l i 0 < 256
-    small i h (inl x) = omega (arith, (T.some i x.0).0)
-    small i h (inr x) = omega (arith, T.none i x.0 h)
-
-    twin : (i : ℕ) → i < 64 → get_or l i 0 < i → LtCases i c → Twins s a b (get_or l i 0) i
-    twin i h g (inl x) = (T.some i x.0).1 g
-    twin i h g (inr x) = absurd (omega (arith, T.none i x.0 h))
+    go : (i d : ℕ) → i < 64 → get_or l i None ≡ Some d → LtCases i c → (d < i) × Twins s a b d i
+    go i d h z (inl x) = T.some i d x.0 z
+    go i d h z (inr x) = let y : get_or l i None ≡ None = T.none i x.0 h in absurd (cc)

@@ -1,5 +1,5 @@
 -- Columns that lead every state of both operands to the same place.
-use Rattle.std.specs.Prelude.{◌≡◌, List, ℕ, ◌+◌, ◌<◌, get_or}
+use Rattle.std.specs.Prelude.{◌≡◌, List, ℕ, ◌+◌, ◌<◌, get_or, Option, Some, None}
 use Rattle.flags.specs.Flags.{cell}
 use Rattle.sets.specs.declared.Shape.{Shape}
 
@@ -10,7 +10,6 @@ pub record Twins (s : Shape) (a b : List ℕ) (d c : ℕ) : Type 0 where
   pub low : d + 1 < s.k
   pub high : c + 1 < s.k
 
--- Of each of the first 64 columns an earlier one that is its twin, or a number that is not below it.
-pub record TwinTable (s : Shape) (a b l : List ℕ) : Type 0 where
-  pub small : (c : ℕ) → c < 64 → get_or l c 0 < 256
-  pub twin : (c : ℕ) → c < 64 → get_or l c 0 < c → Twins s a b (get_or l c 0) c
+-- Of each of the first 64 columns an earlier one that is its twin, where one is known.
+pub record TwinTable (s : Shape) (a b : List ℕ) (l : List (Option ℕ)) : Type 0 where
+  pub twin : (c d : ℕ) → c < 64 → get_or l c None ≡ Some d → (d < c) × Twins s a b d c

@@ -3,12 +3,13 @@ ghost use Rattle.std.specs.Prelude.{true, ◌≡◌, ℕ, ◌+◌, ◌*◌, ◌-
 ghost use Rattle.flags.specs.Flags.{cell};
 ghost use Rattle.flags.specs.Members.{Counted};
 ghost use Rattle.sets.specs.Fits.{Listed, rows_for};
-ghost use Rattle.sets.specs.Operations.{operation_of, concatenation};
+ghost use Rattle.sets.specs.Operations.{operation_of, is_pairing, concatenation};
 ghost use Rattle.repeats.specs.Repeats.{Looks};
 ghost use Rattle.automata.specs.Table.{ClosedTable};
 
+use flags::table;
 use rows::number;
-use sets::Shape;
+use sets::{Operation, Shape};
 
 // Sets with more listed states are not looked at: comparing them takes longer than making the row.
 const FEW: usize = 2;
@@ -18,34 +19,18 @@ fn state(t: &[u16], base: usize, k: usize, p: usize, c: usize) -> bool
     requires { (0 < c) × (base + (p * k + c) < length t.now) }
     ensures { result ≡ true → cell base k (c - 1) t.now p ≡ cell base k c t.now p }
 {
-    let at = base + (p * k + c);
-    if t[at - 1] != t[at] {
-        return false;
-    }
-    true
+    table::step(t, base, k, p, c - 1) == table::step(t, base, k, p, c)
 }
 
-// The same for the first `count` members.
-fn listed(
-    t: &[u16],
-    base: usize,
-    n: usize,
-    k: usize,
-    c: usize,
-    members: &[u16],
-    count: usize,
-) -> bool
+// The same for the listed members.
+fn listed(t: &[u16], base: usize, n: usize, k: usize, c: usize, members: &[u16]) -> bool
     requires closed_table { ClosedTable base n k t.now }
     requires c_nonzero { (0 < c) × (c < k) }
-    requires counted { Counted n count members.now }
-    ensures { result ≡ true → (i : ℕ) → i < count → cell base k (c - 1) t.now (get_or members.now i 0) ≡ cell base k c t.now (get_or members.now i 0) }
+    requires counted { Counted n (length members.now) members.now }
+    ensures { result ≡ true → (i : ℕ) → i < length members.now → cell base k (c - 1) t.now (get_or members.now i 0) ≡ cell base k c t.now (get_or members.now i 0) }
 {
-    let mut i = 0;
-    while i < count {
-        let q = members[i] as usize;
-        if state(t, base, k, q, c) {
-            i += 1;
-        } else {
+    for q in members {
+        if !state(t, base, k, *q as usize, c) {
             return false;
         }
     }
@@ -55,75 +40,36 @@ fn listed(
 // The same for a pair.
 fn pair(a: &[u16], b: &[u16], s: Shape, c: usize, from: &[u8]) -> bool
     requires looks { Looks s a.now b.now c from.now }
-    requires op_bound { s.op < 3 }
+    requires pairs { is_pairing (operation_of s.op) ≡ true }
     ensures { result ≡ true → (rows_for s a.now b.now).step from.now (c - 1) ≡ (rows_for s a.now b.now).step from.now c }
 {
-    let k = s.k;
-    let ba = s.ba;
-    let bb = s.bb;
     let p = number::read(from, 0);
-    if state(a, ba, k, p, c) {
-        let r = number::read(from, 2);
-        return state(b, bb, k, r, c);
-    }
-    false
+    let r = number::read(from, 2);
+    state(a, s.ba, s.k, p, c) && state(b, s.bb, s.k, r, c)
 }
 
 // The same for a row of a concatenation.
-fn joined(
-    a: &[u16],
-    b: &[u16],
-    s: Shape,
-    c: usize,
-    from: &[u8],
-    members: &[u16],
-    held: usize,
-) -> bool
+fn joined(a: &[u16], b: &[u16], s: Shape, c: usize, from: &[u8], members: &[u16]) -> bool
     requires looks { Looks s a.now b.now c from.now }
     requires op_value { operation_of s.op ≡ concatenation }
-    requires listed { Listed (operation_of s.op) s.na s.nb from.now held members.now }
+    requires listed { Listed (operation_of s.op) s.na s.nb from.now (length members.now) members.now }
     ensures { result ≡ true → (rows_for s a.now b.now).step from.now (c - 1) ≡ (rows_for s a.now b.now).step from.now c }
 {
-    let k = s.k;
-    let ba = s.ba;
-    let bb = s.bb;
-    let nb = s.nb;
     let p = number::read(from, 0);
-    if state(a, ba, k, p, c) {
-        return listed(b, bb, nb, k, c, members, held);
-    }
-    false
+    state(a, s.ba, s.k, p, c) && listed(b, s.bb, s.nb, s.k, c, members)
 }
 
 // The same for a row of any operation.
-pub fn same(
-    a: &[u16],
-    b: &[u16],
-    s: Shape,
-    c: usize,
-    from: &[u8],
-    members: &[u16],
-    held: usize,
-) -> bool
+pub fn same(a: &[u16], b: &[u16], s: Shape, c: usize, from: &[u8], members: &[u16]) -> bool
     requires looks { Looks s a.now b.now c from.now }
-    requires listed { Listed (operation_of s.op) s.na s.nb from.now held members.now }
+    requires listed { Listed (operation_of s.op) s.na s.nb from.now (length members.now) members.now }
     ensures { result ≡ true → (rows_for s a.now b.now).step from.now (c - 1) ≡ (rows_for s a.now b.now).step from.now c }
 {
-    let op = s.op;
-    let k = s.k;
-    let ba = s.ba;
-    let na = s.na;
-    if op < 3 {
-        return pair(a, b, s, c, from);
+    match s.op {
+        Operation::Either | Operation::Both | Operation::Without => pair(a, b, s, c, from),
+        _ if FEW < members.len() => false,
+        Operation::Join => joined(a, b, s, c, from, members),
+        Operation::Star => listed(a, s.ba, s.na, s.k, c, members),
+        Operation::Erase => c + 1 != s.k && listed(a, s.ba, s.na, s.k, c, members),
     }
-    if FEW < held {
-        return false;
-    }
-    if op == 3 {
-        return joined(a, b, s, c, from, members, held);
-    }
-    if c + 1 == k {
-        return false;
-    }
-    listed(a, ba, na, k, c, members, held)
 }

@@ -10,31 +10,11 @@ use Rattle.stream.specs.Text.{Put, PutNumber}
 use Rattle.stream.specs.TextLaws.{put_put, put_as}
 use Rattle.run.specs.declared.Verdict.{Verdict}
 use Rattle.run.specs.declared.Verdict.TheVariants.{Allowed, Unfinished, Hopeless}
-use Rattle.run.specs.declared.Answer.{Answer}
-use Rattle.run.specs.declared.Answer.TheVariants.{Judged, Refused}
-use Rattle.run.specs.Reading.{reply_of}
+use Rattle.std.specs.Prelude.{Result, Ok, Err}
+use Rattle.board.specs.declared.refusals.Refusal.{Refusal}
+use Rattle.board.specs.Refusals.{refusal_number}
+use Rattle.board.specs.Answers.{reply_of}
 use Rattle.reply.specs.Text.{unfinished_word, hopeless_word, refused_word, newline, numbered, reply_line, reply_lines, longest, PutNumbered, PutLine}
-
-module _ (out : List ℕ) (at : ℕ) (a : Answer) (out' : List ℕ) (r : ℕ) where
-  -- the answer is b, whose line is put
-  line_of : (b : Answer) → a ≡ b → r ≤ at + longest → Put out at (reply_line (reply_of b)) out' r → PutLine out at a out' r
-  line_of b e m p = record { most = m; put = put_as out at _ _ out' r p (ap (λ x. reply_line (reply_of x)) (sym e)) }
-
-  pub line_allowed : (v : Verdict) → a ≡ Judged v → v ≡ Allowed → Put out at (reply_line (reply_of (Judged Allowed))) out' r → PutLine out at a out' r
-  line_allowed v e f p = line_of (Judged Allowed) (e ∙ ap Judged f) (omega (arith, p.place)) p
-
-  -- the line of a word and a number
-  line_numbered : (b : Answer) → a ≡ b → (word : List ℕ) (k : ℕ) → length word ≤ 11 → reply_line (reply_of b) ≡ numbered word k → PutNumbered out at word k out' r → PutLine out at a out' r
-  line_numbered b e word k h s p = line_of b e (omega (arith, p.most)) (put_as out at _ _ out' r p.put (sym s))
-
-  pub line_unfinished : (v : Verdict) (k : ℕ) → a ≡ Judged v → v ≡ Unfinished k → PutNumbered out at unfinished_word k out' r → PutLine out at a out' r
-  line_unfinished v k e f p = line_numbered (Judged (Unfinished k)) (e ∙ ap Judged f) unfinished_word k (omega arith) refl p
-
-  pub line_hopeless : (v : Verdict) (k : ℕ) → a ≡ Judged v → v ≡ Hopeless k → PutNumbered out at hopeless_word k out' r → PutLine out at a out' r
-  line_hopeless v k e f p = line_numbered (Judged (Hopeless k)) (e ∙ ap Judged f) hopeless_word k (omega arith) refl p
-
-  pub line_refused : (k before : ℕ) → a ≡ Refused k before → PutNumbered out at refused_word k out' r → PutLine out at a out' r
-  line_refused k before e p = line_numbered (Refused k before) e refused_word k (omega arith) refl p
 
 -- a word, a number, the line's end
 pub numbered_line : (out : List ℕ) (at : ℕ) (word b : List ℕ) (q k : ℕ) (c : List ℕ) (s : ℕ) (out' : List ℕ) (r : ℕ)

@@ -1,12 +1,13 @@
 -- An answer as a line of text: "`allowed`, `unfinished`, `hopeless K` or `refused N`, one a line"; "the program prints `unfinished K`".
-use Rattle.std.specs.Prelude.{List, [], ◌∷◌, ◌++◌, ℕ, ◌+◌, ◌≤◌, length}
+use Rattle.std.specs.Prelude.{Result, List, [], ◌∷◌, ◌++◌, ℕ, ◌+◌, ◌≤◌, length}
 use Rattle.stream.specs.Text.{Put, decimal}
 use Rattle.automata.specs.Format.{narrow}
 use Rattle.card.specs.Verdict.{Verdict, allowed, unfinished, hopeless}
 use Rattle.card.specs.Reply.{Reply, answered, refused}
 use Rattle.card.specs.Judge.{judge}
-use Rattle.run.specs.declared.Answer.{Answer}
-use Rattle.run.specs.Reading.{reply_of}
+use Rattle.run.specs.declared.Verdict.{Verdict as Verdict'}
+use Rattle.board.specs.declared.refusals.Refusal.{Refusal}
+use Rattle.board.specs.Answers.{reply_of}
 
 -- "unfinished ", "hopeless ", "refused " and the line end
 abbrev pub unfinished_word : List ℕ
@@ -47,6 +48,6 @@ pub record PutNumbered (out : List ℕ) (at : ℕ) (word : List ℕ) (k : ℕ) (
   pub put : Put out at (numbered word k) out' r
 
 -- The answer's line stands behind what was there.
-pub record PutLine (out : List ℕ) (at : ℕ) (a : Answer) (out' : List ℕ) (r : ℕ) : Type 0 where
+pub record PutLine (out : List ℕ) (at : ℕ) (a : Result Verdict' Refusal) (out' : List ℕ) (r : ℕ) : Type 0 where
   pub most : r ≤ at + longest
   pub put : Put out at (reply_line (reply_of a)) out' r

@@ -4,6 +4,9 @@
 ghost use Rattle.std.specs.Prelude.{◌+◌, ◌≤◌, length};
 ghost use Rattle.reply.specs.Text.{PutNumbered, PutLine, longest};
 
+use board::Refusal;
+use run::Verdict;
+
 // No line of an answer is longer.
 pub const LONGEST: usize = 32;
 
@@ -18,16 +21,14 @@ fn numbered(out: &mut [u8], at: usize, word: &[u8], number: usize) -> usize
 }
 
 // The line of an answer, its end included, from the place `at` on. The next place.
-pub fn line(out: &mut [u8], at: usize, answer: run::Answer) -> usize
+pub fn line(out: &mut [u8], at: usize, answer: Result<Verdict, Refusal>) -> usize
     requires { at + longest ≤ length out.old }
     ensures { PutLine out.old at answer out.new result }
 {
     match answer {
-        run::Answer::Judged(v) => match v {
-            run::Verdict::Allowed => stream::put(out, at, b"allowed\n"),
-            run::Verdict::Unfinished(owed) => numbered(out, at, b"unfinished ", owed),
-            run::Verdict::Hopeless(k) => numbered(out, at, b"hopeless ", k),
-        },
-        run::Answer::Refused(number, _) => numbered(out, at, b"refused ", number as usize),
+        Ok(Verdict::Allowed) => stream::put(out, at, b"allowed\n"),
+        Ok(Verdict::Unfinished(owed)) => numbered(out, at, b"unfinished ", owed),
+        Ok(Verdict::Hopeless(k)) => numbered(out, at, b"hopeless ", k),
+        Err(refusal) => numbered(out, at, b"refused ", refusal.number() as usize),
     }
 }

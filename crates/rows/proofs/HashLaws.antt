@@ -1,8 +1,8 @@
 -- The chains of rows with the same hash.
-use mathlib.Core.Path.{◌≡◌, refl, sym, ap, ◌∙◌}
+use mathlib.Core.Path.{◌≡◌, sym, ap, ◌∙◌}
 use mathlib.Core.Logic.{inl, inr}
 use mathlib.Core.List.{List}
-use Prim.Native.Nat.{ℕ, ◌+◌, ◌-◌, ◌≤◌, ◌<◌}
+use Prim.Native.Nat.{ℕ, ◌+◌, ◌≤◌, ◌<◌}
 use native.Mathlib.Omega.{arith}
 use lib.ListN.{length, get_or, set, replicate, get_or-replicate}
 use lib.Seq.{get_or-set_same, get_or-set_other}
@@ -80,35 +80,8 @@ chained_store w count x v rows links heads h C = record {
 
 -- ---- along a chain
 
-pub pred_suc : (n : ℕ) → 0 < n → n - 1 + 1 ≡ n
-pred_suc n h = omega arith
-
 -- from `next` on no row is the one looked for; the row before it has its hash
 pub record Seeking (w count next : ℕ) (rows row : List ℕ) : Type 0 where
   pub within : next ≤ count
   pub is : (i : ℕ) → i + 1 ≡ next → row_hash (row_at w i rows) ≡ row_hash row
   pub none : (i : ℕ) → next ≤ i → i < count → row_at w i rows ≡ row → ⊥
-
-pub seek_first : (w count h : ℕ) (rows row links heads : List ℕ) → Chained w count rows links heads → h ≡ row_hash row → h < 512 → Seeking w count (get_or heads h 0) rows row
-seek_first w count h rows row links heads C e b =
-    let L = C.head h b in
-    record { within = L.within; is = λ i z. L.is i z ∙ e; none = λ i a y z. L.none i a y (ap row_hash z ∙ sym e) }
-
-pub seek_next : (w count j : ℕ) (rows row links heads : List ℕ) → Chained w count rows links heads → Seeking w count (j + 1) rows row → (row_at w j rows ≡ row → ⊥)
-    → Seeking w count (get_or links j 0) rows row
-seek_next w count j rows row links heads C S o = record {
-  within = omega (arith, L.within, S.within);
-  is = λ i z. L.is i z ∙ S.is j refl;
-  none = λ i a y z. go i a y z (lt_cases i j);
-}
-  where
-    L : Last (λ i. row_hash (row_at w i rows)) j (row_hash (row_at w j rows)) (get_or links j 0)
-    L = C.link j (omega (arith, S.within))
-
-    go : (i : ℕ) → get_or links j 0 ≤ i → i < count → row_at w i rows ≡ row → LtCases i j → ⊥
-    go i a y z (inl p) = L.none i a p.0 (ap row_hash z ∙ sym (S.is j refl))
-    go i a y z (inr p) = at (lt_cases j i)
-      where
-        at : LtCases j i → ⊥
-        at (inl q) = S.none i (omega (arith, q.0)) y z
-        at (inr q) = let e : i ≡ j = omega (arith, p.0, q.0) in o (ap (λ (n : ℕ). row_at w n rows) (sym e) ∙ z)

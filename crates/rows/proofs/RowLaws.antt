@@ -1,12 +1,12 @@
 -- Rows end to end in a list: where they lie, comparing one, and putting one behind the others.
-use mathlib.Core.Path.{◌≡◌, sym, ap, ap₂, ◌∙◌}
-use mathlib.Core.List.{List, ◌++◌, append-nil, append_assoc}
+use mathlib.Core.Path.{◌≡◌, sym, ap, ◌∙◌}
+use mathlib.Core.List.{List, ◌++◌, append_assoc}
 use Prim.Native.Nat.{ℕ, zero, suc, ◌+◌, ◌*◌, ◌-◌, ◌<◌, ◌≤◌}
 use native.Mathlib.Nat.{mul-le-mul_right, suc-mul, add-sub_cancel_left, zero-add, suc-add, le_refl}
 use native.Mathlib.Omega.{arith}
 use mathlib.Core.List.{[], ◌∷◌}
-use lib.ListN.{length, take, drop, length-take, length-append, length-drop, drop_of_length-le}
-use lib.Seq.{drop-length, take-length, take_at, drop_at, take-nil, take-take, take_all, drop-append-le, take-append-le, length-take-le}
+use lib.ListN.{length, take, drop, length-take, length-append, length-drop}
+use lib.Seq.{take_at, drop_at, take-nil, take-take, take_all, drop-append-le, take-append-le, length-take-le}
 use Rattle.rows.specs.Chains.{Appended}
 use Rattle.rows.specs.Rows.{row_at}
 
@@ -41,13 +41,7 @@ row_prefix w j e s h =
     more = omega arith
 
 -- a row is put behind the rows before it
-module _ (w n : ℕ) (s row ys : List ℕ) (e : length row ≡ w) (h : n * w + w ≤ length s) (q : ys ≡ take (length row) row ++ drop (length row) (take (n * w + w - n * w) (drop (n * w) s))) where
-  short : length (take (n * w + w - n * w) (drop (n * w) s)) ≤ length row
-  short = omega (arith, length-take (n * w + w - n * w) (drop (n * w) s))
-
-  full : ys ≡ row
-  full = q ∙ ap₂ ◌++◌ (take-length row) (drop_of_length-le _ short) ∙ append-nil row
-
+module _ (w n : ℕ) (s row ys : List ℕ) (e : length row ≡ w) (h : n * w + w ≤ length s) (full : ys ≡ row) where
   abbrev after : List ℕ
   after = take (n * w) s ++ (ys ++ drop (n * w + w - n * w) (drop (n * w) s))
 
@@ -77,9 +71,3 @@ module _ (w n : ℕ) (s row ys : List ℕ) (e : length row ≡ w) (h : n * w + w
 
   pub appended : Appended w n s row after
   appended = record { before = kept; here = put }
-
--- A row copied over a part as long is that row in front of nothing of the part.
-pub copied : (new row part : List ℕ) → length new ≡ length part → new ≡ row → new ≡ take (length row) row ++ drop (length row) part
-copied new row part l e =
-    let s : length row ≡ length part = sym (ap length e) ∙ l in
-    e ∙ sym (append-nil row) ∙ ap (λ (r : List ℕ). row ++ r) (sym (drop-length part) ∙ ap (λ n. drop n part) (sym s)) ∙ ap (λ (r : List ℕ). r ++ drop (length row) part) (sym (take-length row))

@@ -1,9 +1,7 @@
 -- Rows found by their hash: rows with the same hash are chained. What looking one up answers, and what putting one behind the others leaves.
-use Rattle.std.specs.Prelude.{◌≡◌, List, ℕ, ◌+◌, ◌≤◌, ◌<◌, get_or}
+use Rattle.std.specs.Prelude.{◌≡◌, List, ℕ, ◌+◌, ◌≤◌, ◌<◌, get_or, Option, Some, None}
 use Rattle.rows.specs.Rows.{row_at}
 use Rattle.rows.specs.Sums.{row_hash}
-use Rattle.rows.specs.declared.chains.Found.{Found}
-use Rattle.rows.specs.declared.chains.Found.TheVariants.{At, Nothing}
 
 -- x is 1 more than the last place below n whose number is b, or 0 where there is none.
 pub record Last (number : ℕ → ℕ) (n b x : ℕ) : Type 0 where
@@ -17,9 +15,9 @@ pub record Chained (w count : ℕ) (rows links heads : List ℕ) : Type 0 where
   pub link : (j : ℕ) → j < count → Last (λ i. row_hash (row_at w i rows)) j (row_hash (row_at w j rows)) (get_or links j 0)
 
 -- A row is one of the first count, or none of them.
-abbrev pub Looked : ℕ → ℕ → List ℕ → List ℕ → Found → Type 0
-Looked w count rows row (At j) = (j < count) × (row_at w j rows ≡ row)
-Looked w count rows row Nothing = (j : ℕ) → j < count → row_at w j rows ≡ row → ⊥
+abbrev pub Looked : ℕ → ℕ → List ℕ → List ℕ → Option ℕ → Type 0
+Looked w count rows row (Some j) = (j < count) × (row_at w j rows ≡ row)
+Looked w count rows row None = (j : ℕ) → j < count → row_at w j rows ≡ row → ⊥
 
 -- The row stands behind the first count, which are unchanged.
 pub record Appended (w count : ℕ) (rows row rows' : List ℕ) : Type 0 where

@@ -1,13 +1,35 @@
 // Rows of one width, end to end in a buffer: finding one by its hash, and putting one behind the others. Rows with the same hash are chained: `heads` has
 // for each hash the last such row, and `links` for each row the one before it, each plus 1, or 0 where there is none.
-ghost use Rattle.std.specs.Prelude.{true, ◌≡◌, ℕ, ◌+◌, ◌*◌, ◌/◌, ◌%◌, ◌<◌, ◌≤◌, length, get_or, set};
+ghost use Rattle.std.specs.Prelude.{true, ◌≡◌, List, ℕ, ◌+◌, ◌*◌, ◌/◌, ◌%◌, ◌<◌, ◌≤◌, length, get_or, set};
 ghost use Rattle.rows.specs.Chains.{Chained, Looked, Appended};
 ghost use Rattle.rows.specs.Sums.{row_hash};
 
-#[derive(Clone, Copy)]
-pub enum Found {
-    At(usize),
-    Nothing,
+// A row that is looked for among others, and put behind them.
+pub trait Row {
+    // Its bytes.
+    ghost bytes: { Self → List ℕ };
+
+    // Whether a row as wide has the same bytes.
+    fn is(self, row: &[u8]) -> bool
+        requires { length row.now ≡ length (bytes self) }
+        ensures { (result ≡ true → row.now ≡ bytes self) × (row.now ≡ bytes self → result ≡ true) };
+
+    // Puts the bytes into a row as wide.
+    fn put(self, row: &mut [u8])
+        requires { length row.old ≡ length (bytes self) }
+        ensures { row.new ≡ bytes self };
+}
+
+impl<'a> Row for &'a [u8] {
+    ghost bytes = { λ row. row.now };
+
+    fn is(self, row: &[u8]) -> bool {
+        row == self
+    }
+
+    fn put(self, row: &mut [u8]) {
+        row.copy_from_slice(self);
+    }
 }
 
 // The hash of a row whose sum is given.
@@ -17,95 +39,43 @@ pub fn hash(sum: usize) -> usize
     sum / 64 % 512
 }
 
-// Bytes that are compared at once.
-const BLOCK: usize = 16;
-
-// Whether two rows have the same bytes in the block from the place `at` on. It looks at all of them, so that they are compared at once.
-fn same_block(a: &[u8], b: &[u8], at: usize) -> bool
-    requires a_len { length a.now ≡ length b.now }
-    requires at_in_bounds { at + 16 ≤ length a.now }
-    ensures { (result ≡ true → (i : ℕ) → i < 16 → get_or a.now (at + i) 0 ≡ get_or b.now (at + i) 0) × (a.now ≡ b.now → result ≡ true) }
-{
-    let mut same = true;
-    let mut i = 0;
-    while i < BLOCK {
-        if a[at + i] != b[at + i] {
-            same = false;
-        }
-        i += 1;
-    }
-    same
-}
-
-// Whether two long rows are equal: block by block from the end. The first block overlaps the second where the length is no multiple of a block's.
-fn same_long(a: &[u8], b: &[u8]) -> bool
-    requires a_len { length a.now ≡ length b.now }
-    requires in_bounds { 16 ≤ length a.now }
-    ensures { (result ≡ true → a.now ≡ b.now) × (a.now ≡ b.now → result ≡ true) }
-{
-    let mut at = a.len() - BLOCK;
-    loop {
-        if !same_block(a, b, at) {
-            return false;
-        }
-        if at == 0 {
-            return true;
-        }
-        if at < BLOCK {
-            at = 0;
-        } else {
-            at -= BLOCK;
-        }
-    }
-}
-
-// Whether two rows are equal.
-fn same(a: &[u8], b: &[u8]) -> bool
-    requires { length a.now ≡ length b.now }
-    ensures { (result ≡ true → a.now ≡ b.now) × (a.now ≡ b.now → result ≡ true) }
-{
-    if a.len() < BLOCK {
-        return check::same(a, b);
-    }
-    same_long(a, b)
-}
-
 // Where the row with the hash h stands among the first `count` rows of w bytes: only rows with the same hash are compared.
-pub fn find(
+pub fn find<R: Row + Copy>(
     rows: &[u8],
     links: &[u16],
     heads: &[u16; 512],
     w: usize,
     count: usize,
-    row: &[u8],
+    row: R,
     h: usize,
-) -> Found
+) -> Option<usize>
     requires w_in_bounds { count * w ≤ length rows.now }
-    requires count_in_bounds { (count ≤ length links.now) × (length row.now ≡ w) }
+    requires count_in_bounds { (count ≤ length links.now) × (length (R.bytes row) ≡ w) }
     requires chained { Chained w count rows.now links.now heads.now }
-    requires h_value { (h ≡ row_hash row.now) × (h < 512) }
-    ensures { Looked w count rows.now row.now result }
+    requires h_value { (h ≡ row_hash (R.bytes row)) × (h < 512) }
+    ensures { Looked w count rows.now (R.bytes row) result }
 {
     let mut next = heads[h] as usize;
+    // Stays: a walk along links, no index is counted.
     while 0 < next {
         let j = next - 1;
         let at = j * w;
-        if same(&rows[at..at + w], row) {
-            return Found::At(j);
+        if row.is(&rows[at..at + w]) {
+            return Some(j);
         }
         next = links[j] as usize;
     }
-    Found::Nothing
+    None
 }
 
-// Puts the row behind the first `count` rows.
-pub fn append(rows: &mut [u8], w: usize, count: usize, row: &[u8])
-    requires row_len { length row.now ≡ w }
+// Puts the row of w bytes behind the first `count` rows.
+pub fn append<R: Row>(rows: &mut [u8], w: usize, count: usize, row: R)
+    requires row_len { length (R.bytes row) ≡ w }
     requires w_in_bounds { count * w + w ≤ length rows.old }
-    ensures { Appended w count rows.old row.now rows.new }
+    ensures { Appended w count rows.old (R.bytes row) rows.new }
 {
     let at = count * w;
-    rows[at..at + w].copy_from_slice(row);
+    row.put(&mut rows[at..at + w]);
 }
 
 // The row `count`, whose hash is h, becomes the last of its chain.

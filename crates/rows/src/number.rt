@@ -7,9 +7,7 @@ pub fn read(row: &[u8], i: usize) -> usize
     requires { i + 1 < length row.now }
     ensures { result ≡ number_at row.now i }
 {
-    let low = row[i] as usize;
-    let high = row[i + 1] as usize;
-    low + 256 * high
+    u16::from_le_bytes([row[i], row[i + 1]]) as usize
 }
 
 // Puts the number p into the bytes i and i + 1.
@@ -18,6 +16,5 @@ pub fn write(row: &mut [u8], i: usize, p: usize)
     requires p_bound { p < 65536 }
     ensures { row.new ≡ set (set row.old i (p % 256)) (i + 1) (p / 256) }
 {
-    row[i] = (p % 256) as u8;
-    row[i + 1] = (p / 256) as u8;
+    [row[i], row[i + 1]] = (p as u16).to_le_bytes();
 }

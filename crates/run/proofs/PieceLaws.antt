@@ -14,14 +14,12 @@ use Rattle.card.specs.Reply.{answered, refused}
 use Rattle.card.specs.Judge.{none, found}
 use Rattle.card.specs.Run.{going, halted, run_start, run_on, run_reply}
 use Rattle.card.proofs.RunLaws.{letter_known, letter_unknown, run_halted}
-use Rattle.run.specs.declared.Place.TheVariants.{None, At}
+use Rattle.std.specs.Prelude.{Option, Some, None, Result, Ok, Err}
 use Rattle.run.specs.declared.Run.{Run as Run'}
 use Rattle.run.specs.declared.Walk.{Walk}
 use Rattle.run.specs.declared.Walk.TheVariants.{Done, Dead, Unknown}
-use Rattle.run.specs.declared.Answer.{Answer}
-use Rattle.run.specs.declared.End.{End}
-use Rattle.run.specs.declared.End.TheVariants.{Told, Owing}
-use Rattle.run.specs.Reading.{place_of, run_of, reply_of}
+use Rattle.run.specs.declared.End.TheVariants.{Owing}
+use Rattle.run.specs.Reading.{place_of, run_of}
 use Rattle.run.specs.Walk.{Ready, Underway, KnownTo, Walked, rest, Runs, Tells}
 use Rattle.run.proofs.WalkLaws.{front, letters_many_lem, on_the_way, dead_same}
 
@@ -60,20 +58,20 @@ start_dead c e = rw (eq-eqb (mark_at narrow c 0) 2 e)
 pub start_live : (c : List ℕ) → mark_at narrow c 0 ≢ 2 → going 0 0 none ≡ run_start narrow c
 start_live c d = rw (ne_eqb (mark_at narrow c 0) 2 d)
 
-pub never : {A : Type 0} (k : ℕ) → None ≡ At k → A
-never k e = absurd (let z : ◌≡◌ {A = ℕ} 0 1 = cc in omega arith)
+pub never : {A : Type 0} (k : ℕ) → ◌≡◌ {A = Option ℕ} None (Some k) → A
+never k e = cc
 
-pub placed : {A : Type 0} (k : ℕ) → At k ≡ None → A
+pub placed : {A : Type 0} (k : ℕ) → Some k ≡ None → A
 placed k e = never k (sym e)
 
 -- ---- one piece more
 
 module _ (c plan : List ℕ) (r : Run') where
-  pub piece_halted : (k : ℕ) → r.unknown ≡ At k → run_of r ≡ run_on narrow c (run_of r) plan
+  pub piece_halted : (k : ℕ) → r.unknown ≡ Some k → run_of r ≡ run_on narrow c (run_of r) plan
   piece_halted k e = let z : run_of r ≡ halted r.state r.letters (place_of r.dead) k = (λ t. record { state = r.state; letters = r.letters; dead = place_of r.dead; unknown = place_of (e t) }) in
       z ∙ sym (ap (λ s. run_on narrow c s plan) z ∙ run_halted narrow c r.state r.letters (place_of r.dead) k plan)
 
-  pub piece_dead : (k : ℕ) → r.unknown ≡ None → r.dead ≡ At k → run_of r ≡ going r.state r.letters (found k)
+  pub piece_dead : (k : ℕ) → r.unknown ≡ None → r.dead ≡ Some k → run_of r ≡ going r.state r.letters (found k)
   piece_dead k e f = λ t. record { state = r.state; letters = r.letters; dead = place_of (f t); unknown = place_of (e t) }
 
   pub piece_live : r.unknown ≡ None → r.dead ≡ None → run_of r ≡ going r.state r.letters none
@@ -85,33 +83,25 @@ module _ (c plan : List ℕ) (r : Run') where
 -- ---- the answer
 
 module _ (c : List ℕ) (r : Run') where
-  pub reply_unknown : (k : ℕ) → r.unknown ≡ At k → refused 27 k ≡ run_reply narrow c (run_of r)
+  pub reply_unknown : (k : ℕ) → r.unknown ≡ Some k → refused 27 k ≡ run_reply narrow c (run_of r)
   reply_unknown k e = rw e
 
-  pub reply_dead : (k : ℕ) → r.unknown ≡ None → r.dead ≡ At k → answered (hopeless k) ≡ run_reply narrow c (run_of r)
+  pub reply_dead : (k : ℕ) → r.unknown ≡ None → r.dead ≡ Some k → answered (hopeless k) ≡ run_reply narrow c (run_of r)
   reply_dead k e f = rw (e, f)
 
   pub reply_allowed : r.unknown ≡ None → r.dead ≡ None → mark_at narrow c r.state ≡ 1 → answered allowed ≡ run_reply narrow c (run_of r)
   reply_allowed e f g = rw (e, f, eq-eqb (mark_at narrow c r.state) 1 g)
 
-  pub reply_owing : (m n : ℕ) → Ready c m n → Underway c n r → r.unknown ≡ None → r.dead ≡ None → mark_at narrow c r.state ≢ 1 → Tells c n r (Owing r.state)
+  pub reply_owing : (m n : ℕ) → Ready c m n → Underway c n r → r.unknown ≡ None → r.dead ≡ None → mark_at narrow c r.state ≢ 1 → Tells c n r (Ok (Owing r.state))
   reply_owing m n y u e f g = (u.inside, on_the_way c m n y r.state u.inside g (u.alive f), (rw (e, f, ne_eqb (mark_at narrow c r.state) 1 g)))
-
--- what the end says, case by case
-module _ (c : List ℕ) (n : ℕ) (r : Run') (e : End) (u : Tells c n r e) where
-  pub end_told : (a : Answer) → e ≡ Told a → reply_of a ≡ run_reply narrow c (run_of r)
-  end_told a z = let v : Tells c n r (Told a) = rw z at u in v
-
-  pub end_owing : (q : ℕ) → e ≡ Owing q → Tells c n r (Owing q)
-  end_owing q z = let v : Tells c n r (Owing q) = rw z at u in v
 
 -- ---- the cases of a piece
 
 module _ (c : List ℕ) (m n : ℕ) (plan : List ℕ) (r : Run') where
-  pub runs_halted : Underway c n r → (k : ℕ) → r.unknown ≡ At k → Runs c n (run_on narrow c (run_of r) plan) r
+  pub runs_halted : Underway c n r → (k : ℕ) → r.unknown ≡ Some k → Runs c n (run_on narrow c (run_of r) plan) r
   runs_halted u k e = record { is = piece_halted c plan r k e; underway = u }
 
-  pub runs_dead : (k : ℕ) (s : Run') → r.unknown ≡ None → r.dead ≡ At k → Runs c n (run_on narrow c (going r.state r.letters (found k)) (drop 0 plan)) s → Runs c n (run_on narrow c (run_of r) plan) s
+  pub runs_dead : (k : ℕ) (s : Run') → r.unknown ≡ None → r.dead ≡ Some k → Runs c n (run_on narrow c (going r.state r.letters (found k)) (drop 0 plan)) s → Runs c n (run_on narrow c (run_of r) plan) s
   runs_dead k s e f w = record { is = w.is ∙ sym (ap (λ x. run_on narrow c x plan) (piece_dead c plan r k e f)); underway = w.underway }
 
   module _ (w : Walk) (e : r.unknown ≡ None) (f : r.dead ≡ None) (u : Walked c n plan r.state w) where
@@ -119,7 +109,7 @@ module _ (c : List ℕ) (m n : ℕ) (plan : List ℕ) (r : Run') where
     runs_done q z = let u' : Walked c n plan r.state (Done q) = rw z at u in
         record { is = piece_walk c plan r n (Done q) e f u'; underway = record { inside = u'.end.0; dead = λ k x. never k x; alive = λ _. u'.end.1 } }
 
-    pub runs_unknown : (q a : ℕ) → w ≡ Unknown q a → Runs c n (run_on narrow c (run_of r) plan) (record { state = q; letters = r.letters + a; dead = None; unknown = At (r.letters + a) })
+    pub runs_unknown : (q a : ℕ) → w ≡ Unknown q a → Runs c n (run_on narrow c (run_of r) plan) (record { state = q; letters = r.letters + a; dead = None; unknown = Some (r.letters + a) })
     runs_unknown q a z = let u' : Walked c n plan r.state (Unknown q a) = rw z at u in
         record { is = piece_walk c plan r n (Unknown q a) e f u'; underway = record { inside = u'.end.0; dead = λ k x. never k x; alive = λ _. u'.end.1 } }
 

@@ -151,13 +151,7 @@ module _ (c plan : List ℕ) where
 
 -- ---- a letter's column
 
-pub byte_wide : (x : ℕ) → Fits w8 x → Fits w64 x
-byte_wide x f = record { fits = omega (arith, f.fits) }
-
 module _ (c : List ℕ) (m n : ℕ) (r : Ready c m n) (t : List ℕ) (T : ColumnTable (letters_of narrow c) t) (b : ℕ) (f : Fits w8 b) where
-  pub column_wide : Fits w64 (get_or t b 0)
-  column_wide = record { fits = omega (arith, column_most c m n r t T b f.fits, letters_few c m n r) }
-
   pub column_unknown : m ≤ get_or t b 0 → length (letters_of narrow c) ≤ column (letters_of narrow c) b
   column_unknown h = rw (letters_many_lem c m n r, ← T.entry b f.fits) h
 
@@ -165,9 +159,6 @@ module _ (c : List ℕ) (m n : ℕ) (r : Ready c m n) (t : List ℕ) (T : Column
   column_known h = rw (letters_many_lem c m n r, ← T.entry b f.fits) h
 
 -- ---- a turn of the walk
-
-pub turn_most : (k l : ℕ) → k < l → k + 1 ≤ l
-turn_most k l h = omega arith
 
 module _ (c : List ℕ) (m n : ℕ) (r : Ready c m n) (t : List ℕ) (T : ColumnTable (letters_of narrow c) t) (plan : List ℕ) (p s k : ℕ) (h : k < length plan) (a : s < n) (u : WalkUpto c plan p s k)
     (f : Fits w8 (get_or plan k 0)) where
@@ -216,8 +207,8 @@ module _ (ls plan : List ℕ) (from k : ℕ) (u : KnownUpto ls plan from k) wher
   pub known_stop : k < length plan → length ls ≤ column ls (get_or plan k 0) → KnownTo ls plan from k
   known_stop h v = record { low = u.low; most = omega arith; known = u.known; unknown = λ _. v }
 
-  pub known_end : k ≡ length plan → KnownTo ls plan from k
-  known_end e = record { low = u.low; most = omega arith; known = u.known; unknown = λ h. absurd (omega arith) }
+  pub known_end : k ≡ length plan → KnownTo ls plan from (length plan)
+  known_end e = record { low = omega (arith, u.low); most = le_refl (length plan); known = λ j a b. u.known j a (omega arith); unknown = λ h. absurd (omega arith) }
 
 -- ---- a column behind the others
 

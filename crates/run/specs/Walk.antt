@@ -1,20 +1,20 @@
 -- What the parts of the walk require and say.
-use Rattle.std.specs.Prelude.{◌≡◌, ◌≢◌, List, ℕ, ◌+◌, ◌≤◌, ◌<◌, length, get_or, drop}
+use Rattle.std.specs.Prelude.{Some, None, Result, Ok, Err, ◌≡◌, ◌≢◌, List, ℕ, ◌+◌, ◌≤◌, ◌<◌, length, get_or, drop}
 use Rattle.automata.specs.Format.{narrow}
 use Rattle.card.specs.Layout.{letter_count, state_count, mark_at}
 use Rattle.card.specs.Alphabet.{column}
 use Rattle.card.specs.Load.{load_test}
 use Rattle.card.specs.Verdict.{unfinished}
-use Rattle.card.specs.Reply.{answered}
+use Rattle.card.specs.Reply.{answered, refused}
 use Rattle.card.specs.Judge.{none, found, owed}
 use Rattle.card.specs.Run.{Run, going, halted, run_on, run_reply}
-use Rattle.run.specs.declared.Place.TheVariants.{None, At}
 use Rattle.run.specs.declared.Run.{Run as Run'}
 use Rattle.run.specs.declared.Walk.{Walk}
 use Rattle.run.specs.declared.Walk.TheVariants.{Done, Dead, Unknown}
 use Rattle.run.specs.declared.End.{End}
 use Rattle.run.specs.declared.End.TheVariants.{Told, Owing}
-use Rattle.run.specs.Reading.{run_of, reply_of}
+use Rattle.run.specs.declared.UnknownLetter.{UnknownLetter}
+use Rattle.run.specs.Reading.{run_of, verdict_of, unknown_letter}
 
 -- The card loads, with m letters and n states: what one load establishes.
 pub record Ready (c : List ℕ) (m n : ℕ) : Type 0 where
@@ -25,7 +25,7 @@ pub record Ready (c : List ℕ) (m n : ℕ) : Type 0 where
 -- The run is in a state of the card, and in a dead one just where a dead place was found.
 pub record Underway (c : List ℕ) (n : ℕ) (r : Run') : Type 0 where
   pub inside : r.state < n
-  pub dead : (k : ℕ) → r.dead ≡ At k → mark_at narrow c r.state ≡ 2
+  pub dead : (k : ℕ) → r.dead ≡ Some k → mark_at narrow c r.state ≡ 2
   pub alive : r.dead ≡ None → mark_at narrow c r.state ≢ 2
 
 -- The table has the column of every byte.
@@ -65,7 +65,8 @@ pub record Runs (c : List ℕ) (n : ℕ) (s : Run) (r : Run') : Type 0 where
 pub record OwedTable (c : List ℕ) (n : ℕ) (t : List ℕ) : Type 0 where
   pub entry : (q : ℕ) → q < n → mark_at narrow c q ≡ 0 → get_or t q 0 ≡ owed narrow c q
 
--- What a run says at the plan's end: the answer, or the state whose number is the verdict's.
-abbrev pub Tells : List ℕ → ℕ → Run' → End → Type 0
-Tells c n r (Told a) = reply_of a ≡ run_reply narrow c (run_of r)
-Tells c n r (Owing q) = (q < n) × (mark_at narrow c q ≡ 0) × (run_reply narrow c (run_of r) ≡ answered (unfinished (owed narrow c q)))
+-- What a run says at the plan's end: the refusal, or the verdict, or the state whose number is the verdict's.
+abbrev pub Tells : List ℕ → ℕ → Run' → Result End UnknownLetter → Type 0
+Tells c n r (Err letter) = refused unknown_letter letter.before ≡ run_reply narrow c (run_of r)
+Tells c n r (Ok (Told v)) = answered (verdict_of v) ≡ run_reply narrow c (run_of r)
+Tells c n r (Ok (Owing q)) = (q < n) × (mark_at narrow c q ≡ 0) × (run_reply narrow c (run_of r) ≡ answered (unfinished (owed narrow c q)))

@@ -9,11 +9,8 @@ pub fn columns(letters: &[u8]) -> [u8; 256]
     ensures { ColumnTable letters.now result }
 {
     let mut table = [letters.len() as u8; 256];
-    let mut i = letters.len();
-    while 0 < i {
-        i -= 1;
-        let l = letters[i] as usize;
-        table[l] = i as u8;
+    for i in (0..letters.len()).rev() {
+        table[letters[i] as usize] = i as u8;
     }
     table
 }

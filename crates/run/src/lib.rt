@@ -3,6 +3,7 @@
 #![tactic(auto)]
 
 mod columns;
+pub mod loaded;
 pub mod owed;
 
 ghost use Rattle.std.specs.Prelude.{◌≡◌, ◌≢◌, ◌+◌, ◌*◌, ◌-◌, ◌≤◌, ◌<◌, ◌^◌, length, get_or, drop};
@@ -11,14 +12,11 @@ ghost use Rattle.card.specs.Layout.{letters_of, mark_at};
 ghost use Rattle.card.specs.Judge.{found};
 ghost use Rattle.card.specs.Run.{going, run_start, run_on, run_reply};
 ghost use Rattle.run.specs.Reading.{run_of, reply_of};
-ghost use Rattle.run.specs.Walk.{Ready, Underway, ColumnTable, OwedTable, KnownTo, Walked, Runs, Tells};
+ghost use Rattle.run.specs.Cards.{bytes_of, states_in};
+ghost use Rattle.run.specs.Walk.{Underway, ColumnTable, OwedTable, KnownTo, Walked, Runs, Tells};
 
-// A place in a plan, or none.
-#[derive(Clone, Copy)]
-pub enum Place {
-    None,
-    At(usize),
-}
+pub use loaded::Card;
+use moves::Mark;
 
 // What is kept between two pieces of a plan: the state, how many letters were taken, after how many the state was dead first, and how many precede
 // the first letter that is not on the card.
@@ -26,8 +24,8 @@ pub enum Place {
 pub struct Run {
     pub state: usize,
     pub letters: usize,
-    pub dead: Place,
-    pub unknown: Place,
+    pub dead: Option<usize>,
+    pub unknown: Option<usize>,
 }
 
 // "allowed, unfinished, or hopeless with a place"; unfinished with the fewest further letters after which the plan is allowed
@@ -38,25 +36,29 @@ pub enum Verdict {
     Hopeless(usize),
 }
 
-// A verdict, or the number of a refusal and, for 27, how many letters precede the first that is not on the card.
-#[derive(Clone, Copy)]
-pub enum Answer {
-    Judged(Verdict),
-    Refused(u8, usize),
+// The plan has a letter that is not on the card: how many precede the first such letter.
+#[derive(Clone, Copy, Debug, PartialEq, Eq)]
+pub struct UnknownLetter {
+    pub before: usize,
+}
+
+impl UnknownLetter {
+    // The number of the refusal.
+    pub const NUMBER: u8 = 27;
 }
 
 // How a walk ends: at the piece's end, or after some letters, in a dead state or before a letter that is not on the card.
 #[derive(Clone, Copy)]
-pub enum Walk {
-    Done(usize),
-    Dead(usize, usize),
-    Unknown(usize, usize),
+enum Walk {
+    Done { state: usize },
+    Dead { state: usize, taken: usize },
+    Unknown { state: usize, taken: usize },
 }
 
-// What a run says at the plan's end: the answer, or, of an unfinished plan, its last state.
+// What a run over letters of the card says at the plan's end: the verdict, or, of an unfinished plan, its last state.
 #[derive(Clone, Copy)]
-pub enum End {
-    Told(Answer),
+enum End {
+    Told(Verdict),
     Owing(usize),
 }
 
@@ -70,51 +72,47 @@ pub fn next(moves: &[u8], m: usize, s: usize, i: usize) -> usize
 }
 
 // Letter by letter from a state, until one is dead.
-fn walk_on(card: &[u8], m: usize, n: usize, table: &[u8; 256], plan: &[u8], state: usize) -> Walk
-    requires { Ready card.now m n × ColumnTable (letters_of narrow card.now) table.now × (state < n) × (mark_at narrow card.now state ≢ 2) }
-    ensures { Walked card.now n plan.now state result }
+fn walk_on(card: &Card, table: &[u8; 256], plan: &[u8], state: usize) -> Walk
+    requires { ColumnTable (letters_of narrow (bytes_of card.now)) table.now × (state < states_in card.now) × (mark_at narrow (bytes_of card.now) state ≢ 2) }
+    ensures { Walked (bytes_of card.now) (states_in card.now) plan.now state result }
 {
-    let marks = fields::marks(card, m, n);
-    let moves = fields::moves(card, m, n);
+    let marks = card.layout.marks();
+    let moves = card.layout.moves();
+    let m = card.layout.counts.letters;
     let mut s = state;
-    let mut k = 0;
-    while k < plan.len() {
-        let b = plan[k] as usize;
-        let i = table[b] as usize;
+    for (k, b) in plan.iter().enumerate() {
+        let i = table[*b as usize] as usize;
         if m <= i {
-            return Walk::Unknown(s, k);
+            return Walk::Unknown { state: s, taken: k };
         }
         s = next(moves, m, s, i);
-        k += 1;
-        if marks[s] == 2 {
-            return Walk::Dead(s, k);
+        if marks[s] == Mark::Dead as u8 {
+            return Walk::Dead {
+                state: s,
+                taken: k + 1,
+            };
         }
     }
-    Walk::Done(s)
+    Walk::Done { state: s }
 }
 
 // The place of the first letter from `from` on that is not on the card, or the piece's length.
-pub fn known(card: &[u8], m: usize, n: usize, table: &[u8; 256], plan: &[u8], from: usize) -> usize
-    requires { Ready card.now m n × ColumnTable (letters_of narrow card.now) table.now × (from ≤ length plan.now) }
-    ensures { KnownTo (letters_of narrow card.now) plan.now from result }
+pub fn known(card: &Card, table: &[u8; 256], plan: &[u8], from: usize) -> usize
+    requires { ColumnTable (letters_of narrow (bytes_of card.now)) table.now × (from ≤ length plan.now) }
+    ensures { KnownTo (letters_of narrow (bytes_of card.now)) plan.now from result }
 {
-    let mut k = from;
-    while k < plan.len() {
-        let b = plan[k] as usize;
-        let i = table[b] as usize;
-        if m <= i {
+    let m = card.layout.counts.letters;
+    for k in from..plan.len() {
+        if m <= table[plan[k] as usize] as usize {
             return k;
         }
-        k += 1;
     }
-    k
+    plan.len()
 }
 
 // Past a dead state, which stays: only the letters are tested. The run has taken `letters` letters, those of the piece before `from` among them.
 fn past_dead(
-    card: &[u8],
-    m: usize,
-    n: usize,
+    card: &Card,
     table: &[u8; 256],
     plan: &[u8],
     from: usize,
@@ -122,139 +120,145 @@ fn past_dead(
     letters: usize,
     place: usize,
 ) -> Run
-    requires ready { Ready card.now m n × ColumnTable (letters_of narrow card.now) table.now }
+    requires ready { ColumnTable (letters_of narrow (bytes_of card.now)) table.now }
     requires from_in_bounds { (from ≤ length plan.now) × (letters + (length plan.now - from) < 2 ^ 64) }
-    requires state_lt_n { (state < n) × (mark_at narrow card.now state ≡ 2) }
-    ensures { Runs card.now n (run_on narrow card.now (going state letters (found place)) (drop from plan.now)) result }
+    requires state_lt_n { (state < states_in card.now) × (mark_at narrow (bytes_of card.now) state ≡ 2) }
+    ensures { Runs (bytes_of card.now) (states_in card.now) (run_on narrow (bytes_of card.now) (going state letters (found place)) (drop from plan.now)) result }
 {
-    let k = known(card, m, n, table, plan, from);
+    let k = known(card, table, plan, from);
     let total = letters + (k - from);
     if k < plan.len() {
         return Run {
             state,
             letters: total,
-            dead: Place::At(place),
-            unknown: Place::At(total),
+            dead: Some(place),
+            unknown: Some(total),
         };
     }
     Run {
         state,
         letters: total,
-        dead: Place::At(place),
-        unknown: Place::None,
+        dead: Some(place),
+        unknown: None,
     }
 }
 
 // A run before the first letter.
-pub fn start(card: &[u8], m: usize, n: usize) -> Run
-    requires { Ready card.now m n }
-    ensures { Runs card.now n (run_start narrow card.now) result }
+pub fn start(card: &Card) -> Run
+    ensures { Runs (bytes_of card.now) (states_in card.now) (run_start narrow (bytes_of card.now)) result }
 {
-    let marks = fields::marks(card, m, n);
-    if marks[0] == 2 {
+    let marks = card.layout.marks();
+    if marks[0] == Mark::Dead as u8 {
         return Run {
             state: 0,
             letters: 0,
-            dead: Place::At(0),
-            unknown: Place::None,
+            dead: Some(0),
+            unknown: None,
         };
     }
     Run {
         state: 0,
         letters: 0,
-        dead: Place::None,
-        unknown: Place::None,
+        dead: None,
+        unknown: None,
     }
 }
 
 // Of every byte its column on the card, made once for many pieces.
-pub fn table(card: &[u8], m: usize, n: usize) -> [u8; 256]
-    requires { Ready card.now m n }
-    ensures { ColumnTable (letters_of narrow card.now) result }
+pub fn table(card: &Card) -> [u8; 256]
+    ensures { ColumnTable (letters_of narrow (bytes_of card.now)) result }
 {
-    columns::columns(fields::letters(card, m, n))
+    columns::columns(card.layout.letters())
 }
 
 // One piece more, by the card's table.
-pub fn piece_by(card: &[u8], m: usize, n: usize, table: &[u8; 256], run: Run, plan: &[u8]) -> Run
-    requires { Ready card.now m n × ColumnTable (letters_of narrow card.now) table.now × Underway card.now n run × (run.letters + length plan.now < 2 ^ 64) }
-    ensures { Runs card.now n (run_on narrow card.now (run_of run) plan.now) result }
+pub fn piece_by(card: &Card, table: &[u8; 256], run: Run, plan: &[u8]) -> Run
+    requires { ColumnTable (letters_of narrow (bytes_of card.now)) table.now × Underway (bytes_of card.now) (states_in card.now) run × (run.letters + length plan.now < 2 ^ 64) }
+    ensures { Runs (bytes_of card.now) (states_in card.now) (run_on narrow (bytes_of card.now) (run_of run) plan.now) result }
 {
     let unknown = run.unknown;
     let dead = run.dead;
     let state = run.state;
     let letters = run.letters;
-    if let Place::At(_) = unknown {
+    if let Some(_) = unknown {
         return run;
     }
-    if let Place::At(place) = dead {
-        return past_dead(card, m, n, table, plan, 0, state, letters, place);
+    if let Some(place) = dead {
+        return past_dead(card, table, plan, 0, state, letters, place);
     }
-    match walk_on(card, m, n, table, plan, state) {
-        Walk::Done(q) => Run {
-            state: q,
+    match walk_on(card, table, plan, state) {
+        Walk::Done { state } => Run {
+            state,
             letters: letters + plan.len(),
-            dead: Place::None,
-            unknown: Place::None,
+            dead: None,
+            unknown: None,
         },
-        Walk::Dead(q, a) => past_dead(card, m, n, table, plan, a, q, letters + a, letters + a),
-        Walk::Unknown(q, a) => Run {
-            state: q,
-            letters: letters + a,
-            dead: Place::None,
-            unknown: Place::At(letters + a),
+        Walk::Dead { state, taken } => past_dead(
+            card,
+            table,
+            plan,
+            taken,
+            state,
+            letters + taken,
+            letters + taken,
+        ),
+        Walk::Unknown { state, taken } => Run {
+            state,
+            letters: letters + taken,
+            dead: None,
+            unknown: Some(letters + taken),
         },
     }
 }
 
 // One piece more.
-pub fn piece(card: &[u8], m: usize, n: usize, run: Run, plan: &[u8]) -> Run
-    requires { Ready card.now m n × Underway card.now n run × (run.letters + length plan.now < 2 ^ 64) }
-    ensures { Runs card.now n (run_on narrow card.now (run_of run) plan.now) result }
+pub fn piece(card: &Card, run: Run, plan: &[u8]) -> Run
+    requires { Underway (bytes_of card.now) (states_in card.now) run × (run.letters + length plan.now < 2 ^ 64) }
+    ensures { Runs (bytes_of card.now) (states_in card.now) (run_on narrow (bytes_of card.now) (run_of run) plan.now) result }
 {
-    let columns = table(card, m, n);
-    piece_by(card, m, n, &columns, run, plan)
+    let columns = table(card);
+    piece_by(card, &columns, run, plan)
 }
 
 // What a run says at the plan's end.
-fn ended(card: &[u8], m: usize, n: usize, run: Run) -> End
-    requires { Ready card.now m n × Underway card.now n run }
-    ensures { Tells card.now n run result }
+fn ended(card: &Card, run: Run) -> Result<End, UnknownLetter>
+    requires { Underway (bytes_of card.now) (states_in card.now) run }
+    ensures { Tells (bytes_of card.now) (states_in card.now) run result }
 {
     let unknown = run.unknown;
     let dead = run.dead;
     let state = run.state;
-    if let Place::At(k) = unknown {
-        return End::Told(Answer::Refused(27, k));
+    if let Some(before) = unknown {
+        return Err(UnknownLetter { before });
     }
-    if let Place::At(k) = dead {
-        return End::Told(Answer::Judged(Verdict::Hopeless(k)));
+    if let Some(k) = dead {
+        return Ok(End::Told(Verdict::Hopeless(k)));
     }
-    let marks = fields::marks(card, m, n);
-    if marks[state] == 1 {
-        return End::Told(Answer::Judged(Verdict::Allowed));
+    let marks = card.layout.marks();
+    if marks[state] == Mark::Accepting as u8 {
+        return Ok(End::Told(Verdict::Allowed));
     }
-    End::Owing(state)
+    Ok(End::Owing(state))
 }
 
 // The answer of a run at the plan's end. Where the plan is unfinished the letters owed are searched for.
-pub fn reply(card: &[u8], m: usize, n: usize, run: Run) -> Answer
-    requires { Ready card.now m n × Underway card.now n run }
-    ensures { reply_of result ≡ run_reply narrow card.now (run_of run) }
+pub fn reply(card: &Card, run: Run) -> Result<Verdict, UnknownLetter>
+    requires { Underway (bytes_of card.now) (states_in card.now) run }
+    ensures { reply_of result ≡ run_reply narrow (bytes_of card.now) (run_of run) }
 {
-    match ended(card, m, n, run) {
-        End::Told(answer) => answer,
-        End::Owing(last) => Answer::Judged(Verdict::Unfinished(owed::owed(card, m, n, last))),
+    match ended(card, run)? {
+        End::Told(verdict) => Ok(verdict),
+        End::Owing(last) => Ok(Verdict::Unfinished(owed::owed(card, last))),
     }
 }
 
 // The same by the card's table of letters owed.
-pub fn reply_by(card: &[u8], m: usize, n: usize, owed: &[u16; 120], run: Run) -> Answer
-    requires { Ready card.now m n × OwedTable card.now n owed.now × Underway card.now n run }
-    ensures { reply_of result ≡ run_reply narrow card.now (run_of run) }
+pub fn reply_by(card: &Card, owed: &[u16; 120], run: Run) -> Result<Verdict, UnknownLetter>
+    requires { OwedTable (bytes_of card.now) (states_in card.now) owed.now × Underway (bytes_of card.now) (states_in card.now) run }
+    ensures { reply_of result ≡ run_reply narrow (bytes_of card.now) (run_of run) }
 {
-    match ended(card, m, n, run) {
-        End::Told(answer) => answer,
-        End::Owing(last) => Answer::Judged(Verdict::Unfinished(owed[last] as usize)),
+    match ended(card, run)? {
+        End::Told(verdict) => Ok(verdict),
+        End::Owing(last) => Ok(Verdict::Unfinished(owed[last] as usize)),
     }
 }

@@ -3,25 +3,33 @@ ghost use Rattle.std.specs.Prelude.{◌≡◌, ◌<◌};
 ghost use Rattle.automata.specs.Format.{narrow};
 ghost use Rattle.card.specs.Layout.{mark_at};
 ghost use Rattle.card.specs.Judge.{owed as owed_of};
-ghost use Rattle.run.specs.Walk.{Ready, OwedTable};
+ghost use Rattle.run.specs.Cards.{bytes_of, states_in};
+ghost use Rattle.run.specs.Walk.{OwedTable};
+
+use crate::Card;
+use moves::States;
 
 // The letters owed in a state whose marks byte is 0.
-pub fn owed(card: &[u8], m: usize, n: usize, state: usize) -> usize
-    requires { Ready card.now m n × (state < n) × (mark_at narrow card.now state ≡ 0) }
-    ensures { result ≡ owed_of narrow card.now state }
+pub fn owed(card: &Card, state: usize) -> usize
+    requires { (state < states_in card.now) × (mark_at narrow (bytes_of card.now) state ≡ 0) }
+    ensures { result ≡ owed_of narrow (bytes_of card.now) state }
 {
-    levels::distance(
-        fields::marks(card, m, n),
-        fields::moves(card, m, n),
-        m,
-        state,
-    )
+    let states = States {
+        marks: card.layout.marks(),
+        moves: card.layout.moves(),
+        letters: card.layout.counts.letters,
+    };
+    levels::distance(states, state)
 }
 
 // The table of those of all such states.
-pub fn owed_table(card: &[u8], m: usize, n: usize) -> [u16; 120]
-    requires { Ready card.now m n }
-    ensures { OwedTable card.now n result }
+pub fn owed_table(card: &Card) -> [u16; 120]
+    ensures { OwedTable (bytes_of card.now) (states_in card.now) result }
 {
-    levels::distances(fields::marks(card, m, n), fields::moves(card, m, n), m)
+    let states = States {
+        marks: card.layout.marks(),
+        moves: card.layout.moves(),
+        letters: card.layout.counts.letters,
+    };
+    levels::distances(states)
 }

@@ -10,17 +10,29 @@ use borrow.Author.Tests.{eq-eqb, ne_eqb, lt-ltb, le-ltb, le-leb, lt-leb}
 use lib.Dec.{eqb, leb}
 use lib.ListN.{length, take, drop, drop_of_length-le, get_or}
 use lib.Seq.{drop-cons, take_all}
+use Rattle.std.proofs.Common.{◌≢◌, length-drop}
+use Rattle.std.specs.Prelude.{count_by, cond, ◌==◌}
+use Rattle.std.proofs.lemmas.List.Recursion.{is_count_by}
+use Rattle.std.specs.List.{AllWithin, HoldsAt}
+use Rattle.std.proofs.lemmas.List.{get_or-drop}
 use Rattle.automata.specs.Booleans.{choose}
-use Rattle.automata.specs.Basics.{LtCases, lt_cases}
+use Rattle.automata.specs.Basics.{LtCases, lt_cases, SameCases, nat_test, same_cases}
 use Rattle.automata.specs.Format.{narrow}
-use Rattle.book.specs.Kind.{kind_of, letter_kind, open_kind, close_kind, line_end_kind, colon_kind, underscore_kind}
+use Rattle.book.specs.Kind.{kind_of, sign_only, letter_kind, open_kind, close_kind, line_end_kind, colon_kind, underscore_kind}
 use Rattle.book.specs.Text.{lines_of, too_deep, count_of, line_test, rising, is_head, letters_of}
 use Rattle.book.specs.Line.{letters, stops, read_head}
+use Rattle.book.specs.Refusals.{refusal_number}
+use Rattle.book.specs.declared.refusal.Refusal.{Refusal}
+use Rattle.book.specs.declared.refusal.Refusal.TheVariants.{NestingTooDeep, TooManyContexts, MalformedLine, UndefinedSymbol, DuplicateName}
 use Rattle.scans.specs.Lines.{line_of, line_at, Ends}
 
 -- the bytes from i on are the byte at i and those past it
 pub front : (s : List ℕ) (i : ℕ) → i < length s → drop i s ≡ get_or s i 0 ∷ drop (i + 1) s
 front s i h = rw (add-one, drop-cons s i 0)
+
+-- all that is left from a place on
+pub rest_whole : (s : List ℕ) (at : ℕ) → take (length s - at) (drop at s) ≡ drop at s
+rest_whole s at = take_all (length s - at) (drop at s) (omega (arith, length-drop at s))
 
 -- ---- the end of a line
 
@@ -62,19 +74,33 @@ line_from s i w e (suc n) at q p h =
 pub ends_at : (s : List ℕ) (at i : ℕ) → at ≤ i → i ≤ length s → (i < length s → kind_of (get_or s i 0) ≡ line_end_kind) → Plain s at i → Ends s at i
 ends_at s at i h w e p = record { from = h; within = w; lines = λ l. line_from s i w e (i - at) at (omega arith) p l }
 
+-- the first line end behind `at`, or none
+module _ (s : List ℕ) (at i : ℕ) (h : at ≤ length s) (p : AllWithin (λ x. x ≢ 10) (drop at s) 0 i) where
+  add_back : (j : ℕ) → at ≤ j → at + (j - at) ≡ j
+  add_back j l = omega arith
+
+  plain_within : Plain s at (at + i)
+  plain_within = record { none = λ j l m e. p (j - at) 0 (omega arith) (omega arith) (sign_only _ 12 (rw (get_or-drop at s (j - at) 0, add_back j l) e)) }
+
+  pub ends_found : i < length (drop at s) → HoldsAt (λ x. x ≡ 10) (drop at s) i → Ends s at (at + i)
+  ends_found l e = ends_at s at (at + i) (omega arith) (omega (arith, length-drop at s)) (λ _. ap kind_of found) plain_within
+    where
+      found : get_or s (at + i) 0 ≡ 10
+      found = rw (← get_or-drop at s i 0) (e 0)
+
+  pub ends_last : i ≡ length (drop at s) → Ends s at (length s)
+  ends_last e = let z : at + i ≡ length s = omega (arith, length-drop at s) in rw (← z) (ends_at s at (at + i) (omega arith) (omega arith) (λ k. absurd (omega arith)) plain_within)
+
 -- ---- 3 and 4
 
--- along the line up to i: so many `(`, `)` and `_` were passed, and what is left decides as the whole
-pub record Along (s : List ℕ) (i o c n : ℕ) : Type 0 where
-  pub within : i ≤ length s
+-- along the line up to i: so many `(` and `)` were passed, and what is left decides as the whole
+pub record Along (s : List ℕ) (i o c : ℕ) : Type 0 where
   pub opens : o ≤ i
   pub closes : c ≤ i
-  pub few : n ≤ i
   pub deep : too_deep o c (drop i s) ≡ too_deep 0 0 s
-  pub gaps : n + count_of underscore_kind (drop i s) ≡ count_of underscore_kind s
 
-pub along_start : (s : List ℕ) → Along s 0 0 0 0
-along_start s = record { within = omega arith; opens = omega arith; closes = omega arith; few = omega arith; deep = refl; gaps = omega arith }
+pub along_start : (s : List ℕ) → Along s 0 0 0
+along_start s = record { opens = omega arith; closes = omega arith; deep = refl }
 
 module _ (s : List ℕ) (i k : ℕ) (h : i < length s) (q : k ≡ kind_of (get_or s i 0)) where
   kind_is : (x : ℕ) → k ≡ x → eqb (kind_of (get_or s i 0)) x ≡ true
@@ -83,50 +109,30 @@ module _ (s : List ℕ) (i k : ℕ) (h : i < length s) (q : k ≡ kind_of (get_o
   kind_not : (x : ℕ) → (k ≡ x → ⊥) → eqb (kind_of (get_or s i 0)) x ≡ false
   kind_not x e = ne_eqb (kind_of (get_or s i 0)) x (λ w. e (q ∙ w))
 
-  module _ {o c n : ℕ} (v : Along s i o c n) where
+  module _ {o c : ℕ} (v : Along s i o c) where
     pub along_over : k ≡ open_kind → c + 4 < suc o → too_deep 0 0 s ≡ true
     along_over e l = sym v.deep ∙ rw (front s i h, kind_is open_kind e, lt-ltb (c + 4) (suc o) l)
 
-    -- a byte that is no `_`
-    on : (o' c' : ℕ) → o' ≤ i + 1 → c' ≤ i + 1 → too_deep o' c' (drop (i + 1) s) ≡ too_deep o c (drop i s) → (k ≡ underscore_kind → ⊥) → Along s (i + 1) o' c' n
-    on o' c' ho hc e m = record {
-      within = omega arith;
-      opens = ho;
-      closes = hc;
-      few = omega (arith, v.few);
-      deep = e ∙ v.deep;
-      gaps = ap (λ x. n + x) (sym z) ∙ v.gaps;
-    }
-      where
-        z : count_of underscore_kind (drop i s) ≡ count_of underscore_kind (drop (i + 1) s)
-        z = rw (front s i h, kind_not underscore_kind m)
-
-    pub along_open : k ≡ open_kind → suc o ≤ c + 4 → Along s (i + 1) (o + 1) c n
-    along_open e l =
-        on (o + 1) c (omega (arith, v.opens)) (omega (arith, v.closes)) (rw (front s i h, kind_is open_kind e, le-ltb (c + 4) (suc o) l, add-one o)) (λ w. omega arith)
-
-    pub along_close : k ≡ close_kind → Along s (i + 1) o (c + 1) n
-    along_close e =
-        on o (c + 1) (omega (arith, v.opens)) (omega (arith, v.closes)) (rw (front s i h, kind_not open_kind (λ w. omega arith), kind_is close_kind e, add-one c)) (λ w. omega arith)
-
-    pub along_other : (k ≡ open_kind → ⊥) → (k ≡ close_kind → ⊥) → (k ≡ underscore_kind → ⊥) → Along s (i + 1) o c n
-    along_other a b m = on o c (omega (arith, v.opens)) (omega (arith, v.closes)) (rw (front s i h, kind_not open_kind a, kind_not close_kind b)) m
-
-    pub along_gap : k ≡ underscore_kind → Along s (i + 1) o c (n + 1)
-    along_gap e = record {
-      within = omega arith;
+    pub along_open : k ≡ open_kind → suc o ≤ c + 4 → Along s (i + 1) (o + 1) c
+    along_open e l = record {
       opens = omega (arith, v.opens);
       closes = omega (arith, v.closes);
-      few = omega (arith, v.few);
-      deep = y ∙ v.deep;
-      gaps = omega (arith, v.gaps, z);
+      deep = rw (add-one o) (rw (front s i h, kind_is open_kind e, le-ltb (c + 4) (suc o) l) at v.deep);
     }
-      where
-        y : too_deep o c (drop (i + 1) s) ≡ too_deep o c (drop i s)
-        y = rw (front s i h, kind_not open_kind (λ w. omega arith), kind_not close_kind (λ w. omega arith))
 
-        z : count_of underscore_kind (drop i s) ≡ suc (count_of underscore_kind (drop (i + 1) s))
-        z = rw (front s i h, kind_is underscore_kind e)
+    pub along_close : k ≡ close_kind → Along s (i + 1) o (c + 1)
+    along_close e = record {
+      opens = omega (arith, v.opens);
+      closes = omega (arith, v.closes);
+      deep = rw (add-one c) (rw (front s i h, kind_not open_kind (λ w. omega arith), kind_is close_kind e) at v.deep);
+    }
+
+    pub along_other : (k ≡ open_kind → ⊥) → (k ≡ close_kind → ⊥) → Along s (i + 1) o c
+    along_other a b = record {
+      opens = omega (arith, v.opens);
+      closes = omega (arith, v.closes);
+      deep = rw (front s i h, kind_not open_kind a, kind_not close_kind b) at v.deep;
+    }
 
   -- ---- rising letters
   pub rises_not : (low : ℕ) → (k ≡ letter_kind → ⊥) → rising low (drop i s) ≡ false
@@ -138,12 +144,19 @@ module _ (s : List ℕ) (i k : ℕ) (h : i < length s) (q : k ≡ kind_of (get_o
   pub rises_on : (low : ℕ) → k ≡ letter_kind → low < get_or s i 0 → rising (get_or s i 0) (drop (i + 1) s) ≡ rising low (drop i s)
   rises_on low e l = rw (front s i h, kind_is letter_kind e, lt-ltb low (get_or s i 0) l)
 
-module _ {s : List ℕ} {i o c n : ℕ} (v : Along s i o c n) (h : length s ≤ i) where
-  pub shallow : too_deep 0 0 s ≡ false
-  shallow = sym v.deep ∙ rw (drop_of_length-le s {i = i} h)
+pub shallow : {s : List ℕ} {i o c : ℕ} → Along s i o c → length s ≤ i → too_deep 0 0 s ≡ false
+shallow {s} {i} v h = sym v.deep ∙ rw (drop_of_length-le s {i = i} h)
 
-  pub gaps_all : count_of underscore_kind s ≡ n
-  gaps_all = let z : count_of underscore_kind (drop i s) ≡ 0 = rw (drop_of_length-le s {i = i} h) in omega (arith, v.gaps, z)
+-- the bytes of `_`'s kind are the bytes `_`
+gap_step : (b : ℕ) (s : List ℕ) → count_of underscore_kind (b ∷ s) ≡ cond (b == 95) (1 + count_of underscore_kind s) (count_of underscore_kind s)
+gap_step b s = go (same_cases nat_test b 95)
+  where
+    go : SameCases nat_test b 95 → count_of underscore_kind (b ∷ s) ≡ cond (b == 95) (1 + count_of underscore_kind s) (count_of underscore_kind s)
+    go (inl p) = rw (eq-eqb (kind_of b) underscore_kind (ap kind_of p.0), p.1) (omega arith)
+    go (inr p) = rw (ne_eqb (kind_of b) underscore_kind (λ e. p.0 (sign_only b 17 e)), p.1)
+
+pub gaps_counted : (s : List ℕ) → count_of underscore_kind s ≡ count_by (λ b. b == 95) s
+gaps_counted s = is_count_by (count_of underscore_kind) (λ b. b == 95) refl gap_step s
 
 pub rises_end : (s : List ℕ) (i low : ℕ) → length s ≤ i → rising low (drop i s) ≡ true
 rises_end s i low h = rw (drop_of_length-le s {i = i} h)
@@ -193,22 +206,30 @@ module _ (s : List ℕ) (k : ℕ) (h : 0 < length s) (q : k ≡ kind_of (get_or 
   pub head_rises : k ≡ colon_kind → 2 ≤ length s → length s ≤ 27 → is_head narrow s ≡ rising 0 (drop 1 s)
   head_rises e l m = head_is ∙ rw (eq-eqb k colon_kind e, le-leb 1 (length s - 1) (omega arith), le-leb (length s - 1) 26 (omega arith))
 
-module _ (s : List ℕ) (ended : Bool) (n : ℕ) (q : n ≡ line_test (line_of s ended)) where
-  pub head_tested : (n ≡ 0 → ⊥) → read_head narrow (line_of s ended) ≡ stops n
-  unfolding read_head
-  head_tested e = rw (← q, ne_eqb n 0 e)
+-- a refusal's number is none of a line that passes
+pub refused_not : (r : Refusal) → refusal_number r ≡ 0 → ⊥
+refused_not NestingTooDeep e = omega arith
+refused_not TooManyContexts e = omega arith
+refused_not MalformedLine e = omega arith
+refused_not UndefinedSymbol e = omega arith
+refused_not DuplicateName e = omega arith
 
-  pub head_letters : n ≡ 0 → is_head narrow s ≡ true → read_head narrow (line_of s ended) ≡ letters (take (length s - 1) (drop 1 s))
+module _ (s : List ℕ) (ended : Bool) where
+  pub head_tested : (r : Refusal) → line_test (line_of s ended) ≡ refusal_number r → read_head narrow (line_of s ended) ≡ stops (refusal_number r)
   unfolding read_head
-  head_letters e h = rw (← q, eq-eqb n 0 e, h) (ap letters (go s))
+  head_tested r q = rw (q, ne_eqb (refusal_number r) 0 (refused_not r))
+
+  pub head_letters : line_test (line_of s ended) ≡ 0 → is_head narrow s ≡ true → read_head narrow (line_of s ended) ≡ letters (take (length s - 1) (drop 1 s))
+  unfolding read_head
+  head_letters q h = rw (q, h) (ap letters (go s))
     where
       go : (s : List ℕ) → letters_of (line_of s ended) ≡ take (length s - 1) (drop 1 s)
       go [] = refl
       go (b ∷ s) = let z : suc (length s) - 1 ≡ length s = omega arith in rw z (sym (take_all (length s) s (omega arith)))
 
-  pub head_malformed : n ≡ 0 → is_head narrow s ≡ false → read_head narrow (line_of s ended) ≡ stops 5
+  pub head_malformed : line_test (line_of s ended) ≡ 0 → is_head narrow s ≡ false → read_head narrow (line_of s ended) ≡ stops 5
   unfolding read_head
-  head_malformed e h = rw (← q, eq-eqb n 0 e, h)
+  head_malformed q h = rw (q, h)
 
 pub head_length : (s : List ℕ) → is_head narrow s ≡ true → 1 ≤ length s
 head_length [] e = absurd (true≢false (sym e))

@@ -7,12 +7,8 @@ pub fn line_end(text: &[u8], at: usize) -> usize
     requires { at ≤ length text.now }
     ensures { Ends text.now at result }
 {
-    let mut i = at;
-    while i < text.len() {
-        if text[i] == b'\n' {
-            return i;
-        }
-        i += 1;
+    match text[at..].iter().position(|b| *b == b'\n') {
+        Some(behind) => at + behind,
+        None => text.len(),
     }
-    i
 }

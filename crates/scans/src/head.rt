@@ -1,52 +1,39 @@
 // Line 1: `:` and then 1 to 26 letters, strictly rising.
-ghost use Rattle.std.specs.Prelude.{◌≡◌, ◌≤◌, length, drop};
+ghost use Rattle.std.specs.Prelude.{◌≡◌};
 ghost use Rattle.automata.specs.Format.{narrow};
 ghost use Rattle.book.specs.Text.{rising, is_head};
 ghost use Rattle.book.specs.Line.{read_head};
-ghost use Rattle.lexer.specs.Kinds.{Kinds};
 ghost use Rattle.scans.specs.Lines.{line_of};
 ghost use Rattle.scans.specs.Head.{head_of};
 
 use crate::tests;
-use book::kinds::{COLON_KIND, LETTER_KIND};
-use lexer::kinds::{KindTable, kind};
+use book::refusal::Refusal;
+use lexer::kinds::Kind;
 
-// How many letters stand behind the line's `:`, or the number of a refusal.
-#[derive(Clone, Copy)]
-pub enum Head {
-    Letters(usize),
-    Refused(u8),
-}
-
-// The bytes behind the first are letters, each above the one before.
-fn rises(kinds: &KindTable, line: &[u8]) -> bool
-    requires { Kinds kinds.now }
-    ensures { result ≡ rising 0 (drop 1 line.now) }
+// The bytes are letters, each above the one before.
+fn rises(letters: &[u8]) -> bool
+    ensures { result ≡ rising 0 letters.now }
 {
     let mut low: u8 = 0;
-    let mut i = 1;
-    while i < line.len() {
-        let b = line[i];
-        if kind(kinds, b) != LETTER_KIND {
+    for b in letters {
+        if Kind::of(*b) != Kind::Letter {
             return false;
         }
-        if b <= low {
+        if *b <= low {
             return false;
         }
-        low = b;
-        i += 1;
+        low = *b;
     }
     true
 }
 
-pub fn is_head(kinds: &KindTable, line: &[u8]) -> bool
-    requires { Kinds kinds.now }
+pub fn is_head(line: &[u8]) -> bool
     ensures { result ≡ is_head narrow line.now }
 {
-    if line.len() < 1 {
+    if line.is_empty() {
         return false;
     }
-    if kind(kinds, line[0]) != COLON_KIND {
+    if Kind::of(line[0]) != Kind::Colon {
         return false;
     }
     if line.len() < 2 {
@@ -55,20 +42,17 @@ pub fn is_head(kinds: &KindTable, line: &[u8]) -> bool
     if 27 < line.len() {
         return false;
     }
-    rises(kinds, line)
+    rises(&line[1..])
 }
 
-pub fn read_head(kinds: &KindTable, line: &[u8], ended: bool) -> Head
-    requires { Kinds kinds.now }
+// How many letters stand behind the line's `:`.
+pub fn read_head(line: &[u8], ended: bool) -> Result<usize, Refusal>
     ensures { read_head narrow (line_of line.now ended) ≡ head_of line.now result }
 {
-    let n = tests::line_test(line, ended);
-    if n != 0 {
-        return Head::Refused(n);
-    }
-    if is_head(kinds, line) {
-        Head::Letters(line.len() - 1)
+    tests::line_test(line, ended)?;
+    if is_head(line) {
+        Ok(line.len() - 1)
     } else {
-        Head::Refused(5)
+        Err(Refusal::MalformedLine)
     }
 }

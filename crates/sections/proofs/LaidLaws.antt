@@ -5,6 +5,9 @@ use Prim.Native.Nat.{ℕ, suc, ◌+◌, ◌-◌, ◌*◌, ◌≤◌, ◌<◌}
 use native.Mathlib.Omega.{arith}
 use native.Mathlib.Numerals.{add-one}
 use lib.ListN.{length, get_or, take, drop, set, length-set, take-append-drop}
+use Rattle.std.proofs.Common.{length-append, length-take-le, length-drop}
+use Rattle.std.proofs.Math.Seq.{take-append_seam}
+use Rattle.std.proofs.lemmas.Slice.{drop-append-drop}
 use lib.Seq.{take-suc-set, drop-set-lt, drop-drop, ext_get_or}
 use Rattle.automata.specs.Basics.{tab, length_tab, get_or_tab}
 use Rattle.automata.specs.Format.{narrow}
@@ -74,3 +77,24 @@ laid_contents m n c₀ c₁ c₂ c₃ c₄ c₅ c₆ a b c d e f =
     (laid_join 0 8 10 _ _ c₀ c₄ c₅ (omega arith)
     (laid_join 0 6 8 _ _ c₀ c₃ c₄ (omega arith)
     (laid_join 0 4 6 _ _ c₀ c₂ c₃ (omega arith) (laid_join 0 2 4 _ _ c₀ c₁ c₂ (omega arith) a b) c) d) e) f)
+
+-- ---- a part that is copied
+
+pub laid_copied : (a e : ℕ) (x y old : List ℕ) → e ≤ length old → a ≤ e → length x ≡ e - a → y ≡ x → Laid a e x old (take a old ++ (y ++ drop (e - a) (drop a old)))
+laid_copied a e x y old h le l f = rw (f, drop-drop (e - a) a old) (record {
+  long = simp (length-append, length-drop) (omega (arith, length-take-le a old (omega arith)));
+  begins = begin;
+  rest = rest;
+})
+  where
+    k : a + (e - a) ≡ e
+    k = omega arith
+
+    long : length (take a old ++ x) ≡ e
+    long = omega (arith, length-append (take a old) x, length-take-le a old (omega arith))
+
+    begin : take e (take a old ++ (x ++ drop (a + (e - a)) old)) ≡ take a old ++ x
+    begin = rw (← append_assoc (take a old) x (drop (a + (e - a)) old)) (rw long at (take-append_seam (take a old ++ x) (drop (a + (e - a)) old)))
+
+    rest : drop e (take a old ++ (x ++ drop (a + (e - a)) old)) ≡ drop e old
+    rest = rw (k, ← append_assoc (take a old) x (drop e old)) (drop-append-drop e old (take a old ++ x) e (omega arith) long)

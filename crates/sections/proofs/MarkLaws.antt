@@ -1,15 +1,15 @@
 -- Laws of the marks bytes: by the table alone, and that they are those of the restriction to letters.
-use mathlib.Core.Path.{◌≡◌, sym, ap, ◌∙◌}
+use mathlib.Core.Path.{◌≡◌, refl, sym, ap, ◌∙◌}
 use mathlib.Core.Bool.{true, false}
 use mathlib.Core.Logic.{◌⊎◌, inl, inr, ◌≢◌}
 use mathlib.Core.List.{List, [], ◌∷◌}
-use Prim.Native.Nat.{ℕ, suc, ◌+◌, ◌*◌, ◌≤◌, ◌<◌}
-use native.Mathlib.Nat.{not-suc-le-zero}
+use Prim.Native.Nat.{ℕ, suc, ◌+◌, ◌-◌, ◌*◌, ◌<◌}
 use native.Mathlib.Omega.{arith}
 use native.Mathlib.Numerals.{add-one}
-use lib.ListN.{length, get_or}
+use lib.ListN.{length, get_or, take, drop, length-drop}
+use lib.Seq.{get_or-take, get_or-drop, length-take-le}
 use Rattle.automata.specs.Automaton.{Automaton}
-use Rattle.automata.specs.Basics.{SameCases, same_cases, LtCases, lt_cases, nat_test, find}
+use Rattle.automata.specs.Basics.{SameCases, same_cases, nat_test, find}
 use Rattle.automata.specs.Booleans.{bool_cases}
 use Rattle.automata.specs.Dead.{Dead, dead_stays}
 use Rattle.automata.specs.Live.{live}
@@ -23,6 +23,8 @@ use Rattle.numbering.specs.Arrival.{kept_machine, Ordered}
 use Rattle.sections.specs.StateMark.{row_of, StateMark, accepts, stays, leaves}
 use Rattle.sections.specs.Kept.{Kept}
 use Rattle.numbering.proofs.NumberLaws.{row_step}
+use Rattle.numbering.proofs.NumberLaws.{row_of as numbered_row}
+use Rattle.automata.specs.Table.{ClosedTable}
 use Rattle.sections.proofs.RestrictLaws.{L, list_at, order_below, restrict_count, restrict_step, find_there, up}
 
 -- ---- one state
@@ -37,25 +39,28 @@ flag_set x h = go (same_cases nat_test x 0)
 pub flag_clear : (x : ℕ) → x ≡ 0 → flag_of x ≡ false
 flag_clear x e = rw e
 
--- The letters below c lead from s to s.
-pub record StaysUpto (m : ℕ) (t : List ℕ) (s c : ℕ) : Type 0 where
-  pub back : (j : ℕ) → j < c → get_or t (row_of m s + j) 0 ≡ s
+-- the row of state s, as it is read
+abbrev pub part : ℕ → List ℕ → ℕ → List ℕ
+part m t s = take (120 + s * (m + 1) + m - (120 + s * (m + 1))) (drop (120 + s * (m + 1)) t)
 
-pub stays_start : (m : ℕ) (t : List ℕ) (s : ℕ) → StaysUpto m t s 0
-stays_start m t s = record { back = λ j h. absurd (not-suc-le-zero h) }
+module _ (n m : ℕ) (t : List ℕ) (s : ℕ) (C : ClosedTable 120 n (suc m) t) (h : s < n) where
+  row_at : (c : ℕ) → c < m → get_or (part m t s) c 0 ≡ get_or t (row_of m s + c) 0
+  row_at c b =
+      let z : 120 + s * (m + 1) + m - (120 + s * (m + 1)) ≡ m = omega arith in
+      rw (z, get_or-take m (drop (120 + s * (m + 1)) t) c 0 b, get_or-drop (120 + s * (m + 1)) t c 0, add-one m) refl
 
-pub stays_next : (m : ℕ) (t : List ℕ) (s c : ℕ) → StaysUpto m t s c → get_or t (120 + s * (m + 1) + c) 0 ≡ s → StaysUpto m t s (c + 1)
-stays_next m t s c u e = record { back = λ j h. go j h (lt_cases j c) }
-  where
-    go : (j : ℕ) → j < c + 1 → LtCases j c → get_or t (row_of m s + j) 0 ≡ s
-    go j h (inl p) = u.back j p.0
-    go j h (inr p) = let z : j ≡ c = omega arith in rw z (rw (add-one m) at e)
+  long : length (part m t s) ≡ m
+  long =
+      let z : 120 + s * (m + 1) + m - (120 + s * (m + 1)) ≡ m = omega arith in
+      rw z (length-take-le m (drop (120 + s * (m + 1)) t) (omega (arith, length-drop (120 + s * (m + 1)) t, (numbered_row n m t C s h).room)))
 
-pub mark_stays : (m : ℕ) (t : List ℕ) (s c : ℕ) → get_or t s 0 ≡ 0 → m ≤ c → StaysUpto m t s c → StateMark m t s 2
-mark_stays m t s c e h u = stays (flag_clear (get_or t s 0) e) (λ j b. u.back j (omega arith))
+  pub mark_stays : get_or t s 0 ≡ 0
+      → ((c : ℕ) → c < length (part m t s) → get_or (part m t s) c 0 ≡ s) → StateMark m t s 2
+  mark_stays e u = stays (flag_clear (get_or t s 0) e) (λ c b. sym (row_at c b) ∙ u c (rw long b))
 
-pub mark_leaves : (m : ℕ) (t : List ℕ) (s c : ℕ) → get_or t s 0 ≡ 0 → c < m → get_or t (120 + s * (m + 1) + c) 0 ≢ s → StateMark m t s 0
-mark_leaves m t s c e h d = leaves (flag_clear (get_or t s 0) e) c h (rw (add-one m) at d)
+  pub mark_leaves : get_or t s 0 ≡ 0
+      → (c : ℕ) × (c < length (part m t s)) × (get_or (part m t s) c 0 ≢ s) → StateMark m t s 0
+  mark_leaves e (c, b, d) = let b' : c < m = rw long at b in leaves (flag_clear (get_or t s 0) e) c b' (λ x. d (row_at c b' ∙ x))
 
 -- ---- the marks bytes of the restriction
 

@@ -58,10 +58,11 @@ unfolding rows_upto
 rows_grow m t o u i =
     ap flat (sym (tab_snoc (λ j. row_bytes (place_of m o j) m t u) i)) ∙ flat_snoc (tab (λ j. row_bytes (place_of m o j) m t u) i) (row_bytes (place_of m o i) m t u)
 
-pub rows_next : (m : ℕ) (t o u old mid new : List ℕ) (a b i s : ℕ) → s ≡ get_or o i 0 → Laid a b (rows_upto m t o u i) old mid
-    → Laid b (b + m) (row_bytes (120 + s * (m + 1)) m t u) mid new → Laid a (b + m) (rows_upto m t o u (i + 1)) old new
-rows_next m t o u old mid new a b i s e l r =
-    rw (add-one i, rows_grow m t o u i) (laid_join a b (b + m) (rows_upto m t o u i) (row_bytes (place_of m o i) m t u) old mid new (omega arith) l (rw e at r))
+pub rows_next : (m : ℕ) (t o u old mid new : List ℕ) (a i b : ℕ) → b ≡ i * m + m → Laid a (a + i * m) (rows_upto m t o u i) old mid
+    → Laid (a + i * m) (a + i * m + m) (row_bytes (place_of m o i) m t u) mid new → Laid a (a + b) (rows_upto m t o u (i + 1)) old new
+rows_next m t o u old mid new a i b e l r =
+    let z : a + b ≡ a + i * m + m = omega arith in
+    rw (z, add-one i, rows_grow m t o u i) (laid_join a (a + i * m) (a + i * m + m) (rows_upto m t o u i) (row_bytes (place_of m o i) m t u) old mid new (omega arith) l r)
 
 module _ (n m : ℕ) (t o u : List ℕ) (count : ℕ) (R : Arranged n m t o u count) where
   abbrev C : ClosedTable 120 n (suc m) t

@@ -10,8 +10,7 @@ fn put_number(card: &mut [u8], at: usize, x: usize)
     requires { at + 2 ≤ length card.old }
     ensures { Laid at (at + 2) (little_endian 2 x) card.old card.new }
 {
-    card[at] = (x % 256) as u8;
-    card[at + 1] = (x / 256 % 256) as u8;
+    card[at..at + 2].copy_from_slice(&x.to_le_bytes()[..2]);
 }
 
 // For letters, marks and moves in turn an offset and a length.
@@ -32,9 +31,5 @@ pub fn put_letters(letters: &[u8], card: &mut [u8])
     requires { 12 + length letters.now ≤ length card.old }
     ensures { Laid 12 (12 + length letters.now) letters.now card.old card.new }
 {
-    let mut i = 0;
-    while i < letters.len() {
-        card[12 + i] = letters[i];
-        i += 1;
-    }
+    card[12..12 + letters.len()].copy_from_slice(letters);
 }

@@ -4,4 +4,4 @@
 
 pub mod contents;
 pub mod marks;
-pub mod moves;
+pub mod targets;

@@ -1,34 +1,17 @@
--- The codes of the operations, and that the states which a reachable row names are states.
-use mathlib.Core.Path.{◌≡◌, refl, ◌∙◌}
+-- That the states which a reachable row names are states.
+use mathlib.Core.Path.{◌≡◌}
 use mathlib.Core.List.{List, [], ◌∷◌}
-use Prim.Native.Nat.{ℕ, zero, suc, ◌+◌, ◌*◌, ◌-◌, ◌/◌, ◌%◌, ◌≤◌, ◌<◌}
+use Prim.Native.Nat.{ℕ, ◌+◌, ◌*◌, ◌-◌, ◌/◌, ◌%◌, ◌≤◌, ◌<◌}
 use native.Mathlib.Omega.{arith}
 use lib.ListN.{length, take, drop}
 use Rattle.automata.specs.Automaton.{Automaton, Over, run, Reachable}
 use Rattle.automata.specs.Table.{table_step}
-use Rattle.rows.specs.Rows.{flag_at, number_at, row_at}
+use Rattle.rows.specs.Rows.{number_at, row_at}
 use Rattle.rows.proofs.RowLaws.{row_part, row_length}
-use Rattle.flags.specs.Members.{Lists}
-use Rattle.flags.proofs.MemberLaws.{lists_same}
-use Rattle.sets.specs.Fits.{left_of, right_of, rows_for, RowFits, Fits, Listed, Source}
-use Rattle.sets.specs.Operations.{row_width, Operation, pairing, concatenation, star, erase, operation_of, rows_of, pair_rows, concat_rows, star_rows, erase_rows}
+use Rattle.flags.proofs.MemberLaws.{lists_taken}
+use Rattle.sets.specs.Fits.{left_of, right_of, rows_for, RowFits, Fits, Source, Listed}
+use Rattle.sets.specs.Operations.{Operation, pairing, concatenation, star, erase, operation_of, rows_of, pair_rows, concat_rows, star_rows, erase_rows}
 use Rattle.sets.specs.declared.Shape.{Shape}
-use Rattle.sets.proofs.ConcatLaws.{tail_flag}
-use Rattle.sets.proofs.PairLaws.{pair_of}
-
-pub is_concatenation : (x : ℕ) → x ≡ 3 → operation_of x ≡ concatenation
-is_concatenation x e = rw e
-
-pub is_star : (x : ℕ) → x ≡ 4 → operation_of x ≡ star
-is_star x e = rw e
-
-pub is_erase : (x : ℕ) → 3 ≤ x → (x ≡ 3 → ⊥) → (x ≡ 4 → ⊥) → operation_of x ≡ erase
-is_erase zero h u v = absurd (omega arith)
-is_erase (suc zero) h u v = absurd (omega arith)
-is_erase (suc (suc zero)) h u v = absurd (omega arith)
-is_erase (suc (suc (suc zero))) h u v = absurd (u refl)
-is_erase (suc (suc (suc (suc zero)))) h u v = absurd (v refl)
-is_erase (suc (suc (suc (suc (suc x))))) h u v = refl
 
 number_bytes_lem : (p : ℕ) → p % 256 + 256 * (p / 256) ≡ p
 number_bytes_lem p = omega arith
@@ -68,30 +51,9 @@ pub row_source : (s : Shape) (rows : List ℕ) (p : ℕ) → p * s.w + s.w ≤ l
     → Source s (take (p * s.w + s.w - p * s.w) (drop (p * s.w) rows))
 row_source s rows p h f = rw (row_part s.w p rows) (record { long = row_length s.w p rows h; fits = f })
 
--- ---- the states of a row, listed
-
-pub listed_pair : (x na nb held : ℕ) (r members : List ℕ) → x < 3 → Listed (operation_of x) na nb r held members
-listed_pair x na nb held r members h = rw (pair_of x h).1 tt
-
--- star and erase have a flag for each state of A
-pub width_flags : (x na nb : ℕ) → 3 ≤ x → (x ≡ 3 → ⊥) → na ≤ row_width (operation_of x) na nb
-width_flags zero na nb h o = absurd (omega arith)
-width_flags (suc zero) na nb h o = absurd (omega arith)
-width_flags (suc (suc zero)) na nb h o = absurd (omega arith)
-width_flags (suc (suc (suc zero))) na nb h o = absurd (o refl)
-width_flags (suc (suc (suc (suc zero)))) na nb h o = omega arith
-width_flags (suc (suc (suc (suc (suc x))))) na nb h o = omega arith
-
-pub listed_flags : (x na nb held : ℕ) (r members : List ℕ) → 3 ≤ x → (x ≡ 3 → ⊥) → Lists (flag_at r) na held members → Listed (operation_of x) na nb r held members
-listed_flags zero na nb held r members h o L = absurd (omega arith)
-listed_flags (suc zero) na nb held r members h o L = absurd (omega arith)
-listed_flags (suc (suc zero)) na nb held r members h o L = absurd (omega arith)
-listed_flags (suc (suc (suc zero))) na nb held r members h o L = absurd (o refl)
-listed_flags (suc (suc (suc (suc zero)))) na nb held r members h o L = L
-listed_flags (suc (suc (suc (suc (suc x))))) na nb held r members h o L = L
-
-pub width_concat : (x w na nb : ℕ) → x ≡ 3 → w ≡ row_width (operation_of x) na nb → w ≡ 2 + nb
-width_concat x w na nb e h = h ∙ rw e
-
-pub listed_concat : (x na nb held : ℕ) (r members : List ℕ) → x ≡ 3 → Lists (flag_at (take (length r - 2) (drop 2 r))) nb held members → Listed (operation_of x) na nb r held members
-listed_concat x na nb held r members e L = rw e (lists_same (tail_flag r) L)
+-- the listed states alone, without what stands behind them
+pub listed_taken : (o : Operation) (na nb : ℕ) (r : List ℕ) (held : ℕ) (members : List ℕ) → Listed o na nb r held members → Listed o na nb r (length (take held members)) (take held members)
+listed_taken (pairing o) na nb r held members L = tt
+listed_taken concatenation na nb r held members L = lists_taken L
+listed_taken star na nb r held members L = lists_taken L
+listed_taken erase na nb r held members L = lists_taken L

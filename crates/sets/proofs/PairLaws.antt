@@ -1,48 +1,26 @@
 -- The rows of `|`, `&` and `-`: the next pair, and whether it is accepting.
 use mathlib.Core.Path.{◌≡◌, refl, sym, ap, ap₂, ◌∙◌}
-use mathlib.Core.Bool.{Bool, not, ◌&&◌, ◌||◌}
+use mathlib.Core.Bool.{Bool, true, false≢true}
 use mathlib.Core.List.{List, [], ◌∷◌}
-use Prim.Native.Nat.{ℕ, zero, suc, ◌+◌, ◌*◌, ◌<◌}
+use Prim.Native.Nat.{ℕ, ◌+◌, ◌*◌, ◌<◌}
 use native.Mathlib.Omega.{arith}
 use lib.ListN.{length, set}
 use Rattle.automata.specs.Table.{table_step, table_accepting}
-use Rattle.automata.specs.Stages.{Pairing, either, both, without, combine}
+use Rattle.automata.specs.Stages.{Pairing, combine}
 use Rattle.rows.specs.Rows.{flag_at, number_at, pair_row}
 use Rattle.rows.specs.Sums.{row_sum}
 use Rattle.rows.proofs.SumLaws.{sum_none}
 use Rattle.flags.specs.Flags.{cell}
 use Rattle.flags.proofs.TableLaws.{cell_in, flag_in}
-use Rattle.sets.specs.Fits.{pair_answer, rows_for, Fits, Source}
-use Rattle.sets.specs.Operations.{pairing, operation_of, pair_rows}
+use Rattle.sets.specs.Fits.{rows_for, Fits, Source}
+use Rattle.sets.specs.Operations.{Operation, pairing, concatenation, star, erase, operation_of, is_pairing, pair_rows}
 use Rattle.sets.specs.declared.Shape.{Shape}
 
-pub pair_of : (x : ℕ) → x < 3 → (o : Pairing) × (operation_of x ≡ pairing o)
-pair_of zero h = (either, refl)
-pair_of (suc zero) h = (both, refl)
-pair_of (suc (suc zero)) h = (without, refl)
-pair_of (suc (suc (suc x))) h = absurd (omega arith)
-
-answer : (x : ℕ) (h : x < 3) (u v : Bool) → pair_answer x u v ≡ combine (pair_of x h).0 u v
-unfolding pair_answer pair_of
-answer zero h u v = refl
-answer (suc zero) h u v = refl
-answer (suc (suc zero)) h u v = refl
-answer (suc (suc (suc x))) h u v = absurd (omega arith)
-
--- the answer by the code's tests
-pub answer_either : (x : ℕ) (u v : Bool) → x ≡ 0 → pair_answer x u v ≡ u || v
-unfolding pair_answer
-answer_either x u v e = rw e
-
-pub answer_both : (x : ℕ) (u v : Bool) → x ≡ 1 → pair_answer x u v ≡ u && v
-unfolding pair_answer
-answer_both x u v e = rw e
-
-pub answer_without : (x : ℕ) (u v : Bool) → (x ≡ 0 → ⊥) → (x ≡ 1 → ⊥) → pair_answer x u v ≡ u && not v
-unfolding pair_answer
-answer_without zero u v n m = absurd (n refl)
-answer_without (suc zero) u v n m = absurd (m refl)
-answer_without (suc (suc x)) u v n m = refl
+pub pair_of : (x : Operation) → is_pairing x ≡ true → (o : Pairing) × (x ≡ pairing o)
+pair_of (pairing o) h = (o, refl)
+pair_of concatenation h = absurd (false≢true h)
+pair_of star h = absurd (false≢true h)
+pair_of erase h = absurd (false≢true h)
 
 four : (r : List ℕ) (x y z v : ℕ) → length r ≡ 4 → set (set (set (set r 0 x) 1 y) 2 z) 3 v ≡ x ∷ y ∷ z ∷ v ∷ []
 four [] x y z v e = absurd (omega arith)
@@ -52,24 +30,24 @@ four (_ ∷ _ ∷ _ ∷ []) x y z v e = absurd (omega arith)
 four (_ ∷ _ ∷ _ ∷ _ ∷ []) x y z v e = refl
 four (_ ∷ _ ∷ _ ∷ _ ∷ _ ∷ r) x y z v e = absurd (omega arith)
 
-pub pair_start : (s : Shape) (a b : List ℕ) → Fits s a b → s.op < 3 → (row r1 r2 : List ℕ) → length row ≡ s.w → r1 ≡ set (set row 0 0) 1 0 → r2 ≡ set (set r1 2 0) 3 0
+pub pair_start : (s : Shape) (a b : List ℕ) → Fits s a b → is_pairing (operation_of s.op) ≡ true → (row r1 r2 : List ℕ) → length row ≡ s.w → r1 ≡ set (set row 0 0) 1 0 → r2 ≡ set (set r1 2 0) 3 0
     → (r2 ≡ (rows_for s a b).start) × (0 ≡ row_sum 0 r2)
 unfolding pair_rows
 pair_start s a b F h row r1 r2 w e1 e2 =
-    let p = pair_of s.op h in
+    let p = pair_of (operation_of s.op) h in
     let z : r2 ≡ pair_row 0 0 = e2 ∙ rw e1 (four row 0 0 0 0 (w ∙ F.width ∙ rw p.1)) in
     (z ∙ rw p.1, sym (ap (row_sum 0) z ∙ sum_none 0 4))
 
-pub pair_room : (s : Shape) (a b : List ℕ) → Fits s a b → s.op < 3 → s.w ≡ 4
-pair_room s a b F h = F.width ∙ rw (pair_of s.op h).1
+pub pair_room : (s : Shape) (a b : List ℕ) → Fits s a b → is_pairing (operation_of s.op) ≡ true → s.w ≡ 4
+pair_room s a b F h = F.width ∙ rw (pair_of (operation_of s.op) h).1
 
-module _ (s : Shape) (a b from : List ℕ) (F : Fits s a b) (S : Source s from) (h : s.op < 3) where
+module _ (s : Shape) (a b from : List ℕ) (F : Fits s a b) (S : Source s from) (h : is_pairing (operation_of s.op) ≡ true) where
   o : Pairing
-  o = (pair_of s.op h).0
+  o = (pair_of (operation_of s.op) h).0
 
   is : operation_of s.op ≡ pairing o
   unfolding o
-  is = (pair_of s.op h).1
+  is = (pair_of (operation_of s.op) h).1
 
   pub pair_width : s.w ≡ 4
   pair_width = F.width ∙ rw is
@@ -108,11 +86,10 @@ module _ (s : Shape) (a b from : List ℕ) (F : Fits s a b) (S : Source s from) 
       (ey ∙ sym (table_step s.bb s.nb s.k b F.right (number_at from 2) c pair_right l))
       ∙ rw is
 
-  pub pair_accepts : (x y v : Bool) → x ≡ flag_at a (number_at from 0) → y ≡ flag_at b (number_at from 2) → v ≡ pair_answer s.op x y → v ≡ (rows_for s a b).accepting from
+  pub pair_accepts : (x y v : Bool) → x ≡ flag_at a (number_at from 0) → y ≡ flag_at b (number_at from 2) → ((o : Pairing) → operation_of s.op ≡ pairing o → v ≡ combine o x y) → v ≡ (rows_for s a b).accepting from
   unfolding pair_rows o
   pair_accepts x y v ex ey e =
-      e
-      ∙ answer s.op h x y
+      e o is
       ∙ ap₂ (combine o) (ex ∙ sym (table_accepting s.ba s.na s.k a F.left (number_at from 0) pair_left))
       (ey ∙ sym (table_accepting s.bb s.nb s.k b F.right (number_at from 2) pair_right))
       ∙ rw is

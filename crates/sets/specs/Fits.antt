@@ -1,5 +1,5 @@
 -- What making the rows of an operation asks of its operands and of the row that it starts from.
-use Rattle.std.specs.Prelude.{◌≡◌, Bool, not, ◌&&◌, ◌||◌, List, ℕ, zero, suc, ◌+◌, ◌-◌, ◌≤◌, ◌<◌, length, set}
+use Rattle.std.specs.Prelude.{◌≡◌, Bool, List, ℕ, ◌+◌, ◌-◌, ◌≤◌, ◌<◌, length, set}
 use Rattle.automata.specs.Booleans.{choose}
 use Rattle.automata.specs.Automaton.{Automaton}
 use Rattle.automata.specs.Machine.{automaton}
@@ -59,12 +59,6 @@ pub record Listing (s : Shape) (members : List ℕ) : Type 0 where
   pub left : s.na ≤ length members
   pub right : s.nb ≤ length members
   pub small : length members ≤ 65536
-
--- `|`, `&` or `-` of two answers, by its code
-unfoldable pub pair_answer : ℕ → Bool → Bool → Bool
-pair_answer zero x y = x || y
-pair_answer (suc zero) x y = x && y
-pair_answer (suc (suc o)) x y = x && not y
 
 -- flags, with the first set where a test says so
 unfoldable pub with_zero : Bool → List ℕ → List ℕ

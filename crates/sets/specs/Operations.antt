@@ -1,12 +1,14 @@
 -- The sets of a stage as rows of bytes: for each operation an automaton whose states are rows. An operand is the number of its states with an
 -- automaton of numbered states, 0 the start. Nothing is assumed of the operands.
-use Rattle.std.specs.Prelude.{Bool, false, ◌&&◌, ◌||◌, List, ℕ, zero, suc, ◌+◌, eqb}
+use Rattle.std.specs.Prelude.{Bool, true, false, ◌&&◌, ◌||◌, List, ℕ, zero, suc, ◌+◌, eqb}
 use Rattle.automata.specs.Booleans.{choose}
 use Rattle.automata.specs.Automaton.{Automaton}
 use Rattle.automata.specs.Decide.{any_below}
 use Rattle.rows.specs.Rows.{flag_at, number_at, number_bytes, pair_row}
 use Rattle.flags.specs.Flags.{flag_row, leads_to, some_accepting}
 use Rattle.automata.specs.Stages.{Pairing, either, both, without, combine}
+use Rattle.sets.specs.declared.Operation.{Operation as Code}
+use Rattle.sets.specs.declared.Operation.TheVariants.{Either, Both, Without, Join, Star, Erase}
 
 -- ---- `|`, `&`, `-`: "a set is a pair reached from (0, 0)". Four bytes, the two states.
 
@@ -71,14 +73,20 @@ pub data Operation : Type 0 where
   pairing : Pairing → Operation
   concatenation star erase : Operation
 
--- their codes: 0 `|`, 1 `&`, 2 `-`, 3 concatenation, 4 star, 5 erase
-abbrev pub operation_of : ℕ → Operation
-operation_of zero = pairing either
-operation_of (suc zero) = pairing both
-operation_of (suc (suc zero)) = pairing without
-operation_of (suc (suc (suc zero))) = concatenation
-operation_of (suc (suc (suc (suc zero)))) = star
-operation_of (suc (suc (suc (suc (suc x))))) = erase
+abbrev pub operation_of : Code → Operation
+operation_of Either = pairing either
+operation_of Both = pairing both
+operation_of Without = pairing without
+operation_of Join = concatenation
+operation_of Star = star
+operation_of Erase = erase
+
+-- the sets are pairs of states
+abbrev pub is_pairing : Operation → Bool
+is_pairing (pairing o) = true
+is_pairing concatenation = false
+is_pairing star = false
+is_pairing erase = false
 
 -- the bytes of a row, for operands of na and nb states
 abbrev pub row_width : Operation → ℕ → ℕ → ℕ

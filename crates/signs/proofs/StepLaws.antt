@@ -1,7 +1,7 @@
 -- How the loops over signs go on, and what an item makes of them.
 use mathlib.Core.Path.{◌≡◌, refl, sym, ap, ◌∙◌, subst}
 use mathlib.Core.List.{List, [], ◌∷◌, ◌++◌, append_assoc}
-use Prim.Native.Nat.{ℕ, zero, suc, ◌+◌, ◌*◌, ◌-◌, ◌<◌, ◌≤◌}
+use Prim.Native.Nat.{ℕ, zero, suc, ◌+◌, ◌*◌, ◌-◌, ◌≤◌}
 use native.Mathlib.Numerals.{add-one}
 use native.Mathlib.Omega.{arith}
 use lib.ListN.{length, take, drop}
@@ -126,40 +126,18 @@ pub negated_bad : (k : ℕ) → negated k bad ≡ bad
 negated_bad zero = refl
 negated_bad (suc k) = negated_bad k
 
--- what the loop that writes their codes keeps: so many are due still
-pub record Negating (o : List ℕ) (c : Spot) (k : ℕ) (o' : List ℕ) (n : Spot) (due : ℕ) : Type 0 where
-  pub at_is : n.cursor.at ≡ c.cursor.at
-  pub pos_is : n.pos + due ≡ c.pos + k
-  pub goes : (before : List ℕ) (e : Expr) → take c.pos o ≡ before ++ postfix e → (g : Expr) × (take n.pos o' ≡ before ++ postfix g) × (complements due g ≡ complements k e)
-  pub grown : Grown o c.pos o' n.pos
-  pub same_length : length o' ≡ length o
+-- their codes: one complement more
+complement_last : (k : ℕ) (e : Expr) → complements (suc k) e ≡ complement (complements k e)
+complement_last zero e = refl
+complement_last (suc k) e = complement_last k (complement e)
 
-pub negating_start : (o : List ℕ) (c : Spot) (k : ℕ) → Negating o c k o c k
-negating_start o c k = record { at_is = refl; pos_is = refl; goes = λ before e q. (e, q, refl); grown = grown_none o c.pos; same_length = refl }
+pub negated_none : (o : List ℕ) (c : Spot) → Negated o c 0 o c
+negated_none o c = record { at_is = refl; pos_is = omega arith; goes = λ before e q. q; grown = grown_none o c.pos }
 
-pub negating_turn : {o o₁ o' : List ℕ} {c n n' : Spot} {k due : ℕ} → Negating o c k o₁ n due → 0 < due → Put o₁ n complement_code o' n' → length o' ≡ length o₁ → Negating o c k o' n' (due - 1)
-negating_turn {o} {o₁} {o'} {c} {n} {n'} {k} {due} g h w ln = record {
+pub negated_more : {o o₁ o' : List ℕ} {c n n' : Spot} {k : ℕ} → Negated o c k o₁ n → Put o₁ n complement_code o' n' → Negated o c (k + 1) o' n'
+negated_more {k = k} g w = rw add-one (record {
   at_is = w.at_is ∙ g.at_is;
   pos_is = omega (arith, w.pos_is, g.pos_is);
-  goes = λ before e q. step before e (g.goes before e q);
+  goes = λ before e q. put_code before (complements k e) (complements (suc k) e) w (g.goes before e q) (ap postfix (complement_last k e));
   grown = grown_more g.grown w.grown;
-  same_length = ln ∙ g.same_length;
-}
-  where
-    step : (before : List ℕ) (e : Expr) → (g : Expr) × (take n.pos o₁ ≡ before ++ postfix g) × (complements due g ≡ complements k e) → (g : Expr) × (take n'.pos o' ≡ before ++ postfix g) × (complements (due - 1) g ≡ complements k e)
-    step before e (g, p, r) =
-        let z : suc (due - 1) ≡ due = omega arith in
-        (complement g, put_code before g (complement g) w p refl, ap (λ (i : ℕ). complements i g) z ∙ r)
-
-pub negating_done : {o o' : List ℕ} {c n : Spot} {k due : ℕ} → Negating o c k o' n due → due ≤ 0 → Negated o c k o' n
-negating_done {o} {o'} {c} {n} {k} {due} g h = record {
-  at_is = g.at_is;
-  pos_is = omega (arith, g.pos_is);
-  goes = λ before e q. last before e (g.goes before e q);
-  grown = g.grown;
-}
-  where
-    last : (before : List ℕ) (e : Expr) → (g : Expr) × (take n.pos o' ≡ before ++ postfix g) × (complements due g ≡ complements k e) → take n.pos o' ≡ before ++ postfix (complements k e)
-    last before e (g, p, r) =
-        let z : due ≡ 0 = omega arith in
-        p ∙ ap (λ (x : Expr). before ++ postfix x) (ap (λ (i : ℕ). complements i g) (sym z) ∙ r)
+})

@@ -1,5 +1,5 @@
 -- What the functions promise: a byte of code, the signs behind an atom, the `!` before it.
-use Rattle.std.specs.Prelude.{◌≡◌, Bool, true, false, List, [], ◌∷◌, ◌++◌, ℕ, zero, suc, ◌+◌, ◌*◌, ◌-◌, ◌≤◌, length, take, drop}
+use Rattle.std.specs.Prelude.{◌≡◌, Option, None, Some, List, [], ◌∷◌, ◌++◌, ℕ, zero, suc, ◌+◌, ◌*◌, ◌-◌, ◌≤◌, length, take, drop}
 use Rattle.language.specs.Expression.{Expr, complement}
 use Rattle.book.specs.Kind.{bang_kind}
 use Rattle.book.specs.Reader.{Read, got, and_then, repeats, item}
@@ -17,11 +17,11 @@ pub record Put (o : List ℕ) (c : Spot) (b : ℕ) (o' : List ℕ) (n : Spot) : 
   pub code_is : take n.pos o' ≡ take c.pos o ++ (b ∷ [])
   pub grown : Grown o c.pos o' n.pos
 
--- the same if there is more, else all as it was
-pub record PutIf (more : Bool) (o : List ℕ) (c : Spot) (b : ℕ) (o' : List ℕ) (n : Spot) : Type 0 where
+-- the same if there is a code, else all as it was
+pub record PutIf (code : Option ℕ) (o : List ℕ) (c : Spot) (o' : List ℕ) (n : Spot) : Type 0 where
   pub at_is : n.cursor.at ≡ c.cursor.at
-  pub put : more ≡ true → Put o c b o' n
-  pub same : more ≡ false → (o' ≡ o) × (n ≡ c)
+  pub put : {b : ℕ} → code ≡ Some b → Put o c b o' n
+  pub same : code ≡ None → (o' ≡ o) × (n ≡ c)
 
 -- The buffer's code goes on from e, behind any other code, to the expression `expr`: that of e with the signs that stand at ts, up to us.
 pub record Repeated (before : List ℕ) (e : Expr) (ts code us : List ℕ) : Type 0 where

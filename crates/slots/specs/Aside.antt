@@ -40,3 +40,13 @@ pub part_at : (a e len : ℕ) (xs ys : List ℕ) → a + len ≡ e → e ≤ len
 part_at a e len xs ys h g l =
     let z : e - a ≡ len = omega arith in
     subst (λ n. Written xs (take a xs ++ (ys ++ drop (e - a) (drop a xs))) a n (λ i. get_or ys i 0)) z (part_written a e xs ys (omega arith) g l)
+
+-- The part from a on and before e is a copy of n entries of a list, from one on.
+pub part_copied : (a e : ℕ) (xs ys src : List ℕ) (from i j n : ℕ) → ys ≡ take i (drop j src) → i ≡ n → j ≡ from → a + n ≡ e → e ≤ length xs → from + n ≤ length src
+    → Written xs (take a xs ++ (ys ++ drop (e - a) (drop a xs))) a n (λ i. get_or src (from + i) 0)
+part_copied a e xs ys src from i j n is p q h g l =
+    let z : ys ≡ take n (drop from src) = is ∙ ap (λ i. take i (drop j src)) p ∙ ap (λ j. take n (drop j src)) q in
+    let w : length (take n (drop from src)) ≡ n = length-take-le n (drop from src) (omega (arith, length-drop from src)) in
+    let v : length (take (e - a) (drop a xs)) ≡ n = length-take-le (e - a) (drop a xs) (omega (arith, length-drop a xs)) ∙ (omega arith) in
+    let W = part_at a e n xs ys h g (ap length z ∙ w ∙ sym v) in
+    record { long = W.long; here = λ i b. W.here i b ∙ ap (λ ys. get_or ys i 0) z ∙ get_or-take n (drop from src) i 0 b ∙ get_or-drop from src i 0; there = W.there }

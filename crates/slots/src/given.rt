@@ -9,11 +9,7 @@ fn fill(s: &mut [u8], from: usize, len: usize, b: u8)
     requires { from + len ≤ length s.old }
     ensures { Written s.old s.new from len (λ i. b) }
 {
-    let mut i = 0;
-    while i < len {
-        s[from + i] = b;
-        i += 1;
-    }
+    s[from..from + len].fill(b);
 }
 
 // The number of states, and a flag for each: only that of the state `good` is set.

@@ -16,7 +16,7 @@ pub fn number(s: &[u8], at: usize) -> usize
     requires { at + 2 ≤ length s.now }
     ensures { result ≡ number_at s.now at }
 {
-    s[at] as usize + 256 * (s[at + 1] as usize)
+    rows::number::read(s, at)
 }
 
 // The bytes of src from a place on, as numbers of dst from a place on.
@@ -25,10 +25,8 @@ fn widen(src: &[u8], from: usize, dst: &mut [u16], to: usize, len: usize)
     requires len_in_bounds_2 { to + len ≤ length dst.old }
     ensures { Written dst.old dst.new to len (λ i. get_or src.now (from + i) 0) }
 {
-    let mut i = 0;
-    while i < len {
-        dst[to + i] = src[from + i] as u16;
-        i += 1;
+    for i in 0..len {
+        dst[to + i] = u16::from(src[from + i]);
     }
 }
 
@@ -58,10 +56,10 @@ pub fn load(
     ensures { Loaded most k (drop left slots.now) (drop right slots.now) out.new result }
 {
     let half = most + most * k;
-    let na = unpack(slots, left, most, k, out, 0);
-    let nb = unpack(slots, right, most, k, out, half);
+    let left_states = unpack(slots, left, most, k, out, 0);
+    let right_states = unpack(slots, right, most, k, out, half);
     Sizes {
-        left: na,
-        right: nb,
+        left: left_states,
+        right: right_states,
     }
 }

@@ -11,7 +11,7 @@ use lib.Dec.{eqb}
 use Rattle.automata.specs.Booleans.{bool_cases, not_true}
 use Rattle.automata.specs.Decide.{contradict}
 use Rattle.automata.specs.Basics.{LtCases, lt_cases, nat_test}
-use Rattle.splits.specs.Splits.{Links, Reach, here, there, Found, owned}
+use Rattle.splits.specs.Splits.{Links, Reach, here, there, owned}
 
 -- ---- along the links
 
@@ -28,12 +28,6 @@ pub find_start : (ks ls : List ℕ) (s k n : ℕ) → s ≤ n → FindUpto ks ls
 find_start ks ls s k n h = record { low = h; way = here s; first = λ q w e. w }
 
 module _ (ks ls : List ℕ) (s k n r : ℕ) (links : Links ls n) (u : FindUpto ks ls s k n r) where
-  pub find_key : get_or ks r 0 ≡ k → Found ks ls s k n r
-  find_key e = record { low = u.low; way = u.way; first = u.first; stop = inl e }
-
-  pub find_end : get_or ls r 0 ≡ 0 → Found ks ls s k n r
-  find_end e = record { low = u.low; way = u.way; first = u.first; stop = inr e }
-
   pub link_on : get_or ls r 0 ≢ 0 → (r < get_or ls r 0) × (get_or ls r 0 < n)
   link_on d = go (lt_cases r n)
     where
@@ -47,13 +41,6 @@ module _ (ks ls : List ℕ) (s k n r : ℕ) (links : Links ls n) (u : FindUpto k
       after : (q : ℕ) → Reach ls r q → get_or ks q 0 ≡ k → Reach ls (get_or ls r 0) q
       after q (here _) e = absurd (f e)
       after q (there _ _ _ w) e = w
-
-  pub link_low : get_or ls r 0 ≤ n
-  link_low = go (lt_cases 0 (get_or ls r 0))
-    where
-      go : LtCases 0 (get_or ls r 0) → get_or ls r 0 ≤ n
-      go (inl x) = omega (arith, (link_on (λ e. omega arith)).1)
-      go (inr x) = omega arith
 
 -- ---- how many states name a class
 

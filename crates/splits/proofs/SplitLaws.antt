@@ -9,7 +9,7 @@ use native.Mathlib.Omega.{arith}
 use lib.ListN.{length, get_or, set, length-set}
 use lib.Seq.{get_or-set_same, get_or-set_other, set-get_or}
 use Rattle.automata.specs.Basics.{LtCases, lt_cases}
-use Rattle.splits.specs.Splits.{Links, Reach, here, there, Found, Named, owned, Split}
+use Rattle.splits.specs.Splits.{Reach, here, there, Found, Named, owned}
 use Rattle.splits.proofs.ClassLaws.{reach_on, owned_yes, owned_no, owned_ext}
 
 abbrev pub at : List ℕ → ℕ → ℕ
@@ -49,17 +49,6 @@ split_start most ks cs ls e f z = record {
   count = refl;
 }
 
-pub split_done : (n : ℕ) (ks cs ns ls : List ℕ) (count p : ℕ) → SplitUpto 120 ks cs ns ls count p → p ≡ n → Split n ks cs ns count
-split_done n ks cs ns ls count p u e = rw (← e) (record {
-  long = u.long;
-  named = record { low = u.low; own = u.own };
-  key = u.key;
-  class = u.class;
-  joins = λ q r h b f g. u.one (at ns q) (at ns r) (omega (arith, u.low q h)) (omega (arith, u.low r b)) (u.own q h) (u.own r b)
-      (u.class q h ∙ f ∙ sym (u.class r b)) (u.key q h ∙ g ∙ sym (u.key r b));
-  count = u.count;
-})
-
 below : (p q : ℕ) → q < p + 1 → (q < p) ⊎ (q ≡ p)
 below p q h = go (lt_cases q p)
   where
@@ -68,9 +57,6 @@ below p q h = go (lt_cases q p)
     go (inr x) = inr (omega arith)
 
 module _ (most n : ℕ) (ks cs ns ls : List ℕ) (count p : ℕ) (room : n ≤ most) (named : Named cs n) (h : p < n) (u : SplitUpto most ks cs ns ls count p) where
-  pub split_links : Links ls p
-  split_links = record { rises = u.rises; last = u.past p (le_refl p) }
-
   -- along the links from a state that names a class
   way_names : (s r : ℕ) → s < p → at ns s ≡ s → Reach ls s r → (r < p) × (at ns r ≡ r) × (at cs r ≡ at cs s)
   way_names s r b e (here _) = (b, e, refl)

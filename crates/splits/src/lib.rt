@@ -6,6 +6,8 @@ ghost use Rattle.std.specs.Prelude.{◌≡◌, ◌≤◌, ◌<◌, length};
 ghost use Rattle.moves.specs.Holds.{AcceptKeys};
 ghost use Rattle.splits.specs.Splits.{Links, Found, Named, Split, Columns, ColumnKeys, Refined};
 
+use moves::Mark;
+
 // Along the links from `start`, the first state with the key, or the last one.
 fn find(keys: &[u8; 120], link: &[u8; 120], start: usize, key: u8, n: usize) -> usize
     requires links { Links link.now n }
@@ -13,16 +15,11 @@ fn find(keys: &[u8; 120], link: &[u8; 120], start: usize, key: u8, n: usize) -> 
     ensures { Found keys.now link.now start key n result }
 {
     let mut r = start;
-    loop {
-        if keys[r] == key {
-            return r;
-        }
-        let next = link[r] as usize;
-        if next == 0 {
-            return r;
-        }
-        r = next;
+    // Stays: a walk along links, no index is counted.
+    while keys[r] != key && link[r] != 0 {
+        r = link[r] as usize;
     }
+    r
 }
 
 // Splits each class by the keys of its states, in place: the new class of a state is stored over its old one, and the least state of a class stays.
@@ -33,21 +30,18 @@ pub fn split(n: usize, keys: &[u8; 120], classes: &mut [u8; 120]) -> usize
 {
     let mut link = [0u8; 120];
     let mut count = 0;
-    let mut p = 0;
-    while p < n {
-        let q = p;
-        p += 1;
-        let start = classes[q] as usize;
-        if start == q {
+    for p in 0..n {
+        let start = classes[p] as usize;
+        if start == p {
             count += 1;
         } else {
-            let key = keys[q];
-            let found = find(keys, &link, start, key, q);
+            let key = keys[p];
+            let found = find(keys, &link, start, key, p);
             if keys[found] == key {
-                classes[q] = found as u8;
+                classes[p] = found as u8;
             } else {
-                link[found] = q as u8;
-                classes[q] = q as u8;
+                link[found] = p as u8;
+                classes[p] = p as u8;
                 count += 1;
             }
         }
@@ -60,15 +54,8 @@ pub fn accept_keys(marks: &[u8], keys: &mut [u8; 120])
     requires { (length marks.now ≤ 120) × (length keys.old ≡ 120) }
     ensures { AcceptKeys marks.now keys.new }
 {
-    let mut p = 0;
-    while p < marks.len() {
-        let q = p;
-        p += 1;
-        if marks[q] == 1 {
-            keys[q] = 1;
-        } else {
-            keys[q] = 0;
-        }
+    for (p, mark) in marks.iter().enumerate() {
+        keys[p] = u8::from(*mark == Mark::Accepting as u8);
     }
 }
 
@@ -84,13 +71,9 @@ fn column_keys(
     requires { Columns m n c moves.now × (length keys.old ≡ 120) }
     ensures { ColumnKeys m moves.now n c classes.now keys.new }
 {
-    let mut at = c;
-    let mut p = 0;
-    while p < n {
-        let t = moves[at] as usize;
+    for p in 0..n {
+        let t = moves[p * m + c] as usize;
         keys[p] = classes[t];
-        at += m;
-        p += 1;
     }
 }
 

@@ -1,81 +1,64 @@
 // How far a change is: of each state the fewest letters that are read before one which changes its answer. Equivalent states are equally far from a change,
 // and in a long row of letters no two states are, so that one look at these numbers parts what would take as many rounds as there are letters. The numbers
 // are lowered in place, sweep by sweep (n * k steps each): most moves lead to later states, so that the sweep from the last state to the first does nearly all.
-ghost use Rattle.std.specs.Prelude.{◌⊎◌, ◌≡◌, ℕ, suc, ◌+◌, ◌≤◌, ◌<◌, length};
+ghost use Rattle.std.specs.Prelude.{◌≡◌, ℕ, suc, ◌+◌, ◌≤◌, ◌<◌, length};
 ghost use Rattle.entries.specs.Classes.{next, Sized};
-ghost use Rattle.spread.specs.Change.{Nearest, Measured, Lowered, Swept, Settling, SameClasses, Backed};
+ghost use Rattle.spread.specs.Change.{Nearest, Measured, Lowered, Backed, Swept, Settling, SameClasses};
 
-use entries::{at, flag, put, target};
+use entries::table::Table;
 
 // How many pairs of sweeps are tried.
 const SWEEPS: usize = 8;
 
-// The smaller of two.
-fn least(x: usize, y: usize) -> usize
-    ensures { (result ≤ x) × (result ≤ y) × ((result ≡ x) ⊎ (result ≡ y)) }
-{
-    if x < y {
-        return x;
-    }
-    y
-}
-
 // The least that is known behind the columns of state p.
-fn nearest(table: &[u16], base: usize, n: usize, k: usize, work: &[u16], p: usize) -> usize
-    requires { Measured base n k table.now work.now × (p < n) }
-    ensures { Nearest base n k table.now work.now p k result }
+fn nearest(table: &Table, work: &[u16], p: usize) -> usize
+    requires { Measured table.now work.now × (p < table.now.states) }
+    ensures { Nearest table.now work.now p table.now.columns result }
 {
-    let side = flag(table, p);
-    let mut best = n - 1;
-    let mut c = 0;
-    while c < k {
-        let s = target(table, base, n, k, p, c);
-        if flag(table, s) != side {
+    let side = table.flag(p);
+    let mut best = table.states - 1;
+    for c in 0..table.columns {
+        let s = table.target(p, c);
+        if table.flag(s) != side {
             return 0;
         }
-        let x = at(work, n + s) + 1;
-        best = least(best, x);
-        c += 1;
+        best = best.min(usize::from(work[table.states + s]) + 1);
     }
     best
 }
 
 // Lowers the number of state p. Whether it did.
-fn lower(table: &[u16], base: usize, n: usize, k: usize, work: &mut [u16], p: usize) -> bool
-    requires { Measured base n k table.now work.old × (p < n) }
-    ensures { Lowered base n k table.now work.old work.new p result }
+fn lower(table: &Table, work: &mut [u16], p: usize) -> bool
+    requires { Measured table.now work.old × (p < table.now.states) }
+    ensures { Lowered table.now work.old work.new p result }
 {
-    let x = nearest(table, base, n, k, &work[..], p);
-    if x < at(&work[..], n + p) {
-        put(work, n + p, x);
+    let x = nearest(table, work, p);
+    if x < usize::from(work[table.states + p]) {
+        work[table.states + p] = x as u16;
         return true;
     }
     false
 }
 
 // One sweep, the last state first.
-fn descend(table: &[u16], base: usize, n: usize, k: usize, work: &mut [u16])
-    requires { Measured base n k table.now work.old }
-    ensures { Backed base n k table.now work.new × SameClasses n work.old work.new }
+fn descend(table: &Table, work: &mut [u16])
+    requires { Measured table.now work.old }
+    ensures { Backed table.now work.new × SameClasses table.now.states work.old work.new }
 {
-    let mut p = n;
-    while 0 < p {
-        p -= 1;
-        lower(table, base, n, k, work, p);
+    for p in (0..table.states).rev() {
+        lower(table, work, p);
     }
 }
 
 // One sweep, the first state first. Whether a number was lowered.
-fn ascend(table: &[u16], base: usize, n: usize, k: usize, work: &mut [u16]) -> bool
-    requires { Measured base n k table.now work.old }
-    ensures { Swept base n k table.now work.old work.new n result }
+// Stays: a sweep in either order would take the order as a flag or as an iterator, which is no plainer than these two loops of one line.
+fn ascend(table: &Table, work: &mut [u16]) -> bool
+    requires { Measured table.now work.old }
+    ensures { Swept table.now work.old work.new table.now.states result }
 {
     let mut changed = false;
-    let mut p = 0;
-    while p < n {
-        let q = p;
-        p += 1;
-        if lower(table, base, n, k, work, q) {
+    for p in 0..table.states {
+        if lower(table, work, p) {
             changed = true;
         }
     }
@@ -87,26 +70,20 @@ fn unknown(n: usize, work: &mut [u16])
     requires { (1 ≤ n) × (n + (n + n) ≤ length work.old) × (n < 65536) }
     ensures { SameClasses n work.old work.new × ((p : ℕ) → p < n → suc (next n work.new p) ≡ n) }
 {
-    let mut i = 0;
-    while i < n {
-        put(work, n + i, n - 1);
-        i += 1;
-    }
+    work[n..n + n].fill((n - 1) as u16);
 }
 
 // The numbers, where a few sweeps settle them: true; else they say nothing.
-pub fn changes(table: &[u16], base: usize, n: usize, k: usize, work: &mut [u16]) -> bool
-    requires { Sized base n k table.now work.old }
-    ensures { Settling base n k table.now work.old work.new result }
+pub fn changes(table: &Table, work: &mut [u16]) -> bool
+    requires { Sized table.now work.old }
+    ensures { Settling table.now work.old work.new result }
 {
-    unknown(n, work);
-    let mut j = 0;
-    while j < SWEEPS {
-        descend(table, base, n, k, work);
-        if !ascend(table, base, n, k, work) {
+    unknown(table.states, work);
+    for _ in 0..SWEEPS {
+        descend(table, work);
+        if !ascend(table, work) {
             return true;
         }
-        j += 1;
     }
     false
 }

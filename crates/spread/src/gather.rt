@@ -3,18 +3,14 @@ ghost use Rattle.std.specs.Prelude.{◌≡◌, ℕ, ◌+◌, ◌≤◌, ◌<◌,
 ghost use Rattle.entries.specs.Classes.{next};
 ghost use Rattle.spread.specs.Gather.{Numbered, Gathered, first_of, joined};
 
-use entries::{at, flag, put};
+use entries::table::Table;
 
 // No state has a number yet.
 fn none_yet(n: usize, work: &mut [u16])
     requires { n + (n + n) ≤ length work.old }
     ensures { (length work.new ≡ length work.old) × ((q : ℕ) → q < n + n → get_or work.new q 0 ≡ get_or work.old q 0) × ((d : ℕ) → d < n → first_of n work.new d ≡ 0) }
 {
-    let mut i = 0;
-    while i < n {
-        put(work, n + (n + i), 0);
-        i += 1;
-    }
+    work[n + n..n + (n + n)].fill(0);
 }
 
 // State p goes by the first state that has its number; where that is p, it is listed.
@@ -22,28 +18,25 @@ fn join(n: usize, work: &mut [u16], p: usize)
     requires { (p < n) × (n + (n + n) ≤ length work.old) × (n < 65536) × (next n work.old p < n) }
     ensures { work.new ≡ joined n work.old p }
 {
-    let d = at(&work[..], n + p);
-    let f = at(&work[..], n + (n + d));
+    let d = usize::from(work[n + p]);
+    let f = work[n + (n + d)];
     if f == 0 {
-        put(work, n + (n + d), p + 1);
-        put(work, p, p);
+        work[n + (n + d)] = (p + 1) as u16;
+        work[p] = p as u16;
         return;
     }
-    put(work, p, f - 1);
+    work[p] = f - 1;
 }
 
 // The states with the answer `side` go by the first state that has their number.
-pub fn gather(table: &[u16], n: usize, work: &mut [u16], side: u8)
-    requires { Numbered n table.now work.old }
-    ensures { Gathered n table.now side work.old work.new n }
+pub fn gather(table: &Table, work: &mut [u16], side: u8)
+    requires { Numbered table.now work.old }
+    ensures { Gathered table.now side work.old work.new table.now.states }
 {
-    none_yet(n, work);
-    let mut p = 0;
-    while p < n {
-        let q = p;
-        p += 1;
-        if flag(table, q) == side {
-            join(n, work, q);
+    none_yet(table.states, work);
+    for p in 0..table.states {
+        if table.flag(p) == side {
+            join(table.states, work, p);
         }
     }
 }

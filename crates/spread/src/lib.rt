@@ -6,15 +6,17 @@ mod gather;
 
 ghost use Rattle.entries.specs.Classes.{Sized, Refining};
 
+use entries::table::Table;
+
 // Classes by answer and number, in place of those that some rounds found; where the numbers do not settle, the classes stay.
-pub fn spread(table: &[u16], base: usize, n: usize, k: usize, work: &mut [u16])
-    requires sized { Sized base n k table.now work.old }
-    requires refining { Refining base n k table.now work.old 0 }
-    ensures { Refining base n k table.now work.new 0 }
+pub fn spread(table: &Table, work: &mut [u16])
+    requires sized { Sized table.now work.old }
+    requires refining { Refining table.now work.old 0 }
+    ensures { Refining table.now work.new 0 }
 {
-    if !change::changes(table, base, n, k, work) {
+    if !change::changes(table, work) {
         return;
     }
-    gather::gather(table, n, work, 0);
-    gather::gather(table, n, work, 1);
+    gather::gather(table, work, 0);
+    gather::gather(table, work, 1);
 }

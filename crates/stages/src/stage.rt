@@ -3,40 +3,37 @@ ghost use Rattle.std.specs.Prelude.{◌≡◌, ◌≤◌};
 ghost use Rattle.sets.specs.Operations.{operation_of, row_width};
 ghost use Rattle.answers.specs.Stage.{Reaches, Reached, Ready, StageDone};
 
-use answers::{Limits, Staged};
-use explore::{Explored, Shape};
-use minimise::Kept;
+use answers::{Limits, Made, TooMany};
+use entries::table::Table;
+use explore::Shape;
+use sets::Operation;
 use slots::slot;
 use slots::slot::Sizes;
 
 // The bytes of a row of the operation, for operands of na and nb states.
-fn width(op: u8, na: usize, nb: usize) -> usize
+fn width(op: Operation, na: usize, nb: usize) -> usize
     requires na_bound { na ≤ 256 }
     requires nb_bound { nb ≤ 256 }
     ensures { result ≡ row_width (operation_of op) na nb }
 {
-    if op < 3 {
-        return 4;
+    match op {
+        Operation::Either | Operation::Both | Operation::Without => 4,
+        Operation::Join => 2 + nb,
+        Operation::Star => na + 1,
+        Operation::Erase => na,
     }
-    if op == 3 {
-        return 2 + nb;
-    }
-    if op == 4 {
-        return na + 1;
-    }
-    na
 }
 
-// Reaches the sets of the operation on the two tables, the second half a buffer behind the first.
+// Reaches the sets of the operation on the two tables, the second half a buffer behind the first; none where they are more than the limit.
 fn reach(
-    op: u8,
+    op: Operation,
     k: usize,
     limits: Limits,
     sizes: Sizes,
     operands: &[u16],
     rows: &mut [u8],
     table: &mut [u16],
-) -> Explored
+) -> Option<usize>
     requires { Reaches k limits sizes operands.now rows.old table.old }
     ensures { Reached op k limits sizes operands.now rows.new table.new result }
 {
@@ -66,11 +63,11 @@ fn reach(
     )
 }
 
-// The stage of the operation (0 `|`, 1 `&`, 2 `-`, 3 concatenation, 4 star, 5 erase) on the machines in two slots, over m letters and the mark. Its
-// machine is kept in the first slot; nothing outside that slot is changed. Star and erase take the first machine. When the sets are reached, the operands
-// are not needed any more, and their buffer is lent for the classes.
+// The stage of the operation on the machines in two slots, over m letters and the mark. Its machine is kept in the first slot; nothing outside that slot
+// is changed. Star and erase take the first machine. When the sets are reached, the operands are not needed any more, and their buffer is lent for the
+// classes.
 pub fn stage(
-    op: u8,
+    op: Operation,
     m: usize,
     limits: Limits,
     slots: &mut [u8],
@@ -79,19 +76,20 @@ pub fn stage(
     operands: &mut [u16],
     rows: &mut [u8],
     table: &mut [u16],
-) -> Staged
+) -> Result<Made, TooMany>
     requires { Ready m limits left right slots.old operands.old rows.old table.old }
     ensures { StageDone op m limits left right slots.old slots.new result }
 {
     let k = m + 1;
     let most = limits.states;
-    let sizes = slot::load(&slots[..], left, right, most, k, operands);
-    let Explored::Sets(n) = reach(op, k, limits, sizes, &operands[..], rows, table) else {
-        return Staged::TooManySets;
+    let sizes = slot::load(slots, left, right, most, k, operands);
+    let n = reach(op, k, limits, sizes, operands, rows, table).ok_or(TooMany::TooManySets)?;
+    let reached = Table {
+        cells: table,
+        base: limits.sets,
+        states: n,
+        columns: k,
     };
-    let limit = limits.sets;
-    let Kept::States(q) = packing::keep(&table[..], limit, n, k, most, operands, slots, left) else {
-        return Staged::TooManyStates;
-    };
-    Staged::Made(n, q)
+    let q = packing::keep(&reached, most, operands, slots, left).ok_or(TooMany::TooManyStates)?;
+    Ok(Made { sets: n, states: q })
 }

@@ -21,7 +21,7 @@ pub fn start(a: &[u16], b: &[u16], s: Shape, row: &mut [u8]) -> usize
     ensures { (row.new ≡ (rows_for s a.now b.now).start) × (result ≡ row_sum 0 row.new) }
 {
     let extra = s.na;
-    bits::clear(row);
+    row.fill(0);
     let one = sum::flag(row, 0, 0, 0);
     sum::flag(row, 0, extra, one)
 }
@@ -34,21 +34,17 @@ pub fn next(
     c: usize,
     from: &[u8],
     members: &[u16],
-    held: usize,
     row: &mut [u8],
 ) -> usize
     requires step { Step s a.now b.now c from.now row.old }
     requires op_value { operation_of s.op ≡ star }
-    requires lists { Lists (flag_at from.now) s.na held members.now }
+    requires lists { Lists (flag_at from.now) s.na (length members.now) members.now }
     ensures { (row.new ≡ (rows_for s a.now b.now).step from.now c) × (result ≡ row_sum 0 row.new) }
 {
-    let k = s.k;
-    let ba = s.ba;
-    let na = s.na;
-    let poured = bits::lead(a, ba, na, k, c, members, held, 0, row);
+    let poured = bits::lead(a, s.ba, s.na, s.k, c, members, 0, row);
     if poured.accepting {
         let one = sum::flag(row, 0, 0, poured.sum);
-        return sum::flag(row, 0, na, one);
+        return sum::flag(row, 0, s.na, one);
     }
     poured.sum
 }

@@ -2,29 +2,38 @@
 #![tactic(auto)]
 
 ghost use Rattle.std.specs.Prelude.{◌+◌, ◌≤◌, ◌<◌, length, IfOk};
-ghost use Rattle.std.specs.Io.{ReadsAtMost};
 ghost use Rattle.stream.specs.Text.{Put, PutNumber, decimal};
-ghost use Rattle.stream.specs.Input.{Within, ReadsFirst, ReadsInput};
+ghost use Rattle.stream.specs.Input.{IsPrefixLen, ReadsFirst};
 
-use std::io;
 use std::io::Read;
+use std::{fmt, io};
 
 // The byte of the digit 0.
 const ZERO: u8 = 48;
 
-// An input's bytes, as many as were read up to its end or the buffer's; or that a read failed, which is not the input's end.
-#[derive(Clone, Copy)]
-pub enum Input {
-    Whole(usize),
-    Failed,
+// What a program could not do, so that it stopped.
+#[derive(Clone, Copy, PartialEq, Eq, Debug)]
+pub enum Failure {
+    NotRead,
+    NotWritten,
 }
 
-// Reads until the input ends or the buffer is full, and gives the number of bytes; or the error of the read that failed.
+impl fmt::Display for Failure {
+    fn fmt<W: fmt::Write>(&self, f: &mut fmt::Formatter<W>) -> fmt::Result {
+        match self {
+            Failure::NotRead => write!(f, "standard input cannot be read"),
+            Failure::NotWritten => write!(f, "standard output cannot be written"),
+        }
+    }
+}
+
+// Reads until the input ends or the buffer is full, and gives the number of bytes; or the error of the read that failed, which is not the input's end.
 pub fn read_full<R: Read>(input: &mut R, buf: &mut [u8]) -> io::Result<usize>
-    ensures within { ReadsAtMost result buf.new }
+    ensures within { IfOk result (λ n. IsPrefixLen n buf.new) }
     ensures bytes { IfOk result (λ n. ReadsFirst (R.remaining input.old) (R.remaining input.new) n buf.new) }
 {
     let mut done = 0;
+    // Stays: a read gives as many bytes as it likes, so that no range tells the steps.
     while done < buf.len() {
         let n = input.read(&mut buf[done..])?;
         if n == 0 {
@@ -35,28 +44,14 @@ pub fn read_full<R: Read>(input: &mut R, buf: &mut [u8]) -> io::Result<usize>
     Ok(done)
 }
 
-// Reads until the input ends or the buffer is full.
-pub fn read_all<R: Read>(input: &mut R, buf: &mut [u8]) -> Input
-    ensures within { Within result buf.new }
-    ensures bytes { ReadsInput (R.remaining input.old) (R.remaining input.new) result buf.new }
-{
-    match read_full(input, buf) {
-        Ok(size) => Input::Whole(size),
-        Err(_) => Input::Failed,
-    }
-}
-
 // Copies a text into `out` from the place `at` on. The next place.
 pub fn put(out: &mut [u8], at: usize, text: &[u8]) -> usize
     requires { at + length text.now ≤ length out.old }
     ensures { Put out.old at text.now out.new result }
 {
-    let mut i = 0;
-    while i < text.len() {
-        out[at + i] = text[i];
-        i += 1;
-    }
-    at + i
+    let end = at + text.len();
+    out[at..end].copy_from_slice(text);
+    end
 }
 
 // A number below 10 as its digit.
@@ -79,6 +74,7 @@ pub fn put_number(out: &mut [u8], at: usize, number: usize) -> usize
     let mut digits = [0u8; 20];
     let mut k = 20;
     let mut rest = number;
+    // Stays: the number tells how many digits there are.
     while rest > 0 {
         k -= 1;
         digits[k] = ZERO + (rest % 10) as u8;

@@ -2,15 +2,13 @@
 // These are parts: callers give closed tables and buffers that are long enough.
 #![tactic(auto)]
 
-ghost use Rattle.std.specs.Prelude.{◌≡◌, ◌≤◌};
+ghost use Rattle.std.specs.Prelude.{◌≡◌, false, length};
 ghost use Rattle.rows.specs.Rows.{row_at};
 ghost use Rattle.sets.specs.Fits.{Listed, rows_for};
-ghost use Rattle.sets.specs.Operations.{operation_of};
+ghost use Rattle.sets.specs.Operations.{operation_of, is_pairing};
 ghost use Rattle.turns.specs.Partial.{Turning, Turned};
 
-use rows::chains;
 use sets::Shape;
-use turns::Explored;
 
 // Lays out one transition, the q-th: that of the row `state` of flags by the column `column`.
 pub fn turn(
@@ -22,36 +20,28 @@ pub fn turn(
     table: &mut [u16],
     heads: &mut [u16; 512],
     members: &[u16],
-    held: usize,
     count: usize,
     state: usize,
     column: usize,
     q: usize,
-) -> Explored
+) -> Option<usize>
     requires turning { Turning s a.now b.now rows.old row.old table.old heads.old count state column q }
-    requires le_op { 3 ≤ s.op }
-    requires listed { Listed (operation_of s.op) s.na s.nb (row_at s.w state rows.old) held members.now }
+    requires flags { is_pairing (operation_of s.op) ≡ false }
+    requires listed { Listed (operation_of s.op) s.na s.nb (row_at s.w state rows.old) (length members.now) members.now }
     ensures { Turned (rows_for s a.now b.now) s.k s.w s.limit count state column rows.new table.new heads.new result × (row_at s.w state rows.new ≡ row_at s.w state rows.old) }
 {
-    let w = s.w;
-    let limit = s.limit;
-    let at = state * w;
-    let sum = dispatch::next_row(a, b, s, column, &rows[at..at + w], members, held, row);
-    let h = chains::hash(sum);
-    match chains::find(&rows[..], &table[..], heads, w, count, &row[..], h) {
-        chains::Found::At(j) => {
-            table[limit + q] = (j % 65536) as u16;
-            Explored::Sets(count)
-        }
-        chains::Found::Nothing => {
-            if count < limit {
-                chains::append(rows, w, count, &row[..]);
-                chains::chain(table, heads, count, h);
-                table[limit + q] = (count % 65536) as u16;
-                Explored::Sets(count + 1)
-            } else {
-                Explored::TooMany
-            }
-        }
-    }
+    let at = state * s.w;
+    let sum = dispatch::next_row(a, b, s, column, &rows[at..at + s.w], members, row);
+    turns::lay(
+        s,
+        rows,
+        table,
+        heads,
+        count,
+        state,
+        column,
+        q,
+        &row[..],
+        sum,
+    )
 }

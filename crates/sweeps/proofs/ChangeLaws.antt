@@ -1,15 +1,16 @@
 -- How far a change is: the laws of distances for the numbers of a table of moves.
 use mathlib.Core.Path.{◌≡◌, refl, sym, ap, ◌∙◌}
-use mathlib.Core.Bool.{Bool, true, false, not, false≢true, true≢false}
+use mathlib.Core.Bool.{Bool, true, false, not, ◌||◌, false≢true, true≢false}
 use mathlib.Core.Logic.{◌⊎◌, inl, inr}
 use mathlib.Core.List.{List, []}
-use Prim.Native.Nat.{ℕ, zero, suc, ◌+◌, ◌*◌, ◌≤◌, ◌<◌}
+use Prim.Native.Nat.{ℕ, zero, suc, ◌+◌, ◌*◌, ◌≤◌, ◌<◌, min}
 use native.Mathlib.Nat.{not-suc-le-zero}
 use native.Mathlib.Omega.{arith}
 use lib.ListN.{length, get_or, set, replicate, length-set}
 use lib.Seq.{get_or-set_same, get_or-set_other}
 use Rattle.automata.specs.Basics.{LtCases, lt_cases}
 use Rattle.automata.specs.Machine.{Machine, Equivalent}
+use Rattle.distance.specs.Distance.{behind}
 use Rattle.distance.proofs.DistanceLaws as laws
 use Rattle.moves.specs.Holds.{Table, Holds, AcceptKeys}
 use Rattle.moves.specs.TableLaws.{move_inside}
@@ -18,38 +19,23 @@ use Rattle.sweeps.specs.Change.{leads, entry, after, Nearest, Lowered, Backed, S
 -- ---- the least of some moves
 
 module _ (bs : List ℕ) (at s : ℕ) (ks fs : List ℕ) where
-  pub near_start : Nearest bs at 0 s ks fs 119
-  near_start = record { least = laws.near_start 120 (λ i. after bs ks fs s (at + i)) 119 refl }
-
-  pub near_next : (i b x r : ℕ) → Nearest bs at i s ks fs b → x ≡ after bs ks fs s (at + i) → (r ≤ b) × (r ≤ x) × ((r ≡ b) ⊎ (r ≡ x)) → Nearest bs at (i + 1) s ks fs r
-  near_next i b x r u e l = record { least = laws.near_next 120 (λ i. after bs ks fs s (at + i)) i b x r u.least (sym e) l }
-
-  pub near_done : (m i r : ℕ) → m ≤ i → i ≤ m → Nearest bs at i s ks fs r → Nearest bs at m s ks fs r
-  near_done m i r h g u = let z : i ≡ m = omega arith in rw z at u
+  -- one letter more, where the row that is read holds the moves
+  pub near_next : (row : List ℕ) (i b x r : ℕ) → get_or row i 0 ≡ get_or bs (at + i) 0 → Nearest bs at i s ks fs b
+      → x ≡ behind (get_or ks (get_or row i 0) 0) s (get_or fs (get_or row i 0) 0) → r ≡ min b x → Nearest bs at (i + 1) s ks fs r
+  near_next row i b x r e u w l = record { least = laws.near_next 120 (λ i. after bs ks fs s (at + i)) i b x r u.least (sym (rw e at w)) (omega arith, omega arith, either) }
+    where
+      either : (r ≡ b) ⊎ (r ≡ x)
+      either = go (lt_cases b x)
+        where
+          go : LtCases b x → (r ≡ b) ⊎ (r ≡ x)
+          go (inl y) = inl (omega (arith, y.0))
+          go (inr y) = inr (omega (arith, y.0))
 
 -- ---- one state
 
-module _ (bs : List ℕ) (at m p : ℕ) (ks fs : List ℕ) (x : ℕ) (u : Nearest bs at m (get_or ks p 0) ks fs x) where
-  pub lowered_yes : get_or fs p 0 ≤ 120 → x + 1 < get_or fs p 0 → Lowered bs at m p ks fs (set fs p (x + 1)) true
-  lowered_yes b h = record { yes = λ _. (x, refl, h, found u.least.met); no = λ e. absurd (true≢false e) }
-    where
-      found : (suc x ≡ 120) ⊎ ((i : ℕ) × (i < m) × (after bs ks fs (get_or ks p 0) (at + i) ≡ x)) → (i : ℕ) × (i < m) × (after bs ks fs (get_or ks p 0) (at + i) ≡ x)
-      found (inl e) = absurd (omega arith)
-      found (inr w) = w
-
-  pub lowered_no : (x + 1 < get_or fs p 0 → ⊥) → Lowered bs at m p ks fs fs false
-  lowered_no h = record { yes = λ e. absurd (false≢true e); no = λ _. (refl, λ i b. omega (arith, u.least.low i b, over (lt_cases (x + 1) (get_or fs p 0)))) }
-    where
-      over : LtCases (x + 1) (get_or fs p 0) → get_or fs p 0 ≤ x + 1
-      over (inl y) = absurd (h y.0)
-      over (inr y) = y.0
-
-pub lowered_room : (m n : ℕ) (bs ks fs : List ℕ) (p : ℕ) → Backed m n bs ks fs → p < n → n ≤ 120 → (p < 120) × (length fs ≡ 120) × (get_or fs p 0 ≤ 120)
-lowered_room m n bs ks fs p u h b = (omega arith, u.long, u.numbers.most p h)
-
 -- the numbers stay backed
-module _ (m n : ℕ) (bs ks fs gs : List ℕ) (u : Backed m n bs ks fs) (at p : ℕ) (e : at ≡ p * m) (b : p < n) (most : n ≤ 120) where
-  lowered_set : (x : ℕ) → gs ≡ set fs p (x + 1) → x + 1 < get_or fs p 0 → ((i : ℕ) × (i < m) × (after bs ks fs (get_or ks p 0) (at + i) ≡ x)) → Backed m n bs ks gs
+module _ (m n : ℕ) (bs ks fs gs : List ℕ) (u : Backed m n bs ks fs) (p : ℕ) (b : p < n) (most : n ≤ 120) where
+  lowered_set : (x : ℕ) → gs ≡ set fs p (x + 1) → x + 1 < get_or fs p 0 → ((i : ℕ) × (i < m) × (after bs ks fs (get_or ks p 0) (p * m + i) ≡ x)) → Backed m n bs ks gs
   lowered_set x g l w = record {
     long = ap length g ∙ length-set fs p (x + 1) ∙ u.long;
     numbers = laws.lowered_backed 120 n m (entry ks) (leads m bs) (entry fs) (entry gs) p x
@@ -57,10 +43,10 @@ module _ (m n : ℕ) (bs ks fs gs : List ℕ) (u : Backed m n bs ks fs) (at p : 
         (λ q d. ap (λ l. get_or l q 0) g ∙ get_or-set_other fs p q (x + 1) 0 d)
         (omega (arith, l))
         u.numbers
-        (inr (rw e at w));
+        (inr w);
   }
 
-  pub lowered_backed : (r : Bool) → Lowered bs at m p ks fs gs r → Backed m n bs ks gs
+  pub lowered_backed : (r : Bool) → Lowered bs (p * m) m p ks fs gs r → Backed m n bs ks gs
   lowered_backed true l = let (x, g, s, w) = l.yes refl in lowered_set x g s w
   lowered_backed false l = rw (l.no refl).0 u
 
@@ -74,18 +60,11 @@ backed_start m n bs ks h = record { long = refl; numbers = laws.unknown_backed 1
 
 -- ---- the sweep up
 
-pub ascend_start : (m n : ℕ) (bs ks gs : List ℕ) → Backed m n bs ks gs → Swept m n bs ks gs 0 false
-ascend_start m n bs ks gs u = record { backed = u; closed = λ _. laws.closed_start m (entry ks) (leads m bs) (entry gs) }
-
-module _ (m n : ℕ) (bs ks fs gs : List ℕ) (p : ℕ) (changed : Bool) (u : Swept m n bs ks fs p changed) (at : ℕ) (e : at ≡ p * m) (b : p < n) (most : n ≤ 120) where
-  pub ascend_yes : (r : Bool) → Lowered bs at m p ks fs gs r → Swept m n bs ks gs (p + 1) true
-  ascend_yes r l = record { backed = lowered_backed m n bs ks fs gs u.backed at p e b most r l; closed = λ x. absurd (true≢false x) }
-
-  pub ascend_no : (r : Bool) → r ≡ false → Lowered bs at m p ks fs gs r → Swept m n bs ks gs (p + 1) changed
-  ascend_no r z l = rw (l.no z).0 (record { backed = u.backed; closed = λ x. laws.closed_more m (entry ks) (leads m bs) (entry fs) p (u.closed x) (rw e at (l.no z).1) })
-
-pub ascend_done : (m n : ℕ) (bs ks gs : List ℕ) (p : ℕ) (changed : Bool) → n ≤ p → Swept m n bs ks gs p changed → Swept m n bs ks gs n changed
-ascend_done m n bs ks gs p changed h u = record { backed = u.backed; closed = λ x. laws.closed_done m (entry ks) (leads m bs) (entry gs) p n h (u.closed x) }
+module _ (m n : ℕ) (bs ks fs gs : List ℕ) (p : ℕ) (b : p < n) (most : n ≤ 120) where
+  pub ascend_next : (changed r : Bool) → Swept m n bs ks fs p changed → Lowered bs (p * m) m p ks fs gs r → Swept m n bs ks gs (p + 1) (changed || r)
+  ascend_next true r u l = record { backed = lowered_backed m n bs ks fs gs u.backed p b most r l; closed = λ x. absurd (true≢false x) }
+  ascend_next false true u l = record { backed = lowered_backed m n bs ks fs gs u.backed p b most true l; closed = λ x. absurd (true≢false x) }
+  ascend_next false false u l = rw (l.no refl).0 (record { backed = u.backed; closed = λ x. laws.closed_more m (entry ks) (leads m bs) (entry fs) p (u.closed x) (l.no refl).1 })
 
 -- ---- equivalent states have the same number
 

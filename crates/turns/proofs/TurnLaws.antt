@@ -1,42 +1,65 @@
 -- One turn of the loop: what its calls ask, and what it leaves.
 use mathlib.Core.Path.{◌≡◌, refl, sym, ap, ◌∙◌}
+use Rattle.std.specs.Prelude.{Option, Some, None}
+use mathlib.Core.Bool.{true}
 use mathlib.Core.List.{List}
 use Prim.Native.Nat.{ℕ, ◌+◌, ◌*◌, ◌-◌, ◌%◌, ◌≤◌, ◌<◌}
-use native.Mathlib.Nat.{mul-le-mul_right, le_refl, mod-eq_of_lt}
+use native.Mathlib.Nat.{le_refl, mod-eq_of_lt}
 use native.Mathlib.Omega.{arith}
 use lib.ListN.{length, get_or, set, take, drop, length-set}
+use Rattle.automata.specs.Automaton.{Automaton}
 use Rattle.automata.specs.Stage.{MoreThan}
-use Rattle.rows.specs.Chains.{Chained, Looked, Appended}
+use Rattle.rows.specs.Chains.{Looked, Appended}
 use Rattle.rows.specs.Rows.{row_at, number_at, pair_row}
 use Rattle.rows.specs.Sums.{row_hash}
-use Rattle.rows.specs.declared.chains.Found.{Found}
-use Rattle.rows.specs.declared.chains.Found.TheVariants.{At, Nothing}
 use Rattle.rows.proofs.HashLaws.{chained_more}
 use Rattle.rows.proofs.PairRowLaws.{number_left, number_right}
 use Rattle.rows.proofs.RowLaws.{row_within, cell_within, row_part, row_length}
 use Rattle.flags.specs.Flags.{cell}
 use Rattle.sets.specs.Fits.{rows_for, Source, Step, Listed}
-use Rattle.sets.specs.Operations.{operation_of}
+use Rattle.sets.specs.Operations.{operation_of, is_pairing}
 use Rattle.sets.specs.declared.Shape.{Shape}
 use Rattle.sets.proofs.FitLaws.{row_source, reach_fits}
-use Rattle.sets.proofs.PairLaws.{pair_room, left_cell, right_cell, left_small_lem, right_small_lem, pair_next}
+use Rattle.sets.proofs.PairLaws.{pair_room, left_cell, right_cell, pair_next}
 use Rattle.repeats.specs.Repeats.{Repeats, Asking, Earlier}
-use Rattle.turns.specs.Partial.{Turning, Turned}
-use Rattle.turns.specs.declared.Explored.TheVariants.{Sets}
+use Rattle.turns.specs.Partial.{Laying, Partial, Turning, Turned}
 use Rattle.turns.proofs.LoopLaws.{partial_store, partial_found, partial_new, partial_full}
+
+-- ---- the row that a transition leads to is laid out
+
+module _ (s : Shape) (rows row table heads : List ℕ) (count state column q : ℕ) (L : Laying s rows row table heads count state column q) where
+  lay_cell : s.limit + q < length table
+  lay_cell = omega (arith, cell_within state s.limit s.k column (omega (arith, L.place.state, L.within)) L.place.column, L.place.cell, L.room.table_long)
+
+  module _ (A : Automaton (List ℕ)) (P : Partial A s.k s.w s.limit count state column rows table heads) (e : row ≡ A.step (row_at s.w state rows) column) where
+    pub lay_found : (j : ℕ) (r : Option ℕ) → Looked s.w count rows row r → r ≡ Some j → Turned A s.k s.w s.limit count state column rows (set table (s.limit + q) (j % 65536)) heads (Some count)
+    lay_found j r l f =
+        let h : Looked s.w count rows row (Some j) = rw f at l in
+        (le_refl count, partial_found A s.k s.w s.limit count state column q rows table heads row P L.place e j lay_cell (omega (arith, h.0, L.within, L.room.small)) h.0 h.1)
+
+    pub lay_new : (r : Option ℕ) → Looked s.w count rows row r → r ≡ None → count < s.limit → (rows' : List ℕ) → Appended s.w count rows row rows' → (h : ℕ) → h ≡ row_hash row → h < 512
+        → (table' heads' : List ℕ) → table' ≡ set table count (get_or heads h 0) → heads' ≡ set heads h (count + 1)
+        → Turned A s.k s.w s.limit count state column rows' (set table' (s.limit + q) (count % 65536)) heads' (Some (count + 1))
+    lay_new r l f room rows' B h e' low table' heads' et eh =
+        let n : Looked s.w count rows row None = rw f at l in
+        let v = get_or heads h 0 in
+        let long : s.limit + q < length (set table count v) = omega (arith, lay_cell, length-set table count v) in
+        let chained = chained_more s.w count h rows row rows' table heads P.chained B e' low (omega (arith, lay_cell, room)) P.heads_long in (
+          omega arith,
+          rw (et, eh) (partial_new A s.k s.w s.limit count state column q rows (set table count v) heads row
+              (partial_store A s.k s.w s.limit count state column count v rows table heads (le_refl count) room P) L.place e long n rows' (set heads h (count + 1)) room L.room.small B chained (length-set heads h (count + 1) ∙ P.heads_long)),
+        )
+
+    pub lay_full : (r : Option ℕ) → Looked s.w count rows row r → r ≡ None → s.limit ≤ count → MoreThan s.k A s.limit
+    lay_full r l f h =
+        let n : Looked s.w count rows row None = rw f at l in
+        partial_full A s.k s.w s.limit count state column q rows table heads row P L.place e lay_cell n h
+
+-- ---- one turn
 
 module _ (s : Shape) (a b rows row table heads : List ℕ) (count state column q : ℕ) (T : Turning s a b rows row table heads count state column q) where
   pub turn_row : state * s.w + s.w ≤ length rows
   turn_row = omega (arith, row_within state s.limit s.w (omega (arith, T.place.state, T.partial.within)), T.room.rows_long)
-
-  pub turn_rows : count * s.w ≤ length rows
-  turn_rows = omega (arith, mul-le-mul_right {m = count} {n = s.limit} s.w T.partial.within, T.room.rows_long)
-
-  pub turn_links : count ≤ length table
-  turn_links = omega (arith, T.partial.within, T.room.table_long)
-
-  pub turn_append : count < s.limit → count * s.w + s.w ≤ length rows
-  turn_append h = omega (arith, row_within count s.limit s.w h, T.room.rows_long)
 
   pub turn_cell : s.limit + q < length table
   turn_cell = omega (arith, cell_within state s.limit s.k column (omega (arith, T.place.state, T.partial.within)) T.place.column, T.place.cell, T.room.table_long)
@@ -49,39 +72,13 @@ module _ (s : Shape) (a b rows row table heads : List ℕ) (count state column q
     long = T.room.row_long;
   }
 
-  module _ (row' : List ℕ) (e : row' ≡ (rows_for s a b).step (take (state * s.w + s.w - state * s.w) (drop (state * s.w) rows)) column) where
-    next : row' ≡ (rows_for s a b).step (row_at s.w state rows) column
-    next = e ∙ ap (λ (r : List ℕ). (rows_for s a b).step r column) (row_part s.w state rows)
-
-    pub turn_found : (j : ℕ) (r : Found) → Looked s.w count rows row' r → r ≡ At j → Turned (rows_for s a b) s.k s.w s.limit count state column rows (set table (s.limit + q) (j % 65536)) heads (Sets count)
-    turn_found j r l f =
-        let h : Looked s.w count rows row' (At j) = rw f at l in (
-          le_refl count,
-          partial_found (rows_for s a b) s.k s.w s.limit count state column q rows table heads row' T.partial T.place next j turn_cell
-              (omega (arith, h.0, T.partial.within, T.room.small)) h.0 h.1,
-        )
-
-    pub turn_new : (r : Found) → Looked s.w count rows row' r → r ≡ Nothing → count < s.limit → (rows' : List ℕ) → Appended s.w count rows row' rows' → (h : ℕ) → h ≡ row_hash row' → h < 512
-        → (table' heads' : List ℕ) → table' ≡ set table count (get_or heads h 0) → heads' ≡ set heads h (count + 1)
-        → Turned (rows_for s a b) s.k s.w s.limit count state column rows' (set table' (s.limit + q) (count % 65536)) heads' (Sets (count + 1))
-    turn_new r l f room rows' A h e' low table' heads' et eh =
-        let n : Looked s.w count rows row' Nothing = rw f at l in
-        let v = get_or heads h 0 in
-        let long : s.limit + q < length (set table count v) = omega (arith, turn_cell, length-set table count v) in
-        let chained = chained_more s.w count h rows row' rows' table heads T.partial.chained A e' low (omega (arith, turn_cell, room)) T.partial.heads_long in (
-          omega arith,
-          rw (et, eh) (partial_new (rows_for s a b) s.k s.w s.limit count state column q rows (set table count v) heads row'
-              (partial_store (rows_for s a b) s.k s.w s.limit count state column count v rows table heads (le_refl count) room T.partial) T.place next long n rows' (set heads h (count + 1)) room T.room.small A chained (length-set heads h (count + 1) ∙ T.partial.heads_long)),
-        )
-
-    pub turn_full : (r : Found) → Looked s.w count rows row' r → r ≡ Nothing → s.limit ≤ count → MoreThan s.k (rows_for s a b) s.limit
-    turn_full r l f h =
-        let n : Looked s.w count rows row' Nothing = rw f at l in
-        partial_full (rows_for s a b) s.k s.w s.limit count state column q rows table heads row' T.partial T.place next turn_cell n h
+  pub turn_next : (row' : List ℕ) → row' ≡ (rows_for s a b).step (take (state * s.w + s.w - state * s.w) (drop (state * s.w) rows)) column
+      → row' ≡ (rows_for s a b).step (row_at s.w state rows) column
+  turn_next row' e = e ∙ ap (λ (r : List ℕ). (rows_for s a b).step r column) (row_part s.w state rows)
 
   -- an earlier transition leads to the same row
   turn_copy : (p d : ℕ) → d < s.k → Earlier p d state column → (rows_for s a b).step (row_at s.w p rows) d ≡ (rows_for s a b).step (row_at s.w state rows) column → (j : ℕ)
-      → j ≡ get_or table (s.limit + (p * s.k + d)) 0 → Turned (rows_for s a b) s.k s.w s.limit count state column rows (set table (s.limit + q) j) heads (Sets count)
+      → j ≡ get_or table (s.limit + (p * s.k + d)) 0 → Turned (rows_for s a b) s.k s.w s.limit count state column rows (set table (s.limit + q) j) heads (Some count)
   turn_copy p d l before same j y =
       let inside : j < count = rw y (T.partial.inside p d l before) in
       let small : j < 65536 = omega (arith, inside, T.partial.within, T.room.small) in
@@ -92,7 +89,7 @@ module _ (s : Shape) (a b rows row table heads : List ℕ) (count state column q
       )
 
   -- an earlier transition is repeated
-  pub turn_repeats : (r : ℕ) → Repeats s a b rows state column r → (j : ℕ) → j ≡ get_or table (s.limit + r) 0 → Turned (rows_for s a b) s.k s.w s.limit count state column rows (set table (s.limit + q) j) heads (Sets count)
+  pub turn_repeats : (r : ℕ) → Repeats s a b rows state column r → (j : ℕ) → j ≡ get_or table (s.limit + r) 0 → Turned (rows_for s a b) s.k s.w s.limit count state column rows (set table (s.limit + q) j) heads (Some count)
   turn_repeats r E j e = turn_copy E.row E.by E.within E.before E.same j (e ∙ ap (λ (i : ℕ). get_or table (s.limit + i) 0) E.place)
 
   pub turn_asking : (held : ℕ) (members : List ℕ) → Listed (operation_of s.op) s.na s.nb (row_at s.w state rows) held members → Asking s a b rows held members state column q
@@ -107,7 +104,7 @@ module _ (s : Shape) (a b rows row table heads : List ℕ) (count state column q
 
 -- ---- a row of a pair
 
-module _ (s : Shape) (a b rows row table heads : List ℕ) (count state column q : ℕ) (T : Turning s a b rows row table heads count state column q) (h : s.op < 3) where
+module _ (s : Shape) (a b rows row table heads : List ℕ) (count state column q : ℕ) (T : Turning s a b rows row table heads count state column q) (h : is_pairing (operation_of s.op) ≡ true) where
   pub two_width : s.w ≡ 4
   two_width = pair_room s a b T.fits h
 
@@ -120,9 +117,6 @@ module _ (s : Shape) (a b rows row table heads : List ℕ) (count state column q
     long = row_length s.w state rows (turn_row s a b rows row table heads count state column q T);
     fits = reach_fits s a b T.fits (row_at s.w state rows) (T.partial.reached state T.place.state);
   }
-
-  pub two_room : state * 4 + 4 ≤ length rows
-  two_room = rw two_width at (turn_row s a b rows row table heads count state column q T)
 
   left : (p : ℕ) → p ≡ number_at rows (state * 4) → p ≡ number_at from 0
   unfolding from
@@ -145,18 +139,6 @@ module _ (s : Shape) (a b rows row table heads : List ℕ) (count state column q
     ey' : y ≡ cell s.bb s.k column b (number_at from 2)
     ey' = ey ∙ ap (cell s.bb s.k column b) (right r er)
 
-    pub two_small : (x < 65536) × (y < 65536)
-    two_small = (rw ex' (left_small_lem s a b from T.fits source h column T.place.column), rw ey' (right_small_lem s a b from T.fits source h column T.place.column))
-
-    pub two_next : pair_row x y ≡ (rows_for s a b).step (take (state * s.w + s.w - state * s.w) (drop (state * s.w) rows)) column
+    pub two_next : pair_row x y ≡ (rows_for s a b).step (row_at s.w state rows) column
     unfolding from
-    two_next = pair_next s a b from T.fits source h column T.place.column x y ex' ey' ∙ ap (λ (r : List ℕ). (rows_for s a b).step r column) (sym (row_part s.w state rows))
-
-  pub two_chained : Chained 4 count rows table heads
-  two_chained = rw two_width at T.partial.chained
-
-  pub two_looked : (row' : List ℕ) (r : Found) → Looked 4 count rows row' r → Looked s.w count rows row' r
-  two_looked row' r l = rw two_width l
-
-  pub two_appended : (row' rows' : List ℕ) → Appended 4 count rows row' rows' → Appended s.w count rows row' rows'
-  two_appended row' rows' A = rw two_width A
+    two_next = pair_next s a b from T.fits source h column T.place.column x y ex' ey'

@@ -1,14 +1,12 @@
 -- What the exploring asks of its operands and buffers, and what it answers: every reachable row, once, with all transitions; or more rows than the
 -- limit. Nothing is said of the order in which the rows are found.
-use Rattle.std.specs.Prelude.{◌≡◌, List, ℕ, ◌+◌, ◌*◌, ◌≤◌, ◌<◌, length, get_or}
+use Rattle.std.specs.Prelude.{◌≡◌, List, ℕ, ◌+◌, ◌*◌, ◌≤◌, ◌<◌, length, get_or, Option, Some, None}
 use Rattle.automata.specs.Automaton.{Automaton, Reachable}
 use Rattle.automata.specs.Stage.{MoreThan}
 use Rattle.rows.specs.Rows.{row_at, bit}
 use Rattle.sets.specs.Fits.{Fits}
 use Rattle.sets.specs.declared.Shape.{Shape}
 use Rattle.turns.specs.Partial.{Room}
-use Rattle.turns.specs.declared.Explored.{Explored}
-use Rattle.turns.specs.declared.Explored.TheVariants.{Sets, TooMany}
 
 -- all that the exploring asks
 pub record Explores (s : Shape) (a b rows row table : List ℕ) : Type 0 where
@@ -27,6 +25,6 @@ pub record AllRows (R : Automaton (List ℕ)) (k w limit n : ℕ) (rows table : 
   pub flags : (p : ℕ) → p < n → get_or table p 0 ≡ bit (R.accepting (row_at w p rows))
   pub long : limit + n * k ≤ length table
 
-abbrev pub Answers : Automaton (List ℕ) → ℕ → ℕ → ℕ → List ℕ → List ℕ → Explored → Type 0
-Answers R k w limit rows table (Sets n) = AllRows R k w limit n rows table
-Answers R k w limit rows table TooMany = MoreThan k R limit
+abbrev pub Answers : Automaton (List ℕ) → ℕ → ℕ → ℕ → List ℕ → List ℕ → Option ℕ → Type 0
+Answers R k w limit rows table (Some n) = AllRows R k w limit n rows table
+Answers R k w limit rows table None = MoreThan k R limit

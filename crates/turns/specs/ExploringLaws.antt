@@ -1,6 +1,6 @@
 -- What the answer of the exploring is worth: n rows counted, and a closed table whose machine accepts the words of the automaton of rows, where row i is the
 -- table's state i; or more rows than the limit.
-use Rattle.std.specs.Prelude.{◌≡◌, refl, Bool, true, false, List, [], ◌∷◌, ℕ, ◌+◌, ◌*◌, ◌<◌, get_or}
+use Rattle.std.specs.Prelude.{◌≡◌, refl, Bool, true, false, List, [], ◌∷◌, ℕ, ◌+◌, ◌*◌, ◌<◌, get_or, None}
 use Rattle.std.proofs.Common.{sym, ap, ◌∙◌, inl, inr, arith}
 use Rattle.automata.specs.Basics.{LtCases, lt_cases, Inj}
 use Rattle.automata.specs.Automaton.{Automaton, Over, run, Reachable}
@@ -9,14 +9,13 @@ use Rattle.automata.specs.Table.{ClosedTable, table_machine, table_step, table_a
 use Rattle.automata.specs.Stage.{Counts, MoreThan}
 use Rattle.rows.specs.Rows.{row_at, bit}
 use Rattle.turns.specs.Exploring.{AllRows, Answers}
-use Rattle.turns.specs.declared.Explored.TheVariants.{TooMany}
 
 flag_bit_lem : (b : Bool) → flag_of (bit b) ≡ b
 flag_bit_lem true = refl
 flag_bit_lem false = refl
 
 -- More rows are reached than the limit.
-pub explored_more : (R : Automaton (List ℕ)) (k w limit : ℕ) (rows table : List ℕ) → Answers R k w limit rows table TooMany → MoreThan k R limit
+pub explored_more : (R : Automaton (List ℕ)) (k w limit : ℕ) (rows table : List ℕ) → Answers R k w limit rows table None → MoreThan k R limit
 explored_more R k w limit rows table m = m
 
 module _ (R : Automaton (List ℕ)) (k w limit n : ℕ) (rows table : List ℕ) (A : AllRows R k w limit n rows table) where

@@ -1,5 +1,5 @@
 -- What holds of the rows found so far and of the transitions laid out so far, and what one more transition leaves.
-use Rattle.std.specs.Prelude.{◌≡◌, List, ℕ, ◌+◌, ◌*◌, ◌≤◌, ◌<◌, length, get_or}
+use Rattle.std.specs.Prelude.{◌≡◌, List, ℕ, ◌+◌, ◌*◌, ◌≤◌, ◌<◌, length, get_or, Option, Some, None}
 use Rattle.automata.specs.Automaton.{Automaton, Reachable}
 use Rattle.automata.specs.Stage.{MoreThan}
 use Rattle.rows.specs.Chains.{Chained}
@@ -7,8 +7,6 @@ use Rattle.rows.specs.Rows.{row_at}
 use Rattle.sets.specs.Fits.{rows_for, Fits}
 use Rattle.sets.specs.declared.Shape.{Shape}
 use Rattle.repeats.specs.Repeats.{Earlier}
-use Rattle.turns.specs.declared.Explored.{Explored}
-use Rattle.turns.specs.declared.Explored.TheVariants.{Sets, TooMany}
 
 -- Room for as many rows as the limit says, for one row more, and for their table.
 pub record Room (s : Shape) (rows row table : List ℕ) : Type 0 where
@@ -37,9 +35,16 @@ pub record Place (k count p c q : ℕ) : Type 0 where
   pub cell : q ≡ p * k + c
 
 -- One more transition is laid out, or a row is met that no room is left for.
-abbrev pub Turned : Automaton (List ℕ) → ℕ → ℕ → ℕ → ℕ → ℕ → ℕ → List ℕ → List ℕ → List ℕ → Explored → Type 0
-Turned R k w limit count state column rows table heads (Sets n) = (count ≤ n) × Partial R k w limit n state (column + 1) rows table heads
-Turned R k w limit count state column rows table heads TooMany = MoreThan k R limit
+abbrev pub Turned : Automaton (List ℕ) → ℕ → ℕ → ℕ → ℕ → ℕ → ℕ → List ℕ → List ℕ → List ℕ → Option ℕ → Type 0
+Turned R k w limit count state column rows table heads (Some n) = (count ≤ n) × Partial R k w limit n state (column + 1) rows table heads
+Turned R k w limit count state column rows table heads None = MoreThan k R limit
+
+-- all that laying out a transition asks, where the row that it leads to is given
+pub record Laying (s : Shape) (rows row table heads : List ℕ) (count p c q : ℕ) : Type 0 where
+  pub room : Room s rows row table
+  pub within : count ≤ s.limit
+  pub place : Place s.k count p c q
+  pub chained : Chained s.w count rows table heads
 
 -- all that one turn asks
 pub record Turning (s : Shape) (a b rows row table heads : List ℕ) (count p c q : ℕ) : Type 0 where

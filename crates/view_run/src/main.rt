@@ -5,20 +5,23 @@
 ghost use Rattle.std.specs.Prelude.{◌≡◌};
 ghost use Rattle.automata.specs.Format.{narrow};
 ghost use Rattle.card.specs.Judge.{judge as judge_of};
-ghost use Rattle.run.specs.Reading.{reply_of};
+ghost use Rattle.board.specs.Answers.{reply_of};
 
-use run::Answer;
+use board::Refusal;
+use fields::Counts;
+use loading::Fault;
+use run::Verdict;
 use std::io;
 use view::View;
 
 // Two answers.
 #[derive(Clone, Copy)]
 struct Both {
-    first: Answer,
-    second: Answer,
+    first: Result<Verdict, Refusal>,
+    second: Result<Verdict, Refusal>,
 }
 
-fn together(first: Answer, second: Answer) -> Both
+fn together(first: Result<Verdict, Refusal>, second: Result<Verdict, Refusal>) -> Both
     ensures { (result.first ≡ first) × (result.second ≡ second) }
 {
     Both { first, second }
@@ -34,27 +37,44 @@ fn several<'a, 'p, 'r>(card: &'a [u8], first: &'p [u8], second: &'r [u8]) -> Bot
     together(one, other)
 }
 
-// A view that was not loaded: 9 letters, 200 states and a refusal beside the card's bytes.
-fn forged<'a, 'p>(card: &'a [u8], plan: &'p [u8]) -> Answer
+// What stands in forged views: a refusal, and counts that no card has.
+const FAULT: Result<Counts, Fault> = Err(Fault::EquivalentStates);
+
+const COUNTS: Result<Counts, Fault> = Ok(Counts {
+    letters: 9,
+    states: 200,
+});
+
+// A view that was not loaded: what stands beside the bytes is not of them.
+fn forged<'a, 'p>(
+    card: &'a [u8],
+    loaded: Result<Counts, Fault>,
+    plan: &'p [u8],
+) -> Result<Verdict, Refusal>
     ensures { reply_of result ≡ judge_of narrow card.now plan.now }
 {
     view::judge(
         View {
             bytes: card,
-            letters: 9,
-            states: 200,
-            number: 26,
+            loaded,
         },
         plan,
     )
 }
 
+// The counts, or zeros, and the number of the refusal, or 0.
 fn say_counts(rt: &impl Print, card: &[u8]) -> io::Result<()> {
-    let k = view::counts(card);
-    printing::number(rt, b"letters ", k.letters)?;
-    printing::number(rt, b" states ", k.states)?;
-    printing::number(rt, b" number ", k.number as usize)?;
-    printing::word(rt, b"\n")
+    match view::counts(card) {
+        Ok(counts) => {
+            let letters = counts.letters;
+            let states = counts.states;
+            println!(rt; "letters {letters} states {states} number 0")
+        }
+        Err(fault) => {
+            let number = fault.number();
+            println!(rt; "letters 0 states 0 number {number}")
+        }
+    }
 }
 
 fn say_several(rt: &impl Print, card: &[u8], first: &[u8], second: &[u8]) -> io::Result<()> {
@@ -79,8 +99,8 @@ fn on_card(rt: &impl Print, card: &[u8]) -> io::Result<()> {
     say_counts(rt, card)?;
     say_several(rt, card, plan, longer)?;
     say_several(rt, card, b"b", b"abcb")?;
-    printing::reply(rt, forged(card, plan))?;
-    printing::reply(rt, forged(card, longer))
+    printing::reply(rt, forged(card, COUNTS, plan))?;
+    printing::reply(rt, forged(card, FAULT, longer))
 }
 
 // No card: each plan is refused with the card's number.
@@ -88,7 +108,7 @@ fn on_wrong(rt: &impl Print, card: &[u8]) -> io::Result<()> {
     let plan = b"ab";
     say_counts(rt, card)?;
     say_several(rt, card, plan, b"c")?;
-    printing::reply(rt, forged(card, plan))
+    printing::reply(rt, forged(card, COUNTS, plan))
 }
 
 fn main(rt: HostRuntime) -> io::Result<()> {

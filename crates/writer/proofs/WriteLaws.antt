@@ -21,7 +21,7 @@ use Rattle.numbering.specs.Arrival.{kept_machine, Arranged}
 use Rattle.sections.specs.Laid.{Laid}
 use Rattle.sections.specs.Parts.{mark_bytes, move_bytes}
 use Rattle.writer.specs.Written.{Written, kept_card}
-use Rattle.writer.specs.declared.Wrote.TheVariants.{Length, TooShort}
+use Rattle.std.proofs.Common.{Some, None}
 use Rattle.sections.proofs.LaidLaws.{laid_join, laid_whole}
 use Rattle.sections.proofs.RestrictLaws.{restrict_count}
 
@@ -62,7 +62,7 @@ module _ (n : ℕ) (ls t o u : List ℕ) (count : ℕ) (R : Arranged n (length l
   pub count_small : m ≤ 26 → count * m ≤ 3120
   count_small h = omega (arith, mul-le-mul_right {m = count} {n = 120} m R.roll.within)
 
-  pub write_short : (old : List ℕ) → length old < 12 + m + count + count * m → Written (kept_card n ls t) old old TooShort
+  pub write_short : (old : List ℕ) → length old < 12 + m + count + count * m → Written (kept_card n ls t) old old None
   write_short old h = let z = lt_ltb (length old) (length (kept_card n ls t)) (rw card_length_lem h) in record { result = rw z; buffer = rw z }
 
   module _ (c₀ c₁ c₂ c₃ c₄ : List ℕ) (h : 12 + m + count + count * m ≤ length c₀)
@@ -74,7 +74,7 @@ module _ (n : ℕ) (ls t o u : List ℕ) (count : ℕ) (R : Arranged n (length l
         (laid_join 12 (12 + m) (12 + m + count + count * m) ls (mark_bytes n m t ++ move_bytes n m t) c₁ c₂ c₄ (omega arith) b
         (laid_join (12 + m) (12 + m + count) (12 + m + count + count * m) (mark_bytes n m t) (move_bytes n m t) c₂ c₃ c₄ (omega arith) c d)))
 
-    pub write_full : Written (kept_card n ls t) c₀ c₄ (Length (12 + m + count + count * m))
+    pub write_full : Written (kept_card n ls t) c₀ c₄ (Some (12 + m + count + count * m))
     write_full =
         let z = ltb_false (length c₀) (length (kept_card n ls t)) (rw card_length_lem h) in
         record { result = rw (z, card_length_lem); buffer = rw z (laid_whole (kept_card n ls t) c₀ c₄ (rw card_length_lem whole)) }

@@ -4,31 +4,24 @@
 ghost use Rattle.std.specs.Prelude.{length};
 ghost use Rattle.writer.specs.Written.{Kept, Written, kept_card};
 
-use sections::{contents, marks, moves};
+use sections::{contents, marks, targets};
 
-// The card's length, or that the buffer is too short for it.
-#[derive(Clone, Copy)]
-pub enum Wrote {
-    Length(usize),
-    TooShort,
-}
-
-// The card of the machine of n states that the slot holds, and what lies behind the card stays; where the buffer is too short, all of it stays.
-pub fn write(slot: &[u8], n: usize, letters: &[u8], card: &mut [u8]) -> Wrote
+// The card of the machine of n states that the slot holds, and what lies behind the card stays. Its length; or none where the buffer is too short for it, and
+// then all of it stays.
+pub fn write(slot: &[u8], n: usize, letters: &[u8], card: &mut [u8]) -> Option<usize>
     requires { Kept n (length letters.now) slot.now }
     ensures { Written (kept_card n letters.now slot.now) card.old card.new result }
 {
     let m = letters.len();
-    let mut order = [0; 120];
-    let mut number = [0; 120];
-    let count = numbering::number(slot, n, m, &mut order, &mut number);
+    let numbering = numbering::number(slot, n, m);
+    let count = numbering.count;
     let length = 12 + m + count + count * m;
     if card.len() < length {
-        return Wrote::TooShort;
+        return None;
     }
     contents::put_contents(m, count, card);
     contents::put_letters(letters, card);
-    marks::put_marks(slot, n, m, count, &order, card);
-    moves::put_moves(slot, n, m, count, &order, &number, card);
-    Wrote::Length(length)
+    marks::put_marks(slot, n, m, count, &numbering.order, card);
+    targets::put_moves(slot, n, m, &numbering, card);
+    Some(length)
 }

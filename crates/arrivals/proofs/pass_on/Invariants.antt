@@ -1,12 +1,6 @@
--- `pass_on` meets its contract: the words are passed by the first i moves.
-use Prim.Native.Nat.{◌≤◌, ◌-◌}
+-- `pass_on` meets its contract: the words are passed by the moves so far.
 use Rattle.arrivals.specs.Rounds.{Passed}
 use Rattle.arrivals.proofs.pass_on.Given as goal
 
-abbrev pub invariant-loop-i : goal.invariant-loop-i
-invariant-loop-i l =
-    (l.i ≤ l.m) × Passed l.moves l.at l.i l.words l.initial.next l.next
-
-abbrev pub decreases-loop-i : goal.decreases-loop-i
-decreases-loop-i l =
-    l.m - l.i
+abbrev pub invariant-loop-t : goal.invariant-loop-t
+invariant-loop-t l = Passed l.row l.t-index l.words l.initial.next l.next

@@ -1,7 +1,7 @@
 -- `start` meets its contract.
-use Rattle.arrivals.proofs.RoundLaws.{started}
+use Rattle.arrivals.proofs.RoundLaws.{started, cleared}
 use Rattle.arrivals.proofs.start.Goals as goal
 
 pub returns : goal.returns
 returns c =
-    started _ _ c.clear.ensures c.requires
+    started _ _ (cleared _ _ (c.fill.ensures.after (λ y e. e))) c.requires

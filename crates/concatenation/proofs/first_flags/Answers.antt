@@ -8,8 +8,8 @@ use Rattle.concatenation.proofs.first_flags.Goals as goal
 
 pub gain-requires : goal.gain-requires
 gain-requires c =
-    record { p_in_bounds = c.requires.a_nonzero; flags_nonzero = omega (arith, c.clear.auto.row, c.requires.flags_nonzero.0); summed = summed_none 2 (length c.args.flags.now) _ c.clear.ensures (omega (arith, c.requires.flags_nonzero.1)) }
+    record { p_in_bounds = c.requires.a_nonzero; flags_nonzero = omega (arith, c.fill.auto.self, c.requires.flags_nonzero.0); summed = summed_none 2 (length c.args.flags.now) _ (c.fill.ensures.after (λ y e. e)) (omega (arith, c.requires.flags_nonzero.1)) }
 
 pub returns : goal.returns
 returns c =
-    (c.gain.ensures.0 ∙ ap (with_zero _) c.clear.ensures, c.gain.ensures.1)
+    (c.gain.ensures.0 ∙ ap (with_zero _) (c.fill.ensures.after (λ y e. e)), c.gain.ensures.1)

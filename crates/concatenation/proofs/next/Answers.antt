@@ -1,5 +1,6 @@
 -- `next` of a concatenation meets its contract.
 use native.Mathlib.Omega.{arith}
+use lib.ListN.{length}
 use Rattle.rows.proofs.SumLaws.{summed_fits}
 use Rattle.sets.proofs.ConcatLaws.{tail_long, concat_room, concat_tail, concat_long, concat_cell, concat_flag, concat_small, concat_put, concat_asks, concat_next}
 use Rattle.concatenation.proofs.next.Goals as goal
@@ -23,7 +24,7 @@ slice_bounds-next_flags-start c =
 pub next_flags-sum-requires : goal.next_flags-sum-requires
 next_flags-sum-requires c =
     let a = c.args in
-    let n = concat_tail a.s a.a.now a.b.now c.requires.step.fits c.requires.op_value a.row.now c.requires.step.long in record { x_in_bounds = (rw (c.step-x.ensures, c.read-p.ensures) (concat_flag a.s a.a.now a.b.now c.requires.step.fits c.requires.op_value a.from.now c.requires.step.source a.c c.requires.step.column), omega (arith, n, c.requires.step.fits.right.some)); pours = concat_asks a.s a.a.now a.b.now c.requires.step.fits c.requires.op_value a.from.now c.requires.step.source a.c c.requires.step.column a.members.now a.held c.requires.lists a.row.now c.requires.step.long }
+    let n = concat_tail a.s a.a.now a.b.now c.requires.step.fits c.requires.op_value a.row.now c.requires.step.long in record { x_in_bounds = (rw (c.step-x.ensures, c.read-p.ensures) (concat_flag a.s a.a.now a.b.now c.requires.step.fits c.requires.op_value a.from.now c.requires.step.source a.c c.requires.step.column), omega (arith, n, c.requires.step.fits.right.some)); pours = concat_asks a.s a.a.now a.b.now c.requires.step.fits c.requires.op_value a.from.now c.requires.step.source a.c c.requires.step.column a.members.now (length a.members.now) c.requires.lists a.row.now c.requires.step.long }
 
 pub write-requires : goal.write-requires
 write-requires c =
@@ -41,4 +42,4 @@ returns c =
     let n = concat_tail a.s a.a.now a.b.now c.requires.step.fits c.requires.op_value a.row.now c.requires.step.long in
     let to = rw c.read-p.ensures at c.step-x.ensures in
     let (z, y) = concat_put a.s a.a.now a.b.now c.requires.step.fits c.requires.op_value a.row.now c.next_flags-sum.new.flags _ c.step-x.result _ _ c.requires.step.long c.next_flags-sum.ensures.1 c.write.ensures c.with_number.ensures in
-    (concat_next a.s a.a.now a.b.now c.requires.step.fits c.requires.op_value a.from.now c.requires.step.source a.c c.requires.step.column a.members.now a.held c.requires.lists _ c.next_flags-sum.new.flags _ c.step-x.result n to c.next_flags-sum.ensures.0 z, y)
+    (concat_next a.s a.a.now a.b.now c.requires.step.fits c.requires.op_value a.from.now c.requires.step.source a.c c.requires.step.column a.members.now (length a.members.now) c.requires.lists _ c.next_flags-sum.new.flags _ c.step-x.result n to c.next_flags-sum.ensures.0 z, y)

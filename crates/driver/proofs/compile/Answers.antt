@@ -3,14 +3,6 @@ use Rattle.driver.proofs.EntryLaws.{opened_lines, opened_compiled, opened_stops,
 use native.Mathlib.Omega.{arith}
 use Rattle.driver.proofs.compile.Goals as goal
 
-pub table-kinds-requires : goal.table-kinds-requires
-table-kinds-requires c =
-    tt
-
-pub opening-requires : goal.opening-requires
-opening-requires c =
-    c.table-kinds.ensures
-
 pub slice_bounds-letters-count : goal.slice_bounds-letters-count
 slice_bounds-letters-count c =
     omega (arith, (opened_lines c.args.text.now _ _ c.opening.ensures _ _ c.in-Lines.is).2.some)
@@ -30,7 +22,6 @@ overflow_add-end c =
 pub lines-ended-requires : goal.lines-ended-requires
 lines-ended-requires c =
     record {
-      kinds = c.table-kinds.ensures;
       placed = (opened_lines c.args.text.now _ _ c.opening.ensures _ _ c.in-Lines.is).2.headed.placed;
       lent = lent c.args.low.now c.args.high.now
           c.args.registers.now c.args.stack.now c.args.rows.now c.args.table.now c.args.work.now c.args.code.now

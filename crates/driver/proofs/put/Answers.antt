@@ -5,16 +5,16 @@ use Rattle.driver.proofs.put.Goals as goal
 
 pub put_card-requires : goal.put_card-requires
 put_card-requires c =
-    ready_at c.args.letters.now c.args.slot.now _ _ c.in-Done.is c.requires
+    ready_at c.args.letters.now c.args.slot.now _ _ c.in-Ok.is c.requires
 
 pub shape_of-card : goal.shape_of-card
 shape_of-card c =
     c.put_card.auto.card
 
-pub returns-in-Done : goal.returns-in-Done
-returns-in-Done c =
-    puts_at _ _ _ _ c.in-Done.is _ _ _ c.put_card.ensures
+pub returns-in-Ok : goal.returns-in-Ok
+returns-in-Ok c =
+    puts_at _ _ _ _ c.in-Ok.is _ _ _ c.put_card.ensures
 
-pub returns-in-Refused : goal.returns-in-Refused
-returns-in-Refused c =
-    puts_at _ _ _ _ c.in-Refused.is _ _ _ (refl, refl)
+pub returns-in-Err : goal.returns-in-Err
+returns-in-Err c =
+    puts_at _ _ _ _ c.in-Err.is _ _ _ (refl, refl)

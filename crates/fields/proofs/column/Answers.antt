@@ -1,22 +1,12 @@
--- `column` meets its contract: none of the letters passed is the letter.
-use Prim.Native.Nat.{◌≤◌, ◌-◌}
-use native.Mathlib.Omega.{arith}
-use borrow.Author.Rules.{rules}
-use Rattle.fields.proofs.ReadLaws.{before_start, before_next, column_here, column_end}
+-- `column` meets its contract: no letter before the column's is the letter, and the column's is, if there is one.
+use Rattle.std.proofs.Common.{◌≡◌, ◌≢◌, ◌∙◌, rules}
+use borrow.Author.Tests.{tests}
+use Rattle.std.proofs.lemmas.Iterator.{YieldsList-from_slice, IsFirst-from_position}
+use Rattle.fields.proofs.ReadLaws.{column_first}
 use Rattle.fields.proofs.column.Goals as goal
-
-pub loop-i-init : goal.loop-i-init
-loop-i-init c =
-    (search rules, before_start _ _)
-
-pub returns-then-letters-i : goal.returns-then-letters-i
-returns-then-letters-i c =
-    column_here _ _ _ c.loop-i.invariant.1 c.loop-i-test.true c.if-letters-i.true
-
-pub loop-i-preserved : goal.loop-i-preserved
-loop-i-preserved c =
-    (omega arith, before_next _ _ _ c.loop-i.invariant.1 c.if-letters-i.false)
 
 pub returns : goal.returns
 returns c =
-    column_end _ _ _ c.loop-i.invariant.1 (omega arith)
+    let a = c.args in
+    c.unwrap_or.ensures ∙ column_first a.letters.now a.letter c.position.result
+    (IsFirst-from_position _ _ _ (λ x. x ≡ a.letter) (λ x. x ≢ a.letter) c.position.ensures.ran (YieldsList-from_slice a.letters.now c.iter.ensures.rest) (λ x q k. search (rules, tests)) (λ x q k. search (rules, tests)))

@@ -1,15 +1,20 @@
 -- `on_card` meets its contract: all letters are known where the pass is made.
-use Rattle.forbidden.proofs.EntryLaws.{refused_letter, searchable, room, searched_reply}
+use Rattle.run.specs.Cards.{ready_of}
+use Rattle.forbidden.proofs.EntryLaws.{refused_letter, all_known, room, searched_reply}
 use Rattle.forbidden.proofs.on_card.Goals as goal
 
-pub returns-then-k-plan : goal.returns-then-k-plan
-returns-then-k-plan c =
-    refused_letter _ _ _ c.requires _ _ c.known-k.ensures c.if-k-plan.true
+pub returns-then-before-plan : goal.returns-then-before-plan
+returns-then-before-plan c =
+    refused_letter _ _ _ (ready_of c.args.card.now) _ _ c.known-before.ensures c.if-before-plan.true
 
-pub pass-requires : goal.pass-requires
-pass-requires c =
-    (searchable _ _ _ c.requires _ _ _ c.table-table.ensures c.known-k.ensures c.if-k-plan.false, room _ _ _ c.requires c.args.plan.now)
+pub pass-requires-clause-known : goal.pass-requires-clause-known
+pass-requires-clause-known c =
+    all_known _ _ _ (ready_of c.args.card.now) _ _ c.known-before.ensures c.if-before-plan.false
+
+pub pass-requires-clause-room : goal.pass-requires-clause-room
+pass-requires-clause-room c =
+    room _ _ _ (ready_of c.args.card.now) c.args.plan.now
 
 pub returns : goal.returns
 returns c =
-    searched_reply _ _ _ c.requires _ _ _ (searchable _ _ _ c.requires _ _ _ c.table-table.ensures c.known-k.ensures c.if-k-plan.false) c.pass.ensures
+    searched_reply _ _ _ (ready_of c.args.card.now) _ _ (all_known _ _ _ (ready_of c.args.card.now) _ _ c.known-before.ensures c.if-before-plan.false) c.pass.ensures

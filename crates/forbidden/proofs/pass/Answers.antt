@@ -1,17 +1,8 @@
 -- `pass` meets its contract.
 use mathlib.Core.Path.{◌∙◌}
 use Prim.Native.Nat.{◌-◌}
-use lib.ListN.{length}
-use Rattle.forbidden.proofs.PassLaws.{searched_counted, dead_most, pass_nothing, under_start, half_most, byte_wide, one_less, row_fits, under_rows, under_before, under_wide, under_stepping, under_last, under_next, under_none, under_at}
+use Rattle.forbidden.proofs.PassLaws.{searchable_of, dead_most, pass_nothing, under_start, half_most, row_fits, under_rows, under_stepping, under_last, under_next, under_none, under_at}
 use Rattle.forbidden.proofs.pass.Goals as goal
-
-pub moves-moves-requires : goal.moves-moves-requires
-moves-moves-requires c =
-    searched_counted _ _ _ _ _ c.requires.0
-
-pub marks-requires : goal.marks-requires
-marks-requires c =
-    searched_counted _ _ _ _ _ c.requires.0
 
 pub dead_state-dead-requires : goal.dead_state-dead-requires
 dead_state-dead-requires c =
@@ -19,35 +10,15 @@ dead_state-dead-requires c =
 
 pub returns-then-dead-eq0 : goal.returns-then-dead-eq0
 returns-then-dead-eq0 c =
-    pass_nothing _ _ _ _ _ c.requires.0 _ _ c.marks.ensures c.dead_state-dead.ensures c.if-dead-eq0.true
+    pass_nothing _ _ _ _ _ (searchable_of c.args.card.now _ _ c.requires.columns c.requires.known) _ _ c.marks.ensures c.dead_state-dead.ensures c.if-dead-eq0.true
 
 pub fill-requires : goal.fill-requires
 fill-requires c =
-    (row_fits _ _ c.requires.1, dead_most _ _ _ _ _ c.requires.0 _ _ c.marks.ensures c.dead_state-dead.ensures)
+    (row_fits _ _ c.requires.room, dead_most _ _ _ _ _ (searchable_of c.args.card.now _ _ c.requires.columns c.requires.known) _ _ c.marks.ensures c.dead_state-dead.ensures)
 
 pub loop-i-init : goal.loop-i-init
 loop-i-init c =
-    under_start _ _ _ _ _ c.requires.0 _ _ c.marks.ensures c.dead_state-dead.ensures _ _ _ c.if-dead-eq0.false c.moves-moves.ensures c.requires.1 c.fill.ensures
-
-pub overflow_sub-i : goal.overflow_sub-i
-overflow_sub-i c =
-    c.loop-i-test.true
-
-pub bounds-plan-i : goal.bounds-plan-i
-bounds-plan-i c =
-    under_before _ _ _ _ _ _ _ _ _ _ _ _ _ c.loop-i.invariant c.loop-i-test.true
-
-pub overflow_cast-b : goal.overflow_cast-b
-overflow_cast-b c =
-    byte_wide _ (c.type_inv.plan (c.loop-i.i - 1))
-
-pub bounds-table-b : goal.bounds-table-b
-bounds-table-b c =
-    (c.type_inv.plan (c.loop-i.i - 1)).fits
-
-pub overflow_cast-column : goal.overflow_cast-column
-overflow_cast-column c =
-    under_wide _ _ _ _ _ _ _ _ _ _ _ _ _ c.loop-i.invariant c.loop-i-test.true (c.type_inv.plan (c.loop-i.i - 1)).fits
+    under_start _ _ _ _ _ (searchable_of c.args.card.now _ _ c.requires.columns c.requires.known) _ _ c.marks.ensures c.dead_state-dead.ensures _ _ _ c.if-dead-eq0.false c.moves-moves.ensures c.requires.room c.fill.ensures
 
 pub overflow_add-to : goal.overflow_add-to
 overflow_add-to c =
@@ -64,10 +35,6 @@ step-last-requires c =
 pub better-best-requires : goal.better-best-requires
 better-best-requires c =
     under_last _ _ _ _ _ _ _ _ _ _ _ _ _ c.loop-i.invariant c.loop-i-test.true (c.type_inv.plan (c.loop-i.i - 1)).fits _ _ c.step-last.ensures
-
-pub loop-i-smaller : goal.loop-i-smaller
-loop-i-smaller c =
-    one_less _ c.loop-i-test.true
 
 pub loop-i-preserved : goal.loop-i-preserved
 loop-i-preserved c =

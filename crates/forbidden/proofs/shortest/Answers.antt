@@ -1,14 +1,9 @@
 -- `shortest` meets its contract: the card is tested once.
-use mathlib.Core.Path.{sym, ap, ◌∙◌}
-use Rattle.board.specs.Answers.{loading}
-use Rattle.board.proofs.EntryLaws.{loaded_ready}
+use Rattle.std.proofs.lemmas.Result.{err_from_is_err_and}
 use Rattle.forbidden.proofs.EntryLaws.{refused_card}
 use Rattle.forbidden.proofs.shortest.Goals as goal
 
-pub on_card-requires : goal.on_card-requires
-on_card-requires c =
-    loaded_ready _ _ _ (ap loading (sym c.in-Accepted.is) ∙ c.load.ensures)
-
-pub returns-in-Refused : goal.returns-in-Refused
-returns-in-Refused c =
-    refused_card _ _ _ (ap loading (sym c.in-Refused.is) ∙ c.load.ensures)
+pub returns-in_err-card : goal.returns-in_err-card
+returns-in_err-card c =
+    let p = err_from_is_err_and c.from_residual.result c.from_residual.ensures.1 in
+    rw (p.1, p.2) (refused_card _ _ _ c.in_err-card.ensures.loads)

@@ -7,10 +7,10 @@ pub returns-then-text-eq0 : goal.returns-then-text-eq0
 returns-then-text-eq0 c =
     no_bytes c.args.text.now (omega arith)
 
-pub returns-in-Letters : goal.returns-in-Letters
-returns-in-Letters c =
-    headed c.args.text.now _ c.line_end-end.ensures (omega arith) _ _ c.read_head.ensures c.in-Letters.is c.requires.text_len_bound
+pub returns-in-Ok : goal.returns-in-Ok
+returns-in-Ok c =
+    headed c.args.text.now _ c.line_end-end.ensures (omega arith) _ _ c.read_head.ensures c.in-Ok.is c.requires
 
-pub returns-in-Refused : goal.returns-in-Refused
-returns-in-Refused c =
-    head_stops c.args.text.now _ c.line_end-end.ensures (omega arith) _ _ c.read_head.ensures c.in-Refused.is
+pub returns-in-Err : goal.returns-in-Err
+returns-in-Err c =
+    rw c.number.ensures (head_stops c.args.text.now _ c.line_end-end.ensures (omega arith) _ _ c.read_head.ensures c.in-Err.is)

@@ -14,7 +14,7 @@ returns-then-not-long_enough c =
 
 pub first_line-requires : goal.first_line-requires
 first_line-requires c =
-    record { kinds = c.requires; text_len_bound = omega arith }
+    omega arith
 
 pub returns : goal.returns
 returns c =

@@ -19,10 +19,10 @@ pub write-requires : goal.write-requires
 write-requires c =
     kept c.args.letters.now c.args.slot.now _ c.number-n.ensures c.requires
 
-pub returns-in-Length : goal.returns-in-Length
-returns-in-Length c =
-    puts_card c.args.letters.now c.args.slot.now _ c.number-n.ensures c.args.peak _ _ _ _ c.write.ensures c.in-Length.is
+pub returns-in-Some : goal.returns-in-Some
+returns-in-Some c =
+    puts_card c.args.letters.now c.args.slot.now _ c.number-n.ensures c.args.peak _ _ _ _ c.write.ensures c.in-Some.is
 
-pub returns-in-TooShort : goal.returns-in-TooShort
-returns-in-TooShort c =
-    puts_none c.args.letters.now c.args.slot.now _ c.number-n.ensures c.args.peak _ _ _ c.write.ensures c.in-TooShort.is
+pub returns-in-None : goal.returns-in-None
+returns-in-None c =
+    puts_none c.args.letters.now c.args.slot.now _ c.number-n.ensures c.args.peak _ _ _ c.write.ensures c.in-None.is

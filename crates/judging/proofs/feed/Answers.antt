@@ -3,6 +3,7 @@ use mathlib.Core.Path.{◌≡◌, ◌∙◌}
 use Prim.Native.Nat.{◌-◌}
 use native.Mathlib.Omega.{arith}
 use borrow.Author.Rules.{rules}
+use Rattle.judging.proofs.PlanLaws.{where_ok}
 use Rattle.judging.proofs.LinesLaws.{upto_none, upto_fits, upto_tests, upto_line, feeds_last, feeds_full, feeds_all}
 use Rattle.judging.proofs.feed.Goals as goal
 
@@ -40,7 +41,7 @@ slice_bounds-more-end c =
 
 pub more-judging-requires : goal.more-judging-requires
 more-judging-requires c =
-    (upto_tests _ _ _ _ _ _ _ _ _ c.loop-from.invariant.1 _ c.requires.1, c.requires.0, upto_fits _ _ _ _ _ _ _ _ _ c.loop-from.invariant.1 _ _ c.requires.1 (omega arith) c.line_end-end.ensures)
+    (upto_tests _ _ _ _ _ _ _ _ _ c.loop-from.invariant.1 _ c.requires.1, c.requires.0, where_ok _ _ (upto_fits _ _ _ _ _ _ _ _ _ c.loop-from.invariant.1 _ _ c.requires.1 (omega arith) c.line_end-end.ensures))
 
 pub shape_of-out-then-end-bytes : goal.shape_of-out-then-end-bytes
 shape_of-out-then-end-bytes c =

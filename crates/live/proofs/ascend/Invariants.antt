@@ -1,14 +1,7 @@
 -- `ascend` meets its contract: the states below p are visited.
-use mathlib.Core.Path.{◌≡◌}
-use Prim.Native.Nat.{◌*◌, ◌≤◌, ◌-◌}
-use lib.ListN.{length}
 use Rattle.live.proofs.LiveLaws.{SweepUpto}
 use Rattle.live.proofs.ascend.Given as goal
 
 abbrev pub invariant-loop-p : goal.invariant-loop-p
 invariant-loop-p l =
-    (l.p ≤ length l.marks) × (l.at ≡ l.p * l.m) × SweepUpto 120 l.m l.marks l.moves l.initial.flags l.flags 0 l.p l.changed
-
-abbrev pub decreases-loop-p : goal.decreases-loop-p
-decreases-loop-p l =
-    length l.marks - l.p
+    SweepUpto 120 l.states.letters l.states.marks.now l.states.moves.now l.initial.flags l.flags 0 l.p l.changed

@@ -1,14 +1,7 @@
--- `live` meets its contract.
-use mathlib.Core.Path.{◌≡◌}
-use Prim.Native.Nat.{◌≤◌, ◌+◌, ◌-◌}
-use lib.ListN.{length}
+-- `live` meets its contract: one sweep, and two a turn.
+use Prim.Native.Nat.{◌+◌}
 use Rattle.live.proofs.LiveLaws.{LiveUpto}
 use Rattle.live.proofs.live.Given as goal
 
-abbrev pub invariant-loop-j : goal.invariant-loop-j
-invariant-loop-j l =
-    (l.j ≤ length l.marks + 1) × LiveUpto 120 l.m l.marks l.moves l.flags l.j
-
-abbrev pub decreases-loop-j : goal.decreases-loop-j
-decreases-loop-j l =
-    length l.marks - l.j
+abbrev pub invariant-loop : goal.invariant-loop
+invariant-loop l = LiveUpto 120 l.states.letters l.states.marks.now l.states.moves.now l.flags (l.counter + l.counter + 1)

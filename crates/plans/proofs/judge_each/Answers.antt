@@ -1,5 +1,4 @@
 -- `judge_each` meets its contract: the plans so far are judged.
-use Prim.Native.Nat.{◌-◌}
 use native.Mathlib.Omega.{arith}
 use Rattle.plans.proofs.ManyLaws.{line_less, end_less, upto_none, upto_length, upto_within, upto_full, upto_fits, upto_more, upto_count, upto_line, upto_end, judges_all, judges_full}
 use Rattle.plans.proofs.judge_each.Goals as goal
@@ -18,7 +17,7 @@ shape_of-replies-then-room-lt3 c =
 
 pub returns-then-room-lt3 : goal.returns-then-room-lt3
 returns-then-room-lt3 c =
-    judges_full _ _ _ _ _ _ _ c.loop-from.invariant c.requires.0.loads (upto_full _ _ _ _ _ _ _ c.loop-from.invariant c.if-room-lt3.true)
+    judges_full _ _ _ _ _ _ _ c.loop-from.invariant c.args.card.now.loads (upto_full _ _ _ _ _ _ _ c.loop-from.invariant c.if-room-lt3.true)
 
 pub line_end-end-requires : goal.line_end-end-requires
 line_end-end-requires c =
@@ -27,7 +26,7 @@ line_end-end-requires c =
 pub judge_line-requires : goal.judge_line-requires
 judge_line-requires c =
     let p = c.requires in
-    (p.0, p.1, c.line_end-end.ensures.low, c.line_end-end.ensures.most, p.2)
+    (p.0, c.line_end-end.ensures.low, c.line_end-end.ensures.most, p.1)
 
 pub put_answer-requires : goal.put_answer-requires
 put_answer-requires c =
@@ -68,4 +67,4 @@ shape_of-replies c =
 
 pub returns : goal.returns
 returns c =
-    judges_all _ _ _ _ _ _ _ c.loop-from.invariant c.requires.0.loads c.loop-from-test.false
+    judges_all _ _ _ _ _ _ _ c.loop-from.invariant c.args.card.now.loads c.loop-from-test.false

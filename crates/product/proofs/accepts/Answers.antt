@@ -6,25 +6,25 @@ use Rattle.product.proofs.accepts.Goals as goal
 pub read-p-requires : goal.read-p-requires
 read-p-requires c =
     let args = c.args in
-    omega (arith, pair_long args.s args.a.now args.b.now args.from.now c.requires.fits c.requires.source c.requires.op_bound)
+    omega (arith, pair_long args.s args.a.now args.b.now args.from.now c.requires.fits c.requires.source c.requires.pairs)
 
 pub read-q-requires : goal.read-q-requires
 read-q-requires c =
     let args = c.args in
-    omega (arith, pair_long args.s args.a.now args.b.now args.from.now c.requires.fits c.requires.source c.requires.op_bound)
+    omega (arith, pair_long args.s args.a.now args.b.now args.from.now c.requires.fits c.requires.source c.requires.pairs)
 
 pub accepting-x-requires : goal.accepting-x-requires
 accepting-x-requires c =
     let args = c.args in
-    rw c.read-p.ensures (left_flag args.s args.a.now args.b.now args.from.now c.requires.fits c.requires.source c.requires.op_bound)
+    rw c.read-p.ensures (left_flag args.s args.a.now args.b.now args.from.now c.requires.fits c.requires.source c.requires.pairs)
 
 pub accepting-y-requires : goal.accepting-y-requires
 accepting-y-requires c =
     let args = c.args in
-    rw c.read-q.ensures (right_flag args.s args.a.now args.b.now args.from.now c.requires.fits c.requires.source c.requires.op_bound)
+    rw c.read-q.ensures (right_flag args.s args.a.now args.b.now args.from.now c.requires.fits c.requires.source c.requires.pairs)
 
 pub returns : goal.returns
 returns c =
     let args = c.args in
-    pair_accepts args.s args.a.now args.b.now args.from.now c.requires.fits c.requires.source c.requires.op_bound _ _ _
+    pair_accepts args.s args.a.now args.b.now args.from.now c.requires.fits c.requires.source c.requires.pairs _ _ _
     (rw c.read-p.ensures at c.accepting-x.ensures) (rw c.read-q.ensures at c.accepting-y.ensures) c.combine.ensures

@@ -2,11 +2,12 @@
 use mathlib.Core.Path.{sym}
 use native.Mathlib.Omega.{arith}
 use Rattle.run.proofs.PieceLaws.{past_unknown, past_end, placed}
+use Rattle.run.specs.Cards.{ready_of}
 use Rattle.run.proofs.past_dead.Goals as goal
 
 pub known-k-requires : goal.known-k-requires
 known-k-requires c =
-    (c.requires.ready.0, c.requires.ready.1, c.requires.from_in_bounds.0)
+    (c.requires.ready, c.requires.from_in_bounds.0)
 
 pub overflow_sub-total : goal.overflow_sub-total
 overflow_sub-total c =
@@ -19,13 +20,13 @@ overflow_add-total c =
 pub returns-then-k-plan : goal.returns-then-k-plan
 returns-then-k-plan c =
     record {
-      is = sym (past_unknown _ _ _ c.requires.ready.0 _ _ _ _ _ _ c.known-k.ensures c.requires.state_lt_n.0 c.requires.state_lt_n.1 c.if-k-plan.true);
+      is = sym (past_unknown _ _ _ (ready_of c.args.card.now) _ _ _ _ _ _ c.known-k.ensures c.requires.state_lt_n.0 c.requires.state_lt_n.1 c.if-k-plan.true);
       underway = record { inside = c.requires.state_lt_n.0; dead = λ k e. c.requires.state_lt_n.1; alive = λ e. placed _ e };
     }
 
 pub returns : goal.returns
 returns c =
     record {
-      is = sym (past_end _ _ _ c.requires.ready.0 _ _ _ _ _ _ c.known-k.ensures c.requires.state_lt_n.0 c.requires.state_lt_n.1 c.if-k-plan.false);
+      is = sym (past_end _ _ _ (ready_of c.args.card.now) _ _ _ _ _ _ c.known-k.ensures c.requires.state_lt_n.0 c.requires.state_lt_n.1 c.if-k-plan.false);
       underway = record { inside = c.requires.state_lt_n.0; dead = λ k e. c.requires.state_lt_n.1; alive = λ e. placed _ e };
     }

@@ -2,57 +2,58 @@
 use native.Mathlib.Omega.{arith}
 use borrow.Author.Rules.{rules}
 use Rattle.run.proofs.PieceLaws.{runs_halted, runs_dead, runs_done, runs_unknown, runs_past, ends_dead, ends_unknown}
+use Rattle.run.specs.Cards.{bytes_of, letters_in, states_in}
 use Rattle.run.proofs.piece_by.Goals as goal
 
-pub returns-in-At : goal.returns-in-At
-returns-in-At c =
-    runs_halted c.args.card.now c.args.m c.args.n c.args.plan.now c.args.run c.requires.2 _ c.in-At.is
+pub returns-in-Some : goal.returns-in-Some
+returns-in-Some c =
+    runs_halted (bytes_of c.args.card.now) (letters_in c.args.card.now) (states_in c.args.card.now) c.args.plan.now c.args.run c.requires.1 _ c.in-Some.is
 
 pub past_dead-requires : goal.past_dead-requires
 past_dead-requires c =
-    record { ready = (c.requires.0, c.requires.1); from_in_bounds = (search rules, omega (arith, c.requires.3)); state_lt_n = (c.requires.2.inside, c.requires.2.dead _ c.in-At-dead.is) }
+    record { ready = (c.requires.0); from_in_bounds = (search rules, omega (arith, c.requires.2)); state_lt_n = (c.requires.1.inside, c.requires.1.dead _ c.in-Some-dead.is) }
 
-pub returns-in-At-dead : goal.returns-in-At-dead
-returns-in-At-dead c =
-    runs_dead c.args.card.now c.args.m _ c.args.plan.now c.args.run _ _ c.in_default.is c.in-At-dead.is c.past_dead.ensures
+pub returns-in-Some-dead : goal.returns-in-Some-dead
+returns-in-Some-dead c =
+    runs_dead (bytes_of c.args.card.now) (letters_in c.args.card.now) _ c.args.plan.now c.args.run _ _ c.in_default.is c.in-Some-dead.is c.past_dead.ensures
 
 pub walk_on-requires : goal.walk_on-requires
 walk_on-requires c =
-    (c.requires.0, c.requires.1, c.requires.2.inside, c.requires.2.alive c.in_default-dead.is)
+    (c.requires.0, c.requires.1.inside, c.requires.1.alive c.in_default-dead.is)
 
 pub overflow_add-result : goal.overflow_add-result
 overflow_add-result c =
-    omega (arith, c.requires.3)
+    omega (arith, c.requires.2)
 
 pub overflow_add-letters : goal.overflow_add-letters
 overflow_add-letters c =
-    omega (arith, c.requires.3, ends_dead c.args.card.now c.args.m c.args.n c.args.plan.now c.args.run _ c.in_default.is c.in_default-dead.is c.walk_on.ensures _ _ c.in-Dead.is)
+    omega (arith, c.requires.2, ends_dead (bytes_of c.args.card.now) (letters_in c.args.card.now) (states_in c.args.card.now) c.args.plan.now c.args.run _ c.in_default.is c.in_default-dead.is c.walk_on.ensures _ _ c.in-Dead.is)
 
 pub overflow_add-letters-in-Dead : goal.overflow_add-letters-in-Dead
 overflow_add-letters-in-Dead c =
-    omega (arith, c.requires.3, ends_dead c.args.card.now c.args.m c.args.n c.args.plan.now c.args.run _ c.in_default.is c.in_default-dead.is c.walk_on.ensures _ _ c.in-Dead.is)
+    omega (arith, c.requires.2, ends_dead (bytes_of c.args.card.now) (letters_in c.args.card.now) (states_in c.args.card.now) c.args.plan.now c.args.run _ c.in_default.is c.in_default-dead.is c.walk_on.ensures _ _ c.in-Dead.is)
 
 pub past_dead-requires-in-Dead : goal.past_dead-requires-in-Dead
 past_dead-requires-in-Dead c =
-    let d = ends_dead c.args.card.now c.args.m c.args.n c.args.plan.now c.args.run _ c.in_default.is c.in_default-dead.is c.walk_on.ensures _ _ c.in-Dead.is in
-    record { ready = (c.requires.0, c.requires.1); from_in_bounds = (d.2, omega (arith, c.requires.3, d.2)); state_lt_n = (d.0, d.1) }
+    let d = ends_dead (bytes_of c.args.card.now) (letters_in c.args.card.now) (states_in c.args.card.now) c.args.plan.now c.args.run _ c.in_default.is c.in_default-dead.is c.walk_on.ensures _ _ c.in-Dead.is in
+    record { ready = (c.requires.0); from_in_bounds = (d.2, omega (arith, c.requires.2, d.2)); state_lt_n = (d.0, d.1) }
 
 pub overflow_add-result-in-Unknown : goal.overflow_add-result-in-Unknown
 overflow_add-result-in-Unknown c =
-    omega (arith, c.requires.3, ends_unknown c.args.card.now c.args.m c.args.n c.args.plan.now c.args.run _ c.in_default.is c.in_default-dead.is c.walk_on.ensures _ _ c.in-Unknown.is)
+    omega (arith, c.requires.2, ends_unknown (bytes_of c.args.card.now) (letters_in c.args.card.now) (states_in c.args.card.now) c.args.plan.now c.args.run _ c.in_default.is c.in_default-dead.is c.walk_on.ensures _ _ c.in-Unknown.is)
 
 pub overflow_add-result-in-Unknown-2 : goal.overflow_add-result-in-Unknown-2
 overflow_add-result-in-Unknown-2 c =
-    omega (arith, c.requires.3, ends_unknown c.args.card.now c.args.m c.args.n c.args.plan.now c.args.run _ c.in_default.is c.in_default-dead.is c.walk_on.ensures _ _ c.in-Unknown.is)
+    omega (arith, c.requires.2, ends_unknown (bytes_of c.args.card.now) (letters_in c.args.card.now) (states_in c.args.card.now) c.args.plan.now c.args.run _ c.in_default.is c.in_default-dead.is c.walk_on.ensures _ _ c.in-Unknown.is)
 
 pub returns-in-Done : goal.returns-in-Done
 returns-in-Done c =
-    runs_done c.args.card.now c.args.m c.args.n c.args.plan.now c.args.run _ c.in_default.is c.in_default-dead.is c.walk_on.ensures _ c.in-Done.is
+    runs_done (bytes_of c.args.card.now) (letters_in c.args.card.now) (states_in c.args.card.now) c.args.plan.now c.args.run _ c.in_default.is c.in_default-dead.is c.walk_on.ensures _ c.in-Done.is
 
 pub returns-in-Dead : goal.returns-in-Dead
 returns-in-Dead c =
-    runs_past c.args.card.now c.args.m c.args.n c.args.plan.now c.args.run _ c.in_default.is c.in_default-dead.is c.walk_on.ensures _ _ _ c.in-Dead.is c.past_dead-in-Dead.ensures
+    runs_past (bytes_of c.args.card.now) (letters_in c.args.card.now) (states_in c.args.card.now) c.args.plan.now c.args.run _ c.in_default.is c.in_default-dead.is c.walk_on.ensures _ _ _ c.in-Dead.is c.past_dead-in-Dead.ensures
 
 pub returns-in-Unknown : goal.returns-in-Unknown
 returns-in-Unknown c =
-    runs_unknown c.args.card.now c.args.m c.args.n c.args.plan.now c.args.run _ c.in_default.is c.in_default-dead.is c.walk_on.ensures _ _ c.in-Unknown.is
+    runs_unknown (bytes_of c.args.card.now) (letters_in c.args.card.now) (states_in c.args.card.now) c.args.plan.now c.args.run _ c.in_default.is c.in_default-dead.is c.walk_on.ensures _ _ c.in-Unknown.is

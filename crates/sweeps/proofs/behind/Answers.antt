@@ -7,6 +7,6 @@ pub returns-then-key-side : goal.returns-then-key-side
 returns-then-key-side c =
     sym (behind_same _ _ _ c.if-key-side.true)
 
-pub returns : goal.returns
-returns c =
+pub returns-else-key-side : goal.returns-else-key-side
+returns-else-key-side c =
     sym (behind_other _ _ _ c.if-key-side.false)

@@ -1,12 +1,7 @@
 -- `nearest` meets its contract.
-use Prim.Native.Nat.{◌+◌, ◌≤◌, ◌-◌}
+use Rattle.std.proofs.Common.{◌*◌}
 use Rattle.sweeps.specs.Change.{Nearest}
 use Rattle.sweeps.proofs.nearest.Given as goal
 
-abbrev pub invariant-loop-i : goal.invariant-loop-i
-invariant-loop-i l =
-    (l.i ≤ l.m) × Nearest l.moves l.at l.i l.side l.keys l.far l.best
-
-abbrev pub decreases-loop-i : goal.decreases-loop-i
-decreases-loop-i l =
-    l.m - l.i
+abbrev pub invariant-loop-target : goal.invariant-loop-target
+invariant-loop-target l = Nearest l.states.moves.now (l.p * l.states.letters) l.target-index l.side l.keys l.far l.best

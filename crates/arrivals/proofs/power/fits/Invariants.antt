@@ -1,13 +1,8 @@
--- `fits` meets its contract: the power so far fits, and one factor more is tested before it is made.
+-- `fits` meets its contract: the power so far fits.
 use mathlib.Core.Path.{◌≡◌}
-use Prim.Native.Nat.{◌≤◌, ◌-◌, ◌^◌}
+use Prim.Native.Nat.{◌≤◌, ◌^◌}
 use Rattle.arrivals.specs.Weights.{most_words}
 use Rattle.arrivals.proofs.power.fits.Given as goal
 
-abbrev pub invariant-loop-i : goal.invariant-loop-i
-invariant-loop-i l =
-    (l.i ≤ l.k) × (l.power ≡ l.m ^ l.i) × (l.power ≤ most_words)
-
-abbrev pub decreases-loop-i : goal.decreases-loop-i
-decreases-loop-i l =
-    l.k - l.i
+abbrev pub invariant-loop : goal.invariant-loop
+invariant-loop l = (l.power ≡ l.m ^ l.counter) × (l.power ≤ most_words)

@@ -1,14 +1,10 @@
--- `part` meets its contract: the states before i have their classes.
+-- `part` meets its contract: the states before p have their classes.
 use mathlib.Core.Path.{◌≡◌}
-use Prim.Native.Nat.{ℕ, ◌-◌, ◌≤◌, ◌<◌}
-use lib.ListN.{length, get_or}
+use Prim.Native.Nat.{ℕ, ◌<◌}
+use lib.ListN.{get_or}
 use Rattle.classes.specs.Refine.{side_of}
 use Rattle.classes.proofs.refine.part.Given as goal
 
-abbrev pub invariant-loop-i : goal.invariant-loop-i
-invariant-loop-i l =
-    (l.i ≤ l.n) × (length l.work ≡ length l.initial.work) × ((p : ℕ) → p < l.i → get_or l.work p 0 ≡ side_of l.table l.other p)
-
-abbrev pub decreases-loop-i : goal.decreases-loop-i
-decreases-loop-i l =
-    l.n - l.i
+abbrev pub invariant-loop-p : goal.invariant-loop-p
+invariant-loop-p l =
+    (q : ℕ) → q < l.p → get_or l.work q 0 ≡ side_of l.table l.other q

@@ -7,6 +7,6 @@ pub returns-then-flag : goal.returns-then-flag
 returns-then-flag c =
     sym (side_same c.args.table.now c.args.other c.args.p (sym c.flag.ensures ∙ c.if-flag.true ∙ c.flag-2.ensures))
 
-pub returns : goal.returns
-returns c =
+pub returns-else-flag : goal.returns-else-flag
+returns-else-flag c =
     sym (side_other c.args.table.now c.args.other c.args.p (λ e. c.if-flag.false (c.flag.ensures ∙ e ∙ sym c.flag-2.ensures)))

@@ -1,19 +1,9 @@
 -- `chase` meets its contract: each turn sets one flag more.
 use Prim.Native.Nat.{◌-◌, ◌<◌}
 use native.Mathlib.Omega.{arith}
-use Rattle.flags.specs.Flags.{cell}
-use Rattle.flags.proofs.ClosureLaws.{unset_less, chase_start, chase_more, chase_end}
+use Rattle.flags.proofs.ClosureLaws.{unset_less, chase_more, chase_end}
 use Rattle.flags.proofs.FlagLaws.{flag_set}
-use Rattle.flags.proofs.TableLaws.{cell_in}
 use Rattle.flags.proofs.closure.chase.Goals as goal
-
-pub loop-row-init : goal.loop-row-init
-loop-row-init c =
-    let a = c.args in (chase_start (cell a.base a.k (a.k - 1) a.t.now) a.n a.p a.row.now c.requires.closes.long c.requires.p_lt_n, c.requires.summed)
-
-pub step-q-requires : goal.step-q-requires
-step-q-requires c =
-    cell_in c.args.base c.args.n c.args.k c.args.t.now c.requires.closes.table c.loop-row.q (c.args.k - 1) c.loop-row.invariant.0.within (omega (arith, c.requires.closes.columns))
 
 pub loop-row-smaller : goal.loop-row-smaller
 loop-row-smaller c =

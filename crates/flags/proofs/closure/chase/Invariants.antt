@@ -1,5 +1,5 @@
 -- `chase` meets its contract: each turn sets one flag more.
-use Prim.Native.Nat.{◌-◌, ◌<◌}
+use Prim.Native.Nat.{◌-◌}
 use Rattle.rows.specs.Sums.{Summed}
 use Rattle.flags.specs.Closure.{unset}
 use Rattle.flags.specs.Flags.{cell}

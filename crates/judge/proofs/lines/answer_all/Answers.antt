@@ -1,5 +1,5 @@
 use Rattle.std.proofs.Common.{rules, arith}
-use Rattle.judge.proofs.LinesLaws.{on_ok, taken_none, taken_counted, taken_more, taken_all, taken_text}
+use Rattle.judge.proofs.LinesLaws.{taken_none, taken_counted, taken_more, taken_all, taken_text}
 use Rattle.judge.proofs.lines.answer_all.Goals as goal
 
 pub loop-from-init : goal.loop-from-init
@@ -13,10 +13,10 @@ feed-fed-requires g c =
 pub loop-from-preserved : goal.loop-from-preserved
 loop-from-preserved g c =
     let v = c.loop-from.invariant in
-    (search rules, taken_more _ _ _ _ _ _ _ v.1 _ _ _ c.feed-fed.ensures (on_ok _ _ c.is_err.ensures.value c.if-is_err.false c.write_all.ensures.bytes))
+    (search rules, taken_more _ _ _ _ _ _ _ v.1 _ _ _ c.feed-fed.ensures c.in_ok-write_all.ensures.bytes)
 
 pub returns-clause-wrote : goal.returns-clause-wrote
-returns-clause-wrote g c = record { since = λ _. taken_all _ _ _ _ _ _ _ c.loop-from.invariant.1 c.loop-from-test.false }
+returns-clause-wrote g c = taken_all _ _ _ _ _ _ _ c.loop-from.invariant.1 c.loop-from-test.false
 
 pub returns-clause-text : goal.returns-clause-text
-returns-clause-text g c = λ _. taken_text _ _ _ _ _ _ _ c.loop-from.invariant.1 c.loop-from-test.false
+returns-clause-text g c = taken_text _ _ _ _ _ _ _ c.loop-from.invariant.1 c.loop-from-test.false

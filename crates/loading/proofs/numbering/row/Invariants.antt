@@ -1,13 +1,7 @@
--- `row` meets its contract: the invariant says how many states are seen after the first i moves.
-use mathlib.Core.Logic.{⊎_elim}
-use Prim.Native.Nat.{◌+◌, ◌≤◌, ◌-◌}
+-- `row` meets its contract: the invariant says how many states are seen after the first moves.
+use Rattle.std.proofs.Common.{◌*◌}
 use Rattle.loading.proofs.RowLaws.{RowUpto}
 use Rattle.loading.proofs.numbering.row.Given as goal
 
-abbrev pub invariant-loop-i : goal.invariant-loop-i
-invariant-loop-i l =
-    (l.i ≤ l.m) × (1 ≤ l.s) × (l.s ≤ 256) × RowUpto l.moves l.at l.seen l.i l.s
-
-abbrev pub decreases-loop-i : goal.decreases-loop-i
-decreases-loop-i l =
-    l.m - l.i
+abbrev pub invariant-loop-target : goal.invariant-loop-target
+invariant-loop-target l = RowUpto l.states.moves.now (l.p * l.states.letters) l.seen l.target-index l.s

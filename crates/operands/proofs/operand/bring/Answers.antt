@@ -66,13 +66,13 @@ pub given-requires : goal.given-requires
 given-requires c =
     part_writable c.requires
 
-pub overflow_mul-j : goal.overflow_mul-j
-overflow_mul-j c =
-    omega (arith, register_room c.requires _ c.in-Register.is)
+pub overflow_mul-index : goal.overflow_mul-index
+overflow_mul-index c =
+    omega (arith, register_room c.requires _ _ c.index.ensures)
 
 pub copy-requires-in-Register : goal.copy-requires-in-Register
 copy-requires-in-Register c =
-    let r = register_asks c.requires _ c.in-Register.is in record { slot = r.0; k_in_bounds = r.1 }
+    let r = register_asks c.requires _ _ c.index.ensures c.in-Register.is in record { slot = r.0; k_in_bounds = r.1 }
 
 pub returns-in-Letter : goal.returns-in-Letter
 returns-in-Letter c =
@@ -104,4 +104,4 @@ shape_of-stack-in-Register c =
 
 pub returns-in-Register : goal.returns-in-Register
 returns-in-Register c =
-    brought_register c.requires _ _ c.in-Register.is c.copy-in-Register.ensures
+    brought_register c.requires _ _ c.index.ensures _ c.in-Register.is c.copy-in-Register.ensures

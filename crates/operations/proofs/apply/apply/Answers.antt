@@ -1,6 +1,7 @@
 -- `operations::apply::apply` meets its contract.
 use native.Mathlib.Omega.{arith}
-use Rattle.operations.specs.Apply.{apply_ready, apply_done, slot_room}
+use Rattle.std.proofs.lemmas.Result.{err_from_is_err_and}
+use Rattle.operations.specs.Apply.{apply_ready, apply_made, apply_stops, slot_room}
 use Rattle.operations.proofs.apply.apply.Goals as goal
 
 pub overflow_mul-left : goal.overflow_mul-left
@@ -11,30 +12,15 @@ pub overflow_mul-right : goal.overflow_mul-right
 overflow_mul-right c =
     omega (arith, slot_room c.requires.lent _ c.requires.low, slot_room c.requires.lent _ c.requires.high)
 
-pub stage-staged-requires : goal.stage-staged-requires
-stage-staged-requires c =
+pub stage-requires : goal.stage-requires
+stage-requires c =
     apply_ready c.requires
 
-pub told-requires : goal.told-requires
-told-requires c =
-    c.requires.low
-
-pub shape_of-stack : goal.shape_of-stack
-shape_of-stack c =
-    c.stage-staged.auto.slots
-
-pub shape_of-rows : goal.shape_of-rows
-shape_of-rows c =
-    c.stage-staged.auto.rows
-
-pub shape_of-table : goal.shape_of-table
-shape_of-table c =
-    c.stage-staged.auto.table
-
-pub shape_of-work : goal.shape_of-work
-shape_of-work c =
-    c.stage-staged.auto.operands
+pub returns-in_err-made : goal.returns-in_err-made
+returns-in_err-made c =
+    let p = err_from_is_err_and c.from_residual.result c.from_residual.ensures.1 in
+    rw (p.1, p.2) (apply_stops _ _ _ _ _ _ _ _ c.in_err-made.ensures)
 
 pub returns : goal.returns
 returns c =
-    apply_done _ _ _ _ _ _ _ _ c.stage-staged.ensures _ c.told.ensures
+    apply_made _ _ _ _ _ _ _ _ c.in_ok-made.ensures

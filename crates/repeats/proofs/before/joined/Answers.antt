@@ -1,5 +1,5 @@
 -- `joined` meets its contract.
-use mathlib.Core.Bool.{false≢true}
+use lib.ListN.{length}
 use native.Mathlib.Omega.{arith}
 use Rattle.sets.proofs.ConcatLaws.{concat_long, concat_cell}
 use Rattle.repeats.proofs.BeforeLaws.{before_joined}
@@ -19,8 +19,4 @@ listed-requires c =
 
 pub returns-then-state : goal.returns-then-state
 returns-then-state c =
-    let a = c.args in λ e. before_joined a.s a.a.now a.b.now a.c a.from.now c.requires.looks c.requires.op_value c.read-p.result a.held a.members.now c.read-p.ensures (c.state.ensures c.if-state.true) (rw c.requires.op_value at c.requires.listed) (c.listed.ensures e)
-
-pub returns : goal.returns
-returns c =
-    λ e. absurd (false≢true e)
+    let a = c.args in λ e. before_joined a.s a.a.now a.b.now a.c a.from.now c.requires.looks c.requires.op_value c.read-p.result (length a.members.now) a.members.now c.read-p.ensures (c.state.ensures c.if-state.true) (rw c.requires.op_value at c.requires.listed) (c.listed.ensures e)

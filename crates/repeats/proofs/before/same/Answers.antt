@@ -1,25 +1,19 @@
--- `same` meets its contract: a case for each kind of row.
-use mathlib.Core.Bool.{false≢true}
-use Rattle.sets.proofs.FitLaws.{is_concatenation}
-use Rattle.repeats.proofs.BeforeLaws.{flags_listed, before_flags}
+-- `same` meets its contract: the listed members of a star's row, or of an erase's, lead alike.
+use lib.ListN.{length}
+use mathlib.Core.Path.{◌≡◌}
+use Rattle.std.proofs.Common.{rules}
+use Rattle.sets.specs.Operations.{operation_of, star, erase}
+use Rattle.repeats.proofs.BeforeLaws.{before_star, before_erase}
 use Rattle.repeats.proofs.before.same.Goals as goal
 
-pub returns-then-held-gt-FEW : goal.returns-then-held-gt-FEW
-returns-then-held-gt-FEW c =
-    λ e. absurd (false≢true e)
+pub returns-in-Star : goal.returns-in-Star
+returns-in-Star c =
+    let a = c.args in
+    let is : operation_of a.s.op ≡ star = search rules in
+    λ e. before_star a.s a.a.now a.b.now a.c a.from.now c.requires.looks (length a.members.now) a.members.now (rw is at c.requires.listed) (c.listed.ensures e) is
 
-pub joined-requires : goal.joined-requires
-joined-requires c =
-    record { looks = c.requires.looks; op_value = is_concatenation c.args.s.op c.if-op-eq3.true; listed = c.requires.listed }
-
-pub returns-then-c-k : goal.returns-then-c-k
-returns-then-c-k c =
-    λ e. absurd (false≢true e)
-
-pub listed-requires : goal.listed-requires
-listed-requires c =
-    let a = c.args in record { closed_table = c.requires.looks.fits.left; c_nonzero = (c.requires.looks.some, c.requires.looks.column); counted = (flags_listed a.s.op a.s.na a.s.nb a.held a.from.now a.members.now c.if-op-lt3.false c.if-op-eq3.false c.requires.listed).counted }
-
-pub returns : goal.returns
-returns c =
-    let a = c.args in λ e. before_flags a.s a.a.now a.b.now a.c a.from.now c.requires.looks a.held a.members.now c.if-op-lt3.false c.if-op-eq3.false c.if-c-k.false c.requires.listed (c.listed.ensures e)
+pub returns-then-c-s : goal.returns-then-c-s
+returns-then-c-s c =
+    let a = c.args in
+    let is : operation_of a.s.op ≡ erase = search rules in
+    λ e. before_erase a.s a.a.now a.b.now a.c a.from.now c.requires.looks (length a.members.now) a.members.now (rw is at c.requires.listed) (c.listed-then-c-s.ensures e) is c.if-c-s.true

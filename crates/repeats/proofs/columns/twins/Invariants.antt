@@ -1,12 +1,6 @@
--- `twins` meets its contract: the columns before c have their twins, the others none.
-use Prim.Native.Nat.{◌-◌}
+-- The columns before c have their twins, the others none.
 use Rattle.repeats.proofs.TwinLaws.{TwinsTo}
 use Rattle.repeats.proofs.columns.twins.Given as goal
 
 abbrev pub invariant-loop-c : goal.invariant-loop-c
-invariant-loop-c l =
-    TwinsTo l.s l.a l.b l.table l.c
-
-abbrev pub decreases-loop-c : goal.decreases-loop-c
-decreases-loop-c l =
-    64 - l.c
+invariant-loop-c l = TwinsTo l.s l.a l.b l.table l.c

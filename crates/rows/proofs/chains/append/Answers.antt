@@ -1,7 +1,6 @@
--- `append` meets its contract: the copied part is the row at its place.
-use Rattle.rows.proofs.RowLaws.{appended, copied}
+-- `append` meets its contract: the part that was put is the row at its place.
+use Rattle.rows.proofs.RowLaws.{appended}
 use Rattle.rows.proofs.chains.append.Goals as goal
 
 pub returns : goal.returns
-returns c =
-    appended _ _ _ _ _ c.requires.row_len c.requires.w_in_bounds (copied _ _ _ c.copy_from_slice.ensures.len c.copy_from_slice.ensures.after)
+returns g c = appended _ _ _ _ _ c.requires.row_len c.requires.w_in_bounds c.put.ensures

@@ -1,18 +1,16 @@
 -- `scans::ends::line_end` meets its contract: no byte passed is a line end.
-use mathlib.Core.Path.{refl, ap}
-use native.Mathlib.Omega.{arith}
-use Rattle.book.specs.Kind.{kind_of, sign_only}
-use Rattle.scans.proofs.LineLaws.{plain_next, ends_at}
+use Rattle.std.proofs.Common.{◌≡◌, ◌≢◌, ◌∙◌, refl, drop, rules}
+use borrow.Author.Tests.{tests}
+use Rattle.std.proofs.lemmas.Iterator.{YieldsList-from_slice, IsFirst-from_position}
+use Rattle.scans.proofs.LineLaws.{rest_whole, ends_found, ends_last}
 use Rattle.scans.proofs.ends.line_end.Goals as goal
 
-pub returns-then-text-i-eq10 : goal.returns-then-text-i-eq10
-returns-then-text-i-eq10 c =
-    ends_at _ _ _ c.loop-i.invariant.0 (omega arith) (λ _. ap kind_of c.if-text-i-eq10.true) c.loop-i.invariant.2
+pub returns-in-Some : goal.returns-in-Some
+returns-in-Some c =
+    let f = IsFirst-from_position _ _ _ (λ x. x ≡ 10) (λ x. x ≢ 10) c.in-Some.ensures.ran (YieldsList-from_slice (drop c.args.at c.args.text.now) (c.iter.ensures.rest ∙ rest_whole c.args.text.now c.args.at)) (λ x q k. search (rules, tests)) (λ x q k. search (rules, tests)) in
+    ends_found _ _ _ c.requires f.2 f.0 f.1
 
-pub loop-i-preserved : goal.loop-i-preserved
-loop-i-preserved c =
-    (omega arith, omega arith, plain_next _ _ _ _ refl (λ e. c.if-text-i-eq10.false (sign_only _ 12 e)) c.loop-i.invariant.2)
-
-pub returns : goal.returns
-returns c =
-    ends_at _ _ _ c.loop-i.invariant.0 c.loop-i.invariant.1 (λ h. absurd (omega arith)) c.loop-i.invariant.2
+pub returns-in-None : goal.returns-in-None
+returns-in-None c =
+    let f = IsFirst-from_position _ _ _ (λ x. x ≡ 10) (λ x. x ≢ 10) c.in-None.ensures.ran (YieldsList-from_slice (drop c.args.at c.args.text.now) (c.iter.ensures.rest ∙ rest_whole c.args.text.now c.args.at)) (λ x q k. search (rules, tests)) (λ x q k. search (rules, tests)) in
+    ends_last _ _ _ c.requires f refl

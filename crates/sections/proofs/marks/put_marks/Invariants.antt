@@ -1,15 +1,9 @@
 -- `put_marks` meets its contract: the marks bytes of the states below i are laid down.
-use Prim.Native.Nat.{◌+◌, ◌≤◌, ◌-◌}
-use lib.ListN.{get_or}
+use Rattle.std.proofs.Common.{◌+◌, get_or}
 use Rattle.automata.specs.Basics.{tab}
 use Rattle.sections.specs.Laid.{Laid}
 use Rattle.sections.specs.Parts.{mark_bytes}
 use Rattle.sections.proofs.marks.put_marks.Given as goal
 
 abbrev pub invariant-loop-i : goal.invariant-loop-i
-invariant-loop-i l =
-    (l.i ≤ l.count) × Laid (12 + l.m) (12 + l.m + l.i) (tab (λ j. get_or (mark_bytes l.n l.m l.slot) j 0) l.i) l.initial.card l.card
-
-abbrev pub decreases-loop-i : goal.decreases-loop-i
-decreases-loop-i l =
-    l.count - l.i
+invariant-loop-i l = Laid (12 + l.m) (12 + l.m + l.i) (tab (λ j. get_or (mark_bytes l.n l.m l.slot) j 0) l.i) l.initial.card l.card

@@ -1,14 +1,9 @@
 -- `slots::slot::widen` meets its contract.
-use mathlib.Core.Path.{◌≡◌}
-use Prim.Native.Nat.{◌+◌, ◌-◌, ◌≤◌}
+use Prim.Native.Nat.{◌+◌}
 use lib.ListN.{get_or}
 use Rattle.slots.specs.Slot.{Written}
 use Rattle.slots.proofs.slot.widen.Given as goal
 
 abbrev pub invariant-loop-i : goal.invariant-loop-i
 invariant-loop-i l =
-    (l.i ≤ l.len) × Written l.initial.dst l.dst l.to l.i (λ j. get_or l.src (l.from + j) 0)
-
-abbrev pub decreases-loop-i : goal.decreases-loop-i
-decreases-loop-i l =
-    l.len - l.i
+    Written l.initial.dst l.dst l.to l.i (λ j. get_or l.src (l.from + j) 0)

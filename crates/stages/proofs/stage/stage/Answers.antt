@@ -1,83 +1,26 @@
 -- `stages::stage::stage` meets its contract.
-use mathlib.Core.Path.{refl, ◌∙◌}
-use native.Mathlib.Omega.{arith}
-use Rattle.answers.proofs.StageLaws.{ready_columns, ready_load, ready_reach, ready_keep, done_many, done_large, done_made}
+use Rattle.std.specs.Prelude.{◌≡◌, None, Some}
+use Rattle.std.proofs.Common.{arith}
+use Rattle.std.proofs.lemmas.Result.{err_from_is_err_and}
+use Rattle.answers.specs.declared.TooMany.TheVariants.{TooManySets, TooManyStates}
+use Rattle.answers.proofs.StageLaws.{done_many, done_large, done_made}
 use Rattle.stages.proofs.stage.stage.Goals as goal
 
-pub overflow_add-k : goal.overflow_add-k
-overflow_add-k c =
-    omega (arith, ready_columns c.requires)
+pub returns-in_err-n : goal.returns-in_err-n
+returns-in_err-n c =
+    let p = err_from_is_err_and c.from_residual.result c.from_residual.ensures.1 in
+    let e : c.reach.result ≡ None = c.in_err-n.ensures.ok_part in
+    let v : c.in_err-n.field-0.0 ≡ TooManySets = grind (arith, e, c.in_err-n.ensures.value) in
+    rw (p.1, p.2, v) (done_many c.requires c.load-sizes.ensures _ _ _ _ c.reach.ensures e)
 
-pub load-sizes-requires : goal.load-sizes-requires
-load-sizes-requires c =
-    let r = ready_load c.requires in record { slot = r.0; slot_2 = r.1.0; k_in_bounds = r.1.1 }
-
-pub reach-requires : goal.reach-requires
-reach-requires c =
-    ready_reach c.requires c.load-sizes.ensures
-
-pub shape_of-slots-in_default : goal.shape_of-slots-in_default
-shape_of-slots-in_default c =
-    refl
-
-pub shape_of-operands-in_default : goal.shape_of-operands-in_default
-shape_of-operands-in_default c =
-    c.load-sizes.auto.out
-
-pub shape_of-rows-in_default : goal.shape_of-rows-in_default
-shape_of-rows-in_default c =
-    c.reach.auto.rows
-
-pub shape_of-table-in_default : goal.shape_of-table-in_default
-shape_of-table-in_default c =
-    c.reach.auto.table
-
-pub returns-in_default : goal.returns-in_default
-returns-in_default c =
-    done_many c.requires c.load-sizes.ensures _ _ _ _ c.reach.ensures c.in_default.is
-
-pub keep-requires : goal.keep-requires
-keep-requires c =
-    ready_keep c.requires c.load-sizes.ensures _ _ _ _ _ c.reach.ensures c.in-Sets.is _ c.load-sizes.auto.out
-
-pub shape_of-slots-in_default-keep : goal.shape_of-slots-in_default-keep
-shape_of-slots-in_default-keep c =
-    c.keep.auto.slots
-
-pub shape_of-operands-in_default-keep : goal.shape_of-operands-in_default-keep
-shape_of-operands-in_default-keep c =
-    c.keep.auto.work
-    ∙ c.load-sizes.auto.out
-
-pub shape_of-rows-in_default-keep : goal.shape_of-rows-in_default-keep
-shape_of-rows-in_default-keep c =
-    c.reach.auto.rows
-
-pub shape_of-table-in_default-keep : goal.shape_of-table-in_default-keep
-shape_of-table-in_default-keep c =
-    c.reach.auto.table
-
-pub returns-in_default-keep : goal.returns-in_default-keep
-returns-in_default-keep c =
-    done_large c.requires c.load-sizes.ensures _ _ _ _ _ c.reach.ensures c.in-Sets.is _ _ c.keep.ensures c.in_default-keep.is
-
-pub shape_of-slots : goal.shape_of-slots
-shape_of-slots c =
-    c.keep.auto.slots
-
-pub shape_of-operands : goal.shape_of-operands
-shape_of-operands c =
-    c.keep.auto.work
-    ∙ c.load-sizes.auto.out
-
-pub shape_of-rows : goal.shape_of-rows
-shape_of-rows c =
-    c.reach.auto.rows
-
-pub shape_of-table : goal.shape_of-table
-shape_of-table c =
-    c.reach.auto.table
+pub returns-in_err-q : goal.returns-in_err-q
+returns-in_err-q c =
+    let p = err_from_is_err_and c.from_residual-in_err-q.result c.from_residual-in_err-q.ensures.1 in
+    let e : c.keep.result ≡ None = c.in_err-q.ensures.ok_part in
+    let v : c.in_err-q.field-0.0 ≡ TooManyStates = grind (arith, e, c.in_err-q.ensures.value) in
+    rw (p.1, p.2, v) (done_large c.requires c.load-sizes.ensures _ _ _ _ _ c.reach.ensures c.in_ok-n.ensures.ok_part _ (rw e at c.keep.ensures))
 
 pub returns : goal.returns
 returns c =
-    done_made c.requires c.load-sizes.ensures _ _ _ _ _ c.reach.ensures c.in-Sets.is _ _ _ c.keep.ensures c.in-States.is
+    let e : c.keep.result ≡ Some c.in_ok-q.q = c.in_ok-q.ensures.ok_part in
+    done_made c.requires c.load-sizes.ensures _ _ _ _ _ c.reach.ensures c.in_ok-n.ensures.ok_part _ _ (rw e at c.keep.ensures)

@@ -1,7 +1,0 @@
--- `marks` meets its contract.
-use Rattle.fields.proofs.ReadLaws.{marks_part}
-use Rattle.fields.proofs.marks.Goals as goal
-
-pub returns : goal.returns
-returns c =
-    marks_part _ _ _ c.requires

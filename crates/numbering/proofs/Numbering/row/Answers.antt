@@ -1,0 +1,11 @@
+-- `row` meets its contract: what the letters passed lead to has numbers.
+use Rattle.std.proofs.Common.{arith}
+use Rattle.std.proofs.lemmas.Grind.{common_steps}
+use Rattle.numbering.proofs.ArrivalLaws.{rowed_start, rowed_next}
+use Rattle.numbering.proofs.Numbering.row.Goals as goal
+
+pub loop-state-init : goal.loop-state-init
+loop-state-init c = rowed_start c.args.self.now.roll _ _
+
+pub loop-state-preserved : goal.loop-state-preserved
+loop-state-preserved c = rowed_next _ _ _ _ _ _ _ _ _ _ c.loop-state.invariant _ (grind (arith, common_steps)) _ _ _ c.arrive.ensures
