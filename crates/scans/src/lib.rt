@@ -1,5 +1,5 @@
-// What is asked of a line as bytes, before it is read: where it ends, the tests along it, and whether it is line 1. One pass over the line each. These are
-// parts below an entry: callers give a place inside the text and, for line 1, the table of kinds.
+// What is asked of a line as bytes, before it is read: where it ends, the tests along it, and whether it is line 1. These are parts below an entry: callers
+// give a place inside the text.
 
 #![tactic(auto)]
 
