@@ -1,6 +1,7 @@
 -- The steps of a stage over lent buffers: what each step asks follows from what the stage asks, and the stage's answer from what the steps answer.
 use Rattle.std.specs.Prelude.{◌≡◌, refl, List, [], ◌∷◌, ℕ, suc, ◌+◌, ◌*◌, ◌-◌, ◌≤◌, ◌<◌, length, take, drop, Option, Some, None, Ok, Err}
 use Rattle.std.proofs.Common.{sym, ap, ◌∙◌, subst, mul-le-mul_right, mul-le-mul_left, suc-mul, zero-mul, add-one, arith, length-drop, take_all}
+use Rattle.automata.specs.Automaton.{Automaton}
 use Rattle.automata.specs.Machine.{Machine, size, automaton, WellFormed}
 use Rattle.automata.specs.Smallest.{smallest}
 use Rattle.automata.specs.Table.{ClosedTable, table_machine, table_size, table_formed}
@@ -8,10 +9,11 @@ use Rattle.entries.specs.declared.table.Table.{Table}
 use Rattle.automata.specs.Format.{Format}
 use Rattle.automata.specs.Stage.{Made as Answer, made, refused, StageResult}
 use Rattle.rows.specs.Rows.{number_at}
-use Rattle.sets.specs.Fits.{rows_for, Listing}
+use Rattle.sets.specs.Fits.{Listing}
+use Rattle.sets.specs.Operands.{Fits}
 use Rattle.sets.specs.Operations.{operation_of, row_width, rows_of}
 use Rattle.sets.specs.declared.Operation.{Operation as Code}
-use Rattle.sets.specs.declared.Shape.{Shape}
+use Rattle.sets.specs.declared.operands.Operands.{Operands}
 use Rattle.turns.specs.Exploring.{Answers, Explores}
 use Rattle.turns.specs.ExploringLaws.{explored_closed, explored_more}
 use Rattle.slots.specs.declared.slot.Sizes.{Sizes}
@@ -24,9 +26,6 @@ use Rattle.answers.specs.Stage.{width_most, table_rows, Reaches, Reached, Ready,
 
 -- ---- reaching the sets
 
-abbrev pub shape_of : Code → ℕ → Limits → Sizes → ℕ → Shape
-shape_of op k l r w = record { op = op; k = k; na = r.left; ba = l.states; nb = r.right; bb = l.states; w = w; limit = l.sets }
-
 module _ {k : ℕ} {l : Limits} {r : Sizes} {t rows table : List ℕ} (R : Reaches k l r t rows table) where
   abbrev half : ℕ
   half = l.states + l.states * k
@@ -34,41 +33,49 @@ module _ {k : ℕ} {l : Limits} {r : Sizes} {t rows table : List ℕ} (R : Reach
   pub reach_half : half < length t
   reach_half = omega (arith, R.right.long, R.right.flags, R.right.some, length-drop half t)
 
-  pub reach_width : (op : Code) (w : ℕ) → w ≡ row_width (operation_of op) r.left r.right → w ≤ l.states + 2
-  reach_width op w e = rw e (width_most (operation_of op) r.left r.right l.states R.left.flags R.right.flags R.states.0)
-
   behind : take (length t - half) (drop half t) ≡ drop half t
   behind = take_all (length t - half) (drop half t) (omega (arith, length-drop half t))
 
-  pub reach_asks : (op : Code) (w : ℕ) (row : List ℕ) → w ≡ row_width (operation_of op) r.left r.right → length row ≡ w
-      → Explores (shape_of op k l r w) t (take (length t - half) (drop half t)) rows row table
-  reach_asks op w row e h = rw behind (record {
-    fits = record {
-      left = R.left;
-      right = R.right;
-      columns = R.columns;
-      left_small = omega (arith, R.left.flags, R.states.1);
-      right_small = omega (arith, R.right.flags, R.states.1);
-      width = e;
-    };
-    room = record {
-      some = R.sets.0;
-      small = omega (arith, R.sets.1);
-      rows_long = omega (arith, R.rows_long, mul-le-mul_left l.sets (reach_width op w e));
-      row_long = h;
-      table_long = R.table_long;
-    };
-  })
+  -- the second table, lent from its place on
+  pub reach_right : ClosedTable l.states r.right k (take (length t - half) (drop half t))
+  reach_right = rw behind R.right
 
-  pub reach_lists : (op : Code) (w : ℕ) (members : List ℕ) → length members ≡ 256 → Listing (shape_of op k l r w) members
-  reach_lists op w members e = record {
-    left = omega (arith, R.left.flags, R.states.1);
-    right = omega (arith, R.right.flags, R.states.1);
-    small = omega arith;
+  pub reach_fits : (op : Code) (w : ℕ) → w ≡ row_width (operation_of op) r.left r.right → (X Y : Table) → X.columns ≡ k → Y.columns ≡ k → X.states ≡ r.left → Y.states ≡ r.right → Fits op X Y w
+  reach_fits op w e X Y x y p q = record {
+    columns = omega (arith, R.columns, x);
+    same = y ∙ sym x;
+    left_small = omega (arith, R.left.flags, R.states.1, p);
+    right_small = omega (arith, R.right.flags, R.states.1, q);
+    width = rw (p, q) e;
   }
 
-  pub reach_found : (op : Code) (w : ℕ) (rows' table' : List ℕ) (x : Option ℕ)
-      → Answers (rows_for (shape_of op k l r w) t (take (length t - half) (drop half t))) k w l.sets rows' table' x → Reached op k l r t rows' table' x
+  pub reach_width : (op : Code) (w : ℕ) → w ≡ row_width (operation_of op) r.left r.right → w ≤ l.states + 2
+  reach_width op w e = rw e (width_most (operation_of op) r.left r.right l.states R.left.flags R.right.flags R.states.0)
+
+  module _ (s : Operands) (p : s.left.states ≡ r.left) (q : s.right.states ≡ r.right) where
+    pub reach_asks : s.left.columns ≡ k → s.limit ≡ l.sets → (row : List ℕ) → length row ≡ s.width → Explores s rows row table
+    reach_asks x y row h = record {
+      room = record {
+        some = omega (arith, R.sets.0, y);
+        small = omega (arith, R.sets.1, y);
+        rows_long = rw y (omega (arith, R.rows_long, mul-le-mul_left l.sets (reach_width s.op s.width (rw (p, q) at s.fits.width))));
+        row_long = h;
+        table_long = rw (x, y) R.table_long;
+      };
+    }
+
+    pub reach_lists : (members : List ℕ) → length members ≡ 256 → Listing s members
+    reach_lists members e = record {
+      left = omega (arith, R.left.flags, R.states.1, p);
+      right = omega (arith, R.right.flags, R.states.1, q);
+      small = omega arith;
+    }
+
+  -- the rows of the two tables, the second lent from its place on
+  abbrev lent_rows : Code → Automaton (List ℕ)
+  lent_rows op = rows_of (operation_of op) (k - 1) r.left (automaton (table_machine l.states r.left k t)) r.right (automaton (table_machine l.states r.right k (take (length t - half) (drop half t))))
+
+  pub reach_found : (op : Code) (w : ℕ) (rows' table' : List ℕ) (x : Option ℕ) → Answers (lent_rows op) k w l.sets rows' table' x → Reached op k l r t rows' table' x
   reach_found op w rows' table' x a = record { w = w; answers = rw behind at a }
 
 -- ---- a slot's machine

@@ -3,3 +3,4 @@ pub mod Refusal
 pub mod RowSets
 pub mod Operate
 pub mod Stage
+pub mod Scratch

@@ -8,6 +8,14 @@ pub struct Limits {
     pub states: usize,
 }
 
+// What a stage works in: the sets' rows, their table, and the operands with the classes in their place.
+#[derive(Drop)]
+pub struct Scratch<'a> {
+    pub rows: &'a mut [u8],
+    pub table: &'a mut [u16],
+    pub work: &'a mut [u16],
+}
+
 // How many sets a stage made, and how many states its machine has.
 #[derive(Clone, Copy, PartialEq, Eq, Debug)]
 pub struct Made {

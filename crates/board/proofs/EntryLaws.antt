@@ -7,18 +7,18 @@ use Prim.Native.Nat.{ℕ, ◌+◌, ◌*◌, ◌≤◌, ◌<◌, ◌^◌}
 use native.Mathlib.Omega.{arith}
 use lib.ListN.{length, get_or}
 use lib.Dec.{ltb, eqb}
-use borrow.Author.Tests.{lt-ltb, le-ltb, eq-eqb, ne_eqb}
+use borrow.Author.Tests.{lt-ltb, le-ltb}
 use Rattle.automata.specs.Booleans.{bool_cases}
 use Rattle.automata.specs.Basics.{nat_test}
 use Rattle.automata.specs.Decide.{unless, contradict}
 use Rattle.automata.specs.Format.{narrow}
-use Rattle.card.specs.Layout.{letter_count, state_count, mark_at, move_at, letters_of, marks_of, moves_of}
+use Rattle.card.specs.Layout.{letter_count, state_count, move_at, letters_of, moves_of}
 use Rattle.card.specs.Alphabet.{column}
 use Rattle.card.specs.Load.{load_test}
 use Rattle.card.specs.Answer.{holds, rejected, load}
 use Rattle.card.specs.Reply.{refused, asked}
-use Rattle.card.specs.Judge.{owed, judge}
-use Rattle.card.specs.Step.{Stepped, moved, owing, stopped, landing, step_on}
+use Rattle.card.specs.Judge.{judge}
+use Rattle.card.specs.Step.{Stepped, stopped, landing, step_on}
 use Rattle.card.specs.Run.{run_start}
 use Rattle.fields.specs.Counts.{Counted}
 use Rattle.loading.specs.declared.Fault.{Fault}
@@ -26,7 +26,7 @@ use Rattle.loading.specs.Faults.{fault_number}
 use Rattle.loading.proofs.LoadLaws.{loading_accepted, loading_refused}
 use Rattle.run.specs.declared.Run.{Run as Run'}
 use Rattle.run.specs.Walk.{Ready, Runs}
-use Rattle.run.proofs.WalkLaws.{move_is, move_inside, mark_is}
+use Rattle.run.proofs.WalkLaws.{move_is, move_inside}
 
 -- ---- one step
 
@@ -54,15 +54,6 @@ module _ (c : List ℕ) (m n : ℕ) (y : Ready c m n) (p l i : ℕ) (ls : List �
 
     pub step_inside : p < n → (bs : List ℕ) → bs ≡ moves_of narrow c → (q : ℕ) → q ≡ get_or bs (p * m + i) 0 → q < n
     step_inside v bs e q x = rw (x ∙ move_is c m n y p i v h bs e) (move_inside c m n y p i v h)
-
-module _ (c : List ℕ) (m n : ℕ) (y : Ready c m n) (q : ℕ) (h : q < n) (ms : List ℕ) (f : ms ≡ marks_of narrow c) where
-  pub lands_owing : get_or ms q 0 ≡ 0 → (k : ℕ) → k ≡ owed narrow c q → owing q k ≡ landing narrow c q
-  lands_owing z k e = rw (eq-eqb (mark_at narrow c q) 0 (sym (mark_is c m n y q ms f h) ∙ z)) (ap (owing q) e)
-
-  pub lands_moved : get_or ms q 0 ≢ 0 → moved q (get_or ms q 0) ≡ landing narrow c q
-  lands_moved d =
-      let e : get_or ms q 0 ≡ mark_at narrow c q = mark_is c m n y q ms f h in
-      rw (ne_eqb (mark_at narrow c q) 0 (λ z. d (e ∙ z))) (ap (moved q) e)
 
 -- ---- judging from loading
 

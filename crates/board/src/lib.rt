@@ -10,9 +10,9 @@ ghost use Rattle.card.specs.Answer.{load as load_of};
 ghost use Rattle.card.specs.Judge.{judge as judge_of};
 ghost use Rattle.card.specs.Step.{landing as landing_of, step_on};
 ghost use Rattle.run.specs.Cards.{bytes_of, states_in};
-ghost use Rattle.board.specs.Answers.{loading, reply_of, stepping};
+ghost use Rattle.board.specs.Answers.{loading, counting, reply_of, stepping};
 
-use fields::Layout;
+use fields::{Counts, Layout};
 use loading::Fault;
 use moves::Mark;
 pub use refusals::{Refusal, StepRefusal};
@@ -30,11 +30,20 @@ pub fn load(bytes: &[u8]) -> Result<Card<'_>, Fault>
     Ok(Card { layout })
 }
 
-// Where a step lands: the next state and its marks byte; or, where that is 0, the next state and the fewest further letters.
+// The counts of a card that loads.
+pub fn counts(bytes: &[u8]) -> Result<Counts, Fault>
+    ensures { counting result ≡ load_of narrow bytes.now }
+{
+    let card = load(bytes)?;
+    Ok(card.layout.counts)
+}
+
+// Where a step lands: the next state, by its mark; and, where it is unfinished, the fewest further letters.
 #[derive(Clone, Copy, Debug, PartialEq, Eq)]
 pub enum Stepped {
-    Moved { next: usize, mark: u8 },
     Owing { next: usize, letters: usize },
+    Accepting { next: usize },
+    Dead { next: usize },
 }
 
 // Where a step to a state lands.
@@ -42,15 +51,14 @@ fn landing(card: &Card, next: usize) -> Stepped
     requires { next < states_in card.now }
     ensures { stepping (Ok result) ≡ landing_of narrow (bytes_of card.now) next }
 {
-    let marks = card.layout.marks();
-    let mark = marks[next];
-    if mark == Mark::Unfinished as u8 {
-        return Stepped::Owing {
+    match card.mark(next) {
+        Mark::Unfinished => Stepped::Owing {
             next,
             letters: run::owed::owed(card, next),
-        };
+        },
+        Mark::Accepting => Stepped::Accepting { next },
+        Mark::Dead => Stepped::Dead { next },
     }
-    Stepped::Moved { next, mark }
 }
 
 // One step on a card that was tested: 27, then 28.
@@ -59,7 +67,7 @@ fn step_on(card: &Card, state: usize, letter: u8) -> Result<Stepped, StepRefusal
 {
     let m = card.layout.counts.letters;
     let n = card.layout.counts.states;
-    let i = fields::column(card.layout.letters(), letter);
+    let i = octets::place(card.layout.letters(), letter);
     if m <= i {
         return Err(StepRefusal::UnknownLetter);
     }

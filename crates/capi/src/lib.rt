@@ -21,7 +21,7 @@ ghost use Rattle.capi.specs.Compiles.{Compiles};
 pub extern "C" fn pier_load(card: &[u8], out: &mut [u64; 3]) -> u64
     ensures { handed result out.new ≡ numbers (load_numbers (load narrow card.now)) }
 {
-    numbers::loaded(board::load(card), out)
+    numbers::loaded(board::counts(card), out)
 }
 
 // One step: 0, and the next state, its marks byte, the letters owed where that is 0; or 21 to 28. The card is tested first, so that a step costs a load.

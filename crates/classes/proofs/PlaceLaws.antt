@@ -1,26 +1,36 @@
 -- Laws of placing a state in a round.
 use mathlib.Core.Path.{◌≡◌, refl, sym, ap, ◌∙◌}
+use mathlib.Core.Bool.{Bool, true, false}
 use mathlib.Core.Logic.{inl, inr, ◌≢◌}
 use mathlib.Core.List.{List}
+use Rattle.std.specs.Prelude.{Some, None}
 use Prim.Native.Nat.{ℕ, zero, suc, ◌+◌, ◌≤◌, ◌<◌}
 use native.Mathlib.Nat.{le_refl}
 use native.Mathlib.Omega.{arith}
-use lib.ListN.{get_or, take, set, length-set}
-use lib.Seq.{get_or-set_same, get_or-set_other, take-set-le}
+use lib.ListN.{set, length-set}
+use lib.Seq.{get_or-set_same, get_or-set_other}
 use borrow.Author.Tests.{eq-eqb, ne_eqb}
 use Rattle.automata.specs.Basics.{LtCases, lt_cases}
 use Rattle.automata.specs.Machine.{Machine}
+use Rattle.automata.specs.Partition.{bit}
 use Rattle.entries.specs.declared.table.Table.{Table}
 use Rattle.entries.specs.Entries.{class_of, machine_of}
-use Rattle.entries.specs.Classes.{next, Led, leaders}
-use Rattle.leaders.specs.Round.{link, Together, Placed, Latest, Linked, Under, Leads}
-use Rattle.classes.specs.Refine.{Entered, Placing}
-use Rattle.leaders.proofs.RoundLaws.{together_refl, together_sym, together_trans, class_read, class_low}
+use Rattle.entries.specs.Classes.{Led, leaders}
+use Rattle.leaders.specs.Round.{Together, Placed, Latest, Linked, Under, Leads}
+use Rattle.classes.specs.Refine.{Placing}
+use Rattle.leaders.proofs.RoundLaws.{together_refl, together_sym, together_trans, class_low}
 
 -- ---- placing a state
 
+-- p goes with r: an earlier leader, or p itself where the round keeps no earlier leader together with p
+pub record Joins (k : ℕ) (M : Machine) (f g : ℕ → ℕ) (p r : ℕ) : Type 0 where
+  pub low : r ≤ p
+  pub sound : Together k M f r p
+  pub leads : r < p → g r ≡ r
+  pub none : r ≡ p → (s : ℕ) → s < p → g s ≡ s → Together k M f s p → ⊥
+
 module _ (k n : ℕ) (M : Machine) (f g g' : ℕ → ℕ) (p r : ℕ) (D : Led n f) (hp : p < n) (here : g' p ≡ r) (other : (q : ℕ) → q < p → g' q ≡ g q) where
-  pub placed_more : Placed k M f g p → Leads k M f g p r → Placed k M f g' (suc p)
+  pub placed_more : Placed k M f g p → Joins k M f g p r → Placed k M f g' (suc p)
   placed_more P R = record {
     low = λ q h. low q (lt_cases q p) (omega arith);
     again = λ q h. again q (lt_cases q p) (omega arith);
@@ -148,142 +158,84 @@ module _ (k n : ℕ) (M : Machine) (f g g' : ℕ → ℕ) (p r : ℕ) (D : Led n
   unfolding leaders
   leaders_joins e = rw (ne_eqb (g' p) p (λ z. e (sym here ∙ z)), leaders_same p (le_refl p)) (omega arith)
 
--- ---- placing a state in the arrays
+-- ---- placing a state in the lists
 
-module _ {T : Table} {p : ℕ} {w : List ℕ} (U : Under T p w) where
+module _ {T : Table} {p : ℕ} {cls next links : List ℕ} (U : Under T p cls next links) where
   abbrev N : Machine
   N = machine_of T
 
   abbrev h : ℕ → ℕ
-  h = class_of (take T.states w)
-
-  -- the leader of an old class goes with itself
-  itself : h p ≡ p → Leads T.columns N h (next T.states w) p p
-  itself e = record {
-    low = le_refl p;
-    sound = together_refl T.columns N h p;
-    leads = λ b. absurd (omega arith);
-    none = λ _ s b _ z. omega (arith, U.partial.led.low s (omega (arith, U.inside)), z.class);
-  }
+  h = class_of cls
 
   -- what the stores leave is known, entry by entry
-  placing : (r x : ℕ) (w' : List ℕ) → take T.states w' ≡ take T.states w → next T.states w' p ≡ r → ((q : ℕ) → q < p → next T.states w' q ≡ next T.states w q) → Leads T.columns N h (next T.states w) p r
-      → Linked h (next T.states w') (link T.states w') (suc p) → leaders (next T.states w') (suc p) ≡ x + leaders (next T.states w) p → x ≤ 1 → Placing T p w w' x
-  placing r x w' kept here other R L count one = record {
+  placing : (r : ℕ) (x : Bool) (next' links' : List ℕ) → class_of next' p ≡ r → ((q : ℕ) → q < p → class_of next' q ≡ class_of next q) → Joins T.columns N h (class_of next) p r
+      → Linked h (class_of next') (class_of links') (suc p) → leaders (class_of next') (suc p) ≡ bit x + leaders (class_of next) p → Placing T p cls next next' links' x
+  placing r x next' links' here other R L count = record {
     partial = record {
-      kept = kept;
       led = U.partial.led;
-      placed = placed_more T.columns T.states N h (next T.states w) (next T.states w') p r U.partial.led U.inside here other U.partial.placed R;
+      placed = placed_more T.columns T.states N h (class_of next) (class_of next') p r U.partial.led U.inside here other U.partial.placed R;
       linked = L;
     };
     count = count;
-    one = one;
   }
 
-  pub place_head : (c : ℕ) (w₁ w₂ : List ℕ) → c ≡ get_or w p 0 → c ≡ p → w₁ ≡ set w (T.states + p) p → w₂ ≡ set w₁ (T.states + (T.states + p)) p → Placing T p w w₂ 1
-  place_head c w₁ w₂ e i e₁ e₂ = rw (e₂, e₁) (placing p 1 W kept here other (itself z) (linked_head T.columns T.states N h (next T.states w) (next T.states W) p p U.partial.led U.inside here other
-      (link T.states w) (link T.states W) U.partial.linked refl same z mine) (leaders_more T.columns T.states N h (next T.states w) (next T.states W) p p U.partial.led U.inside here other refl) (le_refl 1))
+  module _ (r : ℕ) where
+    here : class_of (set next p r) p ≡ r
+    here = get_or-set_same next p r 0 (omega (arith, U.inside, U.sized.next_long))
+
+    other : (q : ℕ) → q < p → class_of (set next p r) q ≡ class_of next q
+    other q b = get_or-set_other next p q r 0 (omega arith)
+
+  -- the leader of an old class leads
+  pub place_head : (c : ℕ) → c ≡ h p → c ≡ p → Placing T p cls next (set next p p) (set links p p) true
+  place_head c e i = placing p true (set next p p) (set links p p) (here p) (other p) itself
+      (linked_head T.columns T.states N h (class_of next) (class_of (set next p p)) p p U.partial.led U.inside (here p) (other p) (class_of links) (class_of (set links p p)) U.partial.linked refl
+      (λ q b. get_or-set_other links p q p 0 (omega arith)) z (get_or-set_same links p p 0 (omega (arith, U.inside, U.sized.links_long))))
+      (leaders_more T.columns T.states N h (class_of next) (class_of (set next p p)) p p U.partial.led U.inside (here p) (other p) refl)
     where
-      W₁ : List ℕ
-      W₁ = set w (T.states + p) p
-
-      W : List ℕ
-      W = set W₁ (T.states + (T.states + p)) p
-
       z : h p ≡ p
-      z = sym (class_read U c e) ∙ i
+      z = sym e ∙ i
 
-      kept : take T.states W ≡ take T.states w
-      kept = take-set-le T.states W₁ (T.states + (T.states + p)) p (omega arith) ∙ take-set-le T.states w (T.states + p) p (omega arith)
+      itself : Joins T.columns N h (class_of next) p p
+      itself = record {
+        low = le_refl p;
+        sound = together_refl T.columns N h p;
+        leads = λ b. absurd (omega arith);
+        none = λ _ s b _ t. omega (arith, U.partial.led.low s (omega (arith, U.inside)), t.class, z);
+      }
 
-      here : next T.states W p ≡ p
-      here = get_or-set_other W₁ (T.states + (T.states + p)) (T.states + p) p 0 (omega (arith, U.inside)) ∙ get_or-set_same w (T.states + p) p 0 (omega (arith, U.inside, U.room))
-
-      other : (q : ℕ) → q < p → next T.states W q ≡ next T.states w q
-      other q b = get_or-set_other W₁ (T.states + (T.states + p)) (T.states + q) p 0 (omega (arith, U.inside)) ∙ get_or-set_other w (T.states + p) (T.states + q) p 0 (omega arith)
-
-      mine : link T.states W p ≡ p
-      mine = get_or-set_same W₁ (T.states + (T.states + p)) p 0 (omega (arith, U.inside, U.room, length-set w (T.states + p) p))
-
-      same : (q : ℕ) → q < p → link T.states W q ≡ link T.states w q
-      same q b = get_or-set_other W₁ (T.states + (T.states + p)) (T.states + (T.states + q)) p 0 (omega arith) ∙ get_or-set_other w (T.states + p) (T.states + (T.states + q)) p 0 (omega (arith, U.inside))
-
-  module _ (c r : ℕ) (e : c ≡ get_or w p 0) (d : c ≢ p) (R : Leads T.columns N h (next T.states w) p r) where
-    W₁ : List ℕ
-    W₁ = set w (T.states + p) r
-
+  module _ (c : ℕ) (e : c ≡ h p) (d : c ≢ p) where
     z : h p ≢ p
-    z = λ x. d (class_read U c e ∙ x)
+    z x = d (e ∙ x)
 
-    kept₁ : take T.states W₁ ≡ take T.states w
-    unfolding W₁
-    kept₁ = take-set-le T.states w (T.states + p) r (omega arith)
+    -- p goes with an earlier leader
+    pub place_joins : (r : ℕ) → Leads T.columns N h (class_of next) p (Some r) → Placing T p cls next (set next p r) links false
+    place_joins r R =
+        let y : r ≢ p = omega (arith, R.0) in
+        placing r false (set next p r) links (here r) (other r) (record { low = omega (arith, R.0); sound = R.2; leads = λ _. R.1; none = λ i. absurd (y i) })
+        (linked_joins T.columns T.states N h (class_of next) (class_of (set next p r)) p r U.partial.led U.inside (here r) (other r) (class_of links) (class_of links) U.partial.linked y (λ q _. refl) z)
+        (leaders_joins T.columns T.states N h (class_of next) (class_of (set next p r)) p r U.partial.led U.inside (here r) (other r) y)
 
-    here₁ : next T.states W₁ p ≡ r
-    unfolding W₁
-    here₁ = get_or-set_same w (T.states + p) r 0 (omega (arith, U.inside, U.room))
-
-    other₁ : (q : ℕ) → q < p → next T.states W₁ q ≡ next T.states w q
-    unfolding W₁
-    other₁ q b = get_or-set_other w (T.states + p) (T.states + q) r 0 (omega arith)
-
-    link₁ : (q : ℕ) → link T.states W₁ q ≡ link T.states w q
-    unfolding W₁
-    link₁ q = get_or-set_other w (T.states + p) (T.states + (T.states + q)) r 0 (omega (arith, U.inside))
-
-    pub place_joins : (w₁ : List ℕ) → w₁ ≡ set w (T.states + p) r → r < p → Placing T p w w₁ 0
-    unfolding W₁
-    place_joins w₁ e₁ b =
-        let y : r ≢ p = omega arith in
-        rw e₁ (placing r 0 W₁ kept₁ here₁ other₁ R (linked_joins T.columns T.states N h (next T.states w) (next T.states W₁) p r U.partial.led U.inside here₁ other₁
-        (link T.states w) (link T.states W₁) U.partial.linked y (λ q _. link₁ q) z) (leaders_joins T.columns T.states N h (next T.states w) (next T.states W₁) p r U.partial.led U.inside here₁ other₁ y) (omega arith))
-
-    pub place_leads : (x : ℕ) (w₁ w₂ w₃ : List ℕ) → w₁ ≡ set w (T.states + p) r → p ≤ r → x ≡ link T.states w₁ c → w₂ ≡ set w₁ (T.states + (T.states + p)) x → w₃ ≡ set w₂ (T.states + (T.states + c)) p
-        → Placing T p w w₃ 1
-    unfolding W₁
-    place_leads x w₁ w₂ w₃ e₁ b ex e₂ e₃ = rw (e₃, e₂, e₁) (placing r 1 W kept here other R (linked_leads T.columns T.states N h (next T.states w) (next T.states W) p r U.partial.led U.inside here other
-        (link T.states w) (link T.states W) U.partial.linked y same z mine last) (leaders_more T.columns T.states N h (next T.states w) (next T.states W) p r U.partial.led U.inside here other y) (le_refl 1))
+    -- p leads a class of its own
+    pub place_leads : Leads T.columns N h (class_of next) p None → Placing T p cls next (set next p p) (set (set links p (class_of links c)) c p) true
+    place_leads R = placing p true (set next p p) W (here p) (other p) (record { low = le_refl p; sound = together_refl T.columns N h p; leads = λ b. absurd (omega arith); none = λ _. R })
+        (linked_leads T.columns T.states N h (class_of next) (class_of (set next p p)) p p U.partial.led U.inside (here p) (other p) (class_of links) (class_of W) U.partial.linked refl same z mine last)
+        (leaders_more T.columns T.states N h (class_of next) (class_of (set next p p)) p p U.partial.led U.inside (here p) (other p) refl)
       where
-        W₂ : List ℕ
-        W₂ = set W₁ (T.states + (T.states + p)) x
+        W₁ : List ℕ
+        W₁ = set links p (class_of links c)
 
         W : List ℕ
-        W = set W₂ (T.states + (T.states + c)) p
-
-        y : r ≡ p
-        y = omega (arith, R.low)
+        W = set W₁ c p
 
         low : c ≤ p
         low = class_low U c e
 
-        kept : take T.states W ≡ take T.states w
-        kept = take-set-le T.states W₂ (T.states + (T.states + c)) p (omega arith) ∙ take-set-le T.states W₁ (T.states + (T.states + p)) x (omega arith) ∙ kept₁
+        mine : class_of W (h p) ≡ p
+        mine = rw (← e) (get_or-set_same W₁ c p 0 (omega (arith, U.inside, U.sized.links_long, low, length-set links p (class_of links c))))
 
-        nexts : (q : ℕ) → q ≤ p → next T.states W q ≡ next T.states W₁ q
-        nexts q v = get_or-set_other W₂ (T.states + (T.states + c)) (T.states + q) p 0 (omega (arith, U.inside)) ∙ get_or-set_other W₁ (T.states + (T.states + p)) (T.states + q) x 0 (omega (arith, U.inside))
+        last : class_of W p ≡ class_of links (h p)
+        last = rw (← e) (get_or-set_other W₁ c p p 0 (omega (arith, d)) ∙ get_or-set_same links p (class_of links c) 0 (omega (arith, U.inside, U.sized.links_long)))
 
-        here : next T.states W p ≡ r
-        here = nexts p (le_refl p) ∙ here₁
-
-        other : (q : ℕ) → q < p → next T.states W q ≡ next T.states w q
-        other q v = nexts q (omega arith) ∙ other₁ q v
-
-        mine : link T.states W (h p) ≡ p
-        mine = rw (← class_read U c e)
-            (get_or-set_same W₂ (T.states + (T.states + c)) p 0 (omega (arith, U.inside, U.room, low, length-set W₁ (T.states + (T.states + p)) x, length-set w (T.states + p) r)))
-
-        last : link T.states W p ≡ link T.states w (h p)
-        last = rw (← class_read U c e) (get_or-set_other W₂ (T.states + (T.states + c)) (T.states + (T.states + p)) p 0 (omega (arith, low, d))
-            ∙ get_or-set_same W₁ (T.states + (T.states + p)) x 0 (omega (arith, U.inside, U.room, length-set w (T.states + p) r)) ∙ ex ∙ ap (λ l. link T.states l c) e₁ ∙ link₁ c)
-
-        same : (q : ℕ) → q < p → q ≢ h p → link T.states W q ≡ link T.states w q
-        same q v i =
-            let j : q ≢ c = λ o. i (o ∙ class_read U c e) in
-            get_or-set_other W₂ (T.states + (T.states + c)) (T.states + (T.states + q)) p 0 (omega arith) ∙ get_or-set_other W₁ (T.states + (T.states + p)) (T.states + (T.states + q)) x 0 (omega arith) ∙ link₁ q
-
-    pub place_entered : (w' : List ℕ) (x : ℕ) → Entered T.states c r p w w' x → Placing T p w w' x
-    place_entered w' x E = go (lt_cases r p)
-      where
-        go : LtCases r p → Placing T p w w' x
-        go (inl y) = let z = E.joins y.0 in rw z.1 (place_joins w' z.0 y.0)
-        go (inr y) = let z = E.leads y.0 in rw z.1 (place_leads (link T.states (set w (T.states + p) r) c) (set w (T.states + p) r) (set (set w (T.states + p) r) (T.states + (T.states + p)) (link T.states (set w (T.states + p) r) c)) w' refl y.0 refl refl z.0)
+        same : (q : ℕ) → q < p → q ≢ h p → class_of W q ≡ class_of links q
+        same q v i = get_or-set_other W₁ c q p 0 (λ o. i (o ∙ e)) ∙ get_or-set_other links p q (class_of links c) 0 (omega arith)

@@ -1,44 +1,43 @@
 -- Laws of the rounds of partition refinement: a whole round, and that a round which parts no class leaves the classes of equivalent states.
 use mathlib.Core.Path.{◌≡◌, refl, sym, ap, ◌∙◌}
-use mathlib.Core.Bool.{Bool, true, false, cond, true≢false, false≢true}
+use mathlib.Core.Bool.{Bool, true, false, beq, cond, true≢false, false≢true}
+use Rattle.std.specs.Prelude.{Option, Some, None}
+use Rattle.std.specs.Cmp.{booleans_Decides}
+use Rattle.std.proofs.lemmas.Bool.Decides.{not_from_Decides}
 use mathlib.Core.Logic.{◌⊎◌, inl, inr, ◌≢◌}
 use mathlib.Core.List.{List, [], ◌∷◌}
-use Prim.Native.Nat.{ℕ, zero, suc, ◌≤◌, ◌<◌, zero-le}
+use Prim.Native.Nat.{ℕ, zero, suc, ◌+◌, ◌≤◌, ◌<◌, zero-le}
 use native.Mathlib.Nat.{le_refl, not-suc-le-zero}
 use native.Mathlib.Omega.{arith}
-use lib.ListN.{length, get_or, take}
-use lib.Seq.{get_or-take, length-take-le, ext_get_or}
+use lib.ListN.{length, get_or}
+use lib.Seq.{ext_get_or}
 use lib.Dec.{eqb}
 use Rattle.automata.specs.Booleans.{bool_cases}
 use Rattle.automata.specs.Basics.{LtCases, SameCases, lt_cases, same_cases, nat_test}
 use Rattle.automata.specs.Machine.{Machine, size, automaton, WellFormed}
-use Rattle.automata.specs.Partition.{bit, classes, classes_whole, classes_low, classes_length, classes_equivalent}
+use Rattle.automata.specs.Partition.{classes, classes_whole, classes_low, classes_length, classes_equivalent}
 use Rattle.automata.specs.Refinement.{SameSignature, Coarse, Settled, settled_equivalent}
-use Rattle.automata.specs.Table.{flag_of}
 use Rattle.entries.specs.declared.table.Table.{Table}
-use borrow.Author.Tests.{eq-eqb, ne_eqb}
-use Rattle.entries.specs.Entries.{class_of, flag_bit, machine_of}
-use Rattle.entries.specs.Classes.{next, Led, leaders, Sized, Refining}
+use Rattle.entries.specs.Entries.{class_of, flag_at, machine_of}
+use Rattle.entries.specs.Classes.{Led, leaders, Refining}
 use Rattle.leaders.specs.Round.{Placed, Partial}
 use Rattle.classes.specs.Refine.{FirstOther, side_of, Parted, Turned, Begun, Rounded}
-use Rattle.entries.proofs.EntryLaws.{bit_same, machine_size, machine_accepting, machine_formed}
+use Rattle.entries.proofs.EntryLaws.{machine_size, machine_accepting, machine_formed}
 use Rattle.leaders.proofs.RoundLaws.{together_sym, together_trans}
 
 -- ---- a whole round
 
-module _ {T : Table} {w : List ℕ} (B : Begun T w) where
-  pub round_starts : Partial T.columns T.states (machine_of T) (take T.states w) w 0
-  round_starts = record {
-    kept = refl;
-    led = B.led;
-    placed = record {
-      low = λ p h. absurd (not-suc-le-zero h);
-      again = λ p h. absurd (not-suc-le-zero h);
-      sound = λ p h. absurd (not-suc-le-zero h);
-      whole = λ p q h. absurd (not-suc-le-zero h);
-    };
-    linked = record { head = λ p h. absurd (not-suc-le-zero h); inner = λ p h. absurd (not-suc-le-zero h) };
-  }
+pub round_starts : {T : Table} {cls next links : List ℕ} → Begun T cls next links → Partial T.columns T.states (machine_of T) cls next links 0
+round_starts B = record {
+  led = B.led;
+  placed = record {
+    low = λ p h. absurd (not-suc-le-zero h);
+    again = λ p h. absurd (not-suc-le-zero h);
+    sound = λ p h. absurd (not-suc-le-zero h);
+    whole = λ p q h. absurd (not-suc-le-zero h);
+  };
+  linked = record { head = λ p h. absurd (not-suc-le-zero h); inner = λ p h. absurd (not-suc-le-zero h) };
+}
 
 -- ---- how many lead
 
@@ -50,11 +49,6 @@ leaders_le g (suc m) = go (bool_cases (eqb (g m) m)) (leaders_le g m)
     go : (eqb (g m) m ≡ true) ⊎ (eqb (g m) m ≡ false) → leaders g m ≤ m → leaders g (suc m) ≤ suc m
     go (inl e) h = rw (leaders, e) (omega arith)
     go (inr e) h = rw (leaders, e) (omega arith)
-
-pub leaders_ext : (f g : ℕ → ℕ) (m : ℕ) → ((p : ℕ) → p < m → f p ≡ g p) → leaders f m ≡ leaders g m
-unfolding leaders
-leaders_ext f g zero h = refl
-leaders_ext f g (suc m) h = rw (h m (le_refl (suc m)), leaders_ext f g m (λ p b. h p (omega arith)))
 
 -- the cases of the last state
 data Last (g : ℕ → ℕ) (m : ℕ) : Type 0 where
@@ -148,130 +142,132 @@ classes_found k n M F sz cls len D c s = ext_get_or zero cls (classes k M) (len 
 
 -- ---- classes by acceptance
 
-pub side_same : (T : Table) (other p : ℕ) → flag_bit T.cells.now p ≡ flag_bit T.cells.now 0 → side_of T other p ≡ 0
-unfolding side_of
-side_same T other p e = rw (eq-eqb (flag_bit T.cells.now p) (flag_bit T.cells.now 0) e)
+-- whether a state answers as state 0 does
+module _ (T : Table) where
+  abbrev same : ℕ → Type 0
+  same p = flag_at T.cells.now p ≡ flag_at T.cells.now 0
 
-pub side_other : (T : Table) (other p : ℕ) → flag_bit T.cells.now p ≢ flag_bit T.cells.now 0 → side_of T other p ≡ other
-unfolding side_of
-side_other T other p d = rw (ne_eqb (flag_bit T.cells.now p) (flag_bit T.cells.now 0) d)
-
-module _ (T : Table) (other : ℕ) (F : FirstOther T other) where
-  pub side_low : (p : ℕ) → p < T.states → side_of T other p ≤ p
-  side_low p h = go (same_cases nat_test (flag_bit T.cells.now p) (flag_bit T.cells.now 0))
+  same_or_not : (p : ℕ) → same p ⊎ (same p → ⊥)
+  same_or_not p = go (bool_cases (beq (flag_at T.cells.now p) (flag_at T.cells.now 0)))
     where
-      go : SameCases nat_test (flag_bit T.cells.now p) (flag_bit T.cells.now 0) → side_of T other p ≤ p
-      go (inl e) = rw (side_same T other p e.0) zero-le
-      go (inr e) = rw (side_other T other p e.0) (at (lt_cases p other))
+      go : (beq (flag_at T.cells.now p) (flag_at T.cells.now 0) ≡ true) ⊎ (beq (flag_at T.cells.now p) (flag_at T.cells.now 0) ≡ false) → same p ⊎ (same p → ⊥)
+      go (inl e) = inl ((booleans_Decides _ _).0 e)
+      go (inr e) = inr (not_from_Decides _ (booleans_Decides _ _) e)
+
+  pub side_same : (other : Option ℕ) (p : ℕ) → same p → side_of T other p ≡ 0
+  unfolding side_of
+  side_same (Some r) p e = rw ((booleans_Decides (flag_at T.cells.now p) (flag_at T.cells.now 0)).1 e)
+  side_same None p e = refl
+
+  pub side_none : (p : ℕ) → side_of T None p ≡ 0
+  unfolding side_of
+  side_none p = refl
+
+  pub side_other : (r p : ℕ) → (same p → ⊥) → side_of T (Some r) p ≡ r
+  unfolding side_of
+  side_other r p d = go (bool_cases (beq (flag_at T.cells.now p) (flag_at T.cells.now 0)))
+    where
+      go : (beq (flag_at T.cells.now p) (flag_at T.cells.now 0) ≡ true) ⊎ (beq (flag_at T.cells.now p) (flag_at T.cells.now 0) ≡ false) → side_of T (Some r) p ≡ r
+      go (inl e) = absurd (d ((booleans_Decides _ _).0 e))
+      go (inr e) = rw e
+
+  pub side_low : (other : Option ℕ) → FirstOther T other → (p : ℕ) → p < T.states → side_of T other p ≤ p
+  side_low None F p h = rw (side_same None p (F p h)) zero-le
+  side_low (Some r) F p h = go (same_or_not p)
+    where
+      go : same p ⊎ (same p → ⊥) → side_of T (Some r) p ≤ p
+      go (inl e) = rw (side_same (Some r) p e) zero-le
+      go (inr d) = rw (side_other r p d) (at (lt_cases p r))
         where
-          at : LtCases p other → other ≤ p
-          at (inl x) = absurd (e.0 (F.before p x.0))
+          at : LtCases p r → r ≤ p
+          at (inl x) = absurd (d (F.1 p x.0))
           at (inr x) = x.0
 
-  pub side_again : (p : ℕ) → p < T.states → side_of T other (side_of T other p) ≡ side_of T other p
-  side_again p h = go (same_cases nat_test (flag_bit T.cells.now p) (flag_bit T.cells.now 0))
+  pub side_again : (other : Option ℕ) → FirstOther T other → (p : ℕ) → p < T.states → side_of T other (side_of T other p) ≡ side_of T other p
+  side_again None F p h = let z = side_same None p (F p h) in rw z (side_same None 0 refl)
+  side_again (Some r) F p h = go (same_or_not p)
     where
-      go : SameCases nat_test (flag_bit T.cells.now p) (flag_bit T.cells.now 0) → side_of T other (side_of T other p) ≡ side_of T other p
-      go (inl e) = rw (side_same T other p e.0) (side_same T other 0 refl)
-      go (inr e) = let z = side_other T other p e.0 in rw z (side_other T other other (F.differs (omega (arith, side_low p h, z))))
+      go : same p ⊎ (same p → ⊥) → side_of T (Some r) (side_of T (Some r) p) ≡ side_of T (Some r) p
+      go (inl e) = rw (side_same (Some r) p e) (side_same (Some r) 0 refl)
+      go (inr d) = rw (side_other r p d) (side_other r r F.2)
 
   -- states of one class answer alike: other than state 0 are only the one answer
-  pub side_told : (p q : ℕ) → p < T.states → q < T.states → side_of T other p ≡ side_of T other q → flag_bit T.cells.now p ≡ flag_bit T.cells.now q
-  side_told p q h b e = go (same_cases nat_test (flag_bit T.cells.now p) (flag_bit T.cells.now 0)) (same_cases nat_test (flag_bit T.cells.now q) (flag_bit T.cells.now 0))
+  pub side_told : (other : Option ℕ) → FirstOther T other → (p q : ℕ) → p < T.states → q < T.states → side_of T other p ≡ side_of T other q → flag_at T.cells.now p ≡ flag_at T.cells.now q
+  side_told None F p q h b e = F p h ∙ sym (F q b)
+  side_told (Some r) F p q h b e = go (same_or_not p) (same_or_not q)
     where
       -- the first other state is not state 0
-      apart : (r s : ℕ) → r < T.states → flag_bit T.cells.now r ≢ flag_bit T.cells.now 0 → flag_bit T.cells.now s ≡ flag_bit T.cells.now 0 → side_of T other r ≡ side_of T other s → ⊥
-      apart r s x d i j =
-          let z : other ≡ 0 = sym (side_other T other r d) ∙ j ∙ side_same T other s i in
-          F.differs (omega (arith, z)) (ap (flag_bit T.cells.now) z)
+      apart : (a c : ℕ) → (same a → ⊥) → same c → side_of T (Some r) a ≡ side_of T (Some r) c → ⊥
+      apart a c d i j = let z : r ≡ 0 = sym (side_other r a d) ∙ j ∙ side_same (Some r) c i in F.2 (ap (flag_at T.cells.now) z)
 
-      go : SameCases nat_test (flag_bit T.cells.now p) (flag_bit T.cells.now 0) → SameCases nat_test (flag_bit T.cells.now q) (flag_bit T.cells.now 0) → flag_bit T.cells.now p ≡ flag_bit T.cells.now q
-      go (inl x) (inl y) = x.0 ∙ sym y.0
-      go (inl x) (inr y) = absurd (apart q p b y.0 x.0 (sym e))
-      go (inr x) (inl y) = absurd (apart p q h x.0 y.0 e)
-      go (inr x) (inr y) = bits (flag_of (get_or T.cells.now p 0)) (flag_of (get_or T.cells.now q 0)) (flag_of (get_or T.cells.now 0 0)) x.0 y.0
-        where
-          bits : (a c d : Bool) → bit a ≢ bit d → bit c ≢ bit d → bit a ≡ bit c
-          bits true true d u v = refl
-          bits false false d u v = refl
-          bits true false true u v = absurd (u refl)
-          bits true false false u v = absurd (v refl)
-          bits false true true u v = absurd (v refl)
-          bits false true false u v = absurd (u refl)
+      bits : (a c d : Bool) → a ≢ d → c ≢ d → a ≡ c
+      bits true true d u v = refl
+      bits false false d u v = refl
+      bits true false true u v = absurd (u refl)
+      bits true false false u v = absurd (v refl)
+      bits false true true u v = absurd (v refl)
+      bits false true false u v = absurd (u refl)
+
+      go : same p ⊎ (same p → ⊥) → same q ⊎ (same q → ⊥) → flag_at T.cells.now p ≡ flag_at T.cells.now q
+      go (inl x) (inl y) = x ∙ sym y
+      go (inl x) (inr y) = absurd (apart q p y x (sym e))
+      go (inr x) (inl y) = absurd (apart p q x y e)
+      go (inr x) (inr y) = bits (flag_at T.cells.now p) (flag_at T.cells.now q) (flag_at T.cells.now 0) x y
 
 -- ---- the rounds over a table
 
-module _ {T : Table} {w : List ℕ} (S : Sized T w) where
-  -- the states are parted by acceptance
-  pub refine_starts : (v : List ℕ) → Parted T v → Refining T v 0
-  unfolding side_of
-  refine_starts v P = record {
-    led = record { low = λ p b. rw (at p b) (side_low T P.other P.first p b); again = again };
-    coarse = λ p q hp hq a. at p (inside p hp) ∙ ap (λ (x : ℕ). cond (eqb x (flag_bit T.cells.now 0)) 0 P.other) (flags p q (inside p hp) (inside q hq) (a [] tt)) ∙ sym (at q (inside q hq));
-    told = λ p q h b e. accepts p q h b (side_told T P.other P.first p q h b (sym (at p h) ∙ e ∙ at q b));
-    counted = zero-le;
+-- the states are parted by acceptance
+pub refine_starts : (T : Table) (v : List ℕ) → Parted T v → Refining T v 0
+unfolding side_of
+refine_starts T v P = record {
+  led = record { low = λ p b. rw (P.class p b) (side_low T P.other P.first p b); again = again };
+  coarse = λ p q hp hq a. P.class p (inside p hp) ∙ side_alike P.other p q (flags p q (inside p hp) (inside q hq) (a [] tt)) ∙ sym (P.class q (inside q hq));
+  told = λ p q h b e. accepts p q h b (side_told T P.other P.first p q h b (sym (P.class p h) ∙ e ∙ P.class q b));
+  counted = zero-le;
+}
+  where
+    side_alike : (other : Option ℕ) (p q : ℕ) → flag_at T.cells.now p ≡ flag_at T.cells.now q → side_of T other p ≡ side_of T other q
+    side_alike (Some r) p q e = ap (λ (x : Bool). cond (beq x (flag_at T.cells.now 0)) 0 r) e
+    side_alike None p q e = refl
+
+    inside : (p : ℕ) → p < size (machine_of T) → p < T.states
+    inside p b = rw (machine_size T) at b
+
+    again : (p : ℕ) → p < T.states → class_of v (class_of v p) ≡ class_of v p
+    again p b = ap (class_of v) (P.class p b) ∙ P.class (side_of T P.other p) (omega (arith, side_low T P.other P.first p b)) ∙ side_again T P.other P.first p b ∙ sym (P.class p b)
+
+    accepts : (p q : ℕ) → p < T.states → q < T.states → flag_at T.cells.now p ≡ flag_at T.cells.now q → (automaton (machine_of T)).accepting p ≡ (automaton (machine_of T)).accepting q
+    accepts p q h b e = machine_accepting T p h ∙ e ∙ sym (machine_accepting T q b)
+
+    flags : (p q : ℕ) → p < T.states → q < T.states → (automaton (machine_of T)).accepting p ≡ (automaton (machine_of T)).accepting q → flag_at T.cells.now p ≡ flag_at T.cells.now q
+    flags p q h b e = sym (machine_accepting T p h) ∙ e ∙ machine_accepting T q b
+
+module _ (T : Table) (v v' : List ℕ) (c r : ℕ) (R : Refining T v c) (Q : Rounded T v v' r) where
+  -- a round that parts no class
+  pub refine_ends : length v ≡ T.states → r ≡ c → v ≡ classes T.columns (machine_of T)
+  refine_ends e i = classes_found T.columns T.states (machine_of T) (machine_formed T) (machine_size T) v e R.led R.coarse
+      (round_settled T.columns T.states (machine_of T) (machine_formed T) (machine_size T) (class_of v) (class_of v') R.led Q.placed (omega (arith, R.counted, Q.count)))
+
+  -- a round that parts one
+  pub refine_grows : r ≢ c → c < r
+  refine_grows i = omega (
+    arith,
+    R.counted,
+    Q.count,
+    leaders_le (class_of v') T.states,
+    rounds_grow T.columns T.states (machine_of T) (machine_formed T) (machine_size T) (class_of v) (class_of v') R.led Q.placed,
+  )
+
+  pub refine_turns : Refining T v' r
+  refine_turns = record {
+    led = record { low = Q.placed.low; again = Q.placed.again };
+    coarse = round_coarse T.columns T.states (machine_of T) (machine_formed T) (machine_size T) (class_of v) (class_of v') R.led Q.placed R.coarse;
+    told = λ p q x y z. sym (Q.placed.sound p x).signature.accepting ∙ ap (automaton (machine_of T)).accepting z ∙ (Q.placed.sound q y).signature.accepting;
+    counted = omega (arith, Q.count);
   }
-    where
-      at : (p : ℕ) → p < T.states → class_of (take T.states v) p ≡ side_of T P.other p
-      at p b = get_or-take T.states v p 0 b ∙ P.class p b
-
-      inside : (p : ℕ) → p < size (machine_of T) → p < T.states
-      inside p b = rw (machine_size T) at b
-
-      again : (p : ℕ) → p < T.states → class_of (take T.states v) (class_of (take T.states v) p) ≡ class_of (take T.states v) p
-      again p b = ap (class_of (take T.states v)) (at p b) ∙ at (side_of T P.other p) (omega (arith, side_low T P.other P.first p b)) ∙ side_again T P.other P.first p b ∙ sym (at p b)
-
-      accepts : (p q : ℕ) → p < T.states → q < T.states → flag_bit T.cells.now p ≡ flag_bit T.cells.now q → (automaton (machine_of T)).accepting p ≡ (automaton (machine_of T)).accepting q
-      accepts p q h b e = machine_accepting T p h ∙ bit_same _ _ e ∙ sym (machine_accepting T q b)
-
-      flags : (p q : ℕ) → p < T.states → q < T.states → (automaton (machine_of T)).accepting p ≡ (automaton (machine_of T)).accepting q → flag_bit T.cells.now p ≡ flag_bit T.cells.now q
-      flags p q h b e = ap bit (sym (machine_accepting T p h) ∙ e ∙ machine_accepting T q b)
-
-  pub refine_begun : (v : List ℕ) (c : ℕ) → length v ≡ length w → Refining T v c → Begun T v
-  refine_begun v c e R = record { sized = record { room = rw e S.room; few = S.few }; led = R.led; told = R.told }
-
-  module _ (v v' : List ℕ) (c r : ℕ) (e : length v ≡ length w) (R : Refining T v c) (Q : Rounded T v v' r) where
-    -- a round that parts no class
-    pub refine_ends : r ≡ c → take T.states v' ≡ classes T.columns (machine_of T)
-    refine_ends i = Q.kept ∙ classes_found T.columns T.states (machine_of T) (machine_formed T) (machine_size T) (take T.states v)
-        (length-take-le T.states v (omega (arith, S.room))) R.led R.coarse
-        (round_settled T.columns T.states (machine_of T) (machine_formed T) (machine_size T) (class_of (take T.states v)) (next T.states v') R.led Q.placed
-        (omega (arith, R.counted, Q.count)))
-
-    -- a round that parts one
-    pub refine_grows : r ≢ c → c < r
-    refine_grows i = omega (
-      arith,
-      R.counted,
-      Q.count,
-      leaders_le (next T.states v') T.states,
-      rounds_grow T.columns T.states (machine_of T) (machine_formed T) (machine_size T) (class_of (take T.states v)) (next T.states v') R.led Q.placed,
-    )
-
-    pub refine_turns : (u : List ℕ) → ((p : ℕ) → p < T.states → get_or u p 0 ≡ next T.states v' p) → Refining T u r
-    refine_turns u h = record {
-      led = record {
-        low = λ p b. rw (same p b) (Q.placed.low p b);
-        again = λ p b. rw (same p b) (same (next T.states v' p) (omega (arith, Q.placed.low p b)) ∙ Q.placed.again p b);
-      };
-      coarse = λ p q hp hq a. same p (inside p hp) ∙ new p q hp hq a ∙ sym (same q (inside q hq));
-      told = λ p q x y z. let j = sym (same p x) ∙ z ∙ same q y in
-          sym (Q.placed.sound p x).signature.accepting ∙ ap (automaton (machine_of T)).accepting j ∙ (Q.placed.sound q y).signature.accepting;
-      counted = rw (leaders_ext (class_of (take T.states u)) (next T.states v') T.states same, ← Q.count) (le_refl r);
-    }
-      where
-        same : (p : ℕ) → p < T.states → class_of (take T.states u) p ≡ next T.states v' p
-        same p b = get_or-take T.states u p 0 b ∙ h p b
-
-        inside : (p : ℕ) → p < size (machine_of T) → p < T.states
-        inside p b = rw (machine_size T) at b
-
-        new : Coarse T.columns (machine_of T) (next T.states v')
-        new = round_coarse T.columns T.states (machine_of T) (machine_formed T) (machine_size T) (class_of (take T.states v)) (next T.states v') R.led Q.placed
-            R.coarse
 
 -- some rounds
-pub turned_done : (T : Table) (v : List ℕ) (most : ℕ) → take T.states v ≡ classes T.columns (machine_of T) → Turned T v most true
+pub turned_done : (T : Table) (v : List ℕ) (most : ℕ) → v ≡ classes T.columns (machine_of T) → Turned T v most true
 turned_done T v most e = record { done = λ _. e; way = λ z. absurd (true≢false z) }
 
 pub turned_way : (T : Table) (v : List ℕ) (c : ℕ) {most : ℕ} → Refining T v c → most ≤ T.states → Turned T v most false
@@ -280,6 +276,11 @@ turned_way T v c R h = record {
   way = λ _. (record { led = R.led; coarse = R.coarse; told = R.told; counted = zero-le }, h);
 }
 
+-- More rounds than states are enough.
+pub turned_ends : (T : Table) (v : List ℕ) (r : Bool) → Turned T v (T.states + 1) r → v ≡ classes T.columns (machine_of T)
+turned_ends T v true R = R.done refl
+turned_ends T v false R = absurd (omega (arith, (R.way refl).1))
+
 -- no more classes than states
 pub refine_many : (T : Table) (v : List ℕ) (c : ℕ) → Refining T v c → c ≤ T.states
-refine_many T v c R = omega (arith, R.counted, leaders_le (class_of (take T.states v)) T.states)
+refine_many T v c R = omega (arith, R.counted, leaders_le (class_of v) T.states)

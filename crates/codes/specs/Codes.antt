@@ -12,7 +12,8 @@ use Rattle.language.specs.Environment.{lookup}
 use Rattle.language.specs.Evaluate.{column}
 use Rattle.book.specs.Kind.{kind_of, sign_kind, signs, is_letter, is_name}
 use Rattle.book.specs.StackLaws.{height_after, height_while, besides}
-use Rattle.sets.specs.Operations.{operation_of}
+use Rattle.sets.specs.Operations.{operation_of, operands_of}
+use Rattle.sets.specs.declared.Operation.{Operation}
 use Rattle.sets.specs.declared.Operation.TheVariants.{Either, Both, Without, Join, Star, Erase}
 use Rattle.answers.specs.Operate.{operate}
 use Rattle.codes.specs.Execute.{Store, Ran, ran, stuck, push_made, with_one, with_two, step}
@@ -61,12 +62,16 @@ stored s Book A rest = record { stack = rest; pattern = s.pattern; right = s.rig
 stored s Pattern A rest = record { stack = rest; pattern = A; right = s.right }
 stored s Right A rest = record { stack = rest; pattern = s.pattern; right = A }
 
+-- an operation on the topmost machines, one or two
+abbrev pub on_top : Format → List ℕ → Store → Operation → ℕ → Ran
+on_top fmt ls s op zero = stuck
+on_top fmt ls s op (suc zero) = with_one s.stack λ A rest. push_made s rest (operate fmt (length ls) (operation_of op) A A)
+on_top fmt ls s op (suc (suc n)) = with_two s.stack λ A B rest. push_made s rest (operate fmt (length ls) (operation_of op) A B)
+
 -- The step of a code of each sort, or of none, whatever the letters, names and machines are.
 abbrev pub step_as : Format → List ℕ → List (ℕ × Machine) → Machine → Store → Option Sort → Ran
 step_as fmt ls env kept s (Some (Push x)) = ran [] (pushed s (operand_of ls env kept s x) s.stack)
-step_as fmt ls env kept s (Some (Top op zero)) = stuck
-step_as fmt ls env kept s (Some (Top op (suc zero))) = with_one s.stack λ A rest. push_made s rest (operate fmt (length ls) (operation_of op) A A)
-step_as fmt ls env kept s (Some (Top op (suc (suc n)))) = with_two s.stack λ A B rest. push_made s rest (operate fmt (length ls) (operation_of op) A B)
+step_as fmt ls env kept s (Some (Top op)) = on_top fmt ls s op (operands_of op)
 step_as fmt ls env kept s (Some (Beside op x)) = with_one s.stack λ A rest. push_made s rest (operate fmt (length ls) (operation_of op) (operand_of ls env kept s x) A)
 step_as fmt ls env kept s (Some Plus) = with_one s.stack λ A rest. push_made s rest (then_made (star_stage fmt (suc (length ls)) A) λ B. concat_stage fmt (suc (length ls)) A B)
 step_as fmt ls env kept s (Some (Storing i)) = with_one s.stack λ A rest. ran [] (stored s i A rest)
@@ -75,7 +80,7 @@ step_as fmt ls env kept s None = stuck
 -- The height behind a code of each sort, and the height that it needs while it runs.
 abbrev pub BehindAs : Option Sort → ℕ → ℕ → Type 0
 BehindAs (Some (Push x)) h a = a ≡ suc h
-BehindAs (Some (Top op n)) h a = a ≡ suc h - n
+BehindAs (Some (Top op)) h a = a ≡ suc h - operands_of op
 BehindAs (Some (Beside op x)) h a = a ≡ h
 BehindAs (Some Plus) h a = a ≡ h
 BehindAs (Some (Storing i)) h a = a ≡ h - 1
@@ -83,7 +88,7 @@ BehindAs None h a = Unit {0}
 
 abbrev pub while_as : Option Sort → ℕ → ℕ
 while_as (Some (Push x)) h = h
-while_as (Some (Top op n)) h = h
+while_as (Some (Top op)) h = h
 while_as (Some (Beside op x)) h = suc h
 while_as (Some Plus) h = suc h
 while_as (Some (Storing i)) h = h
@@ -98,7 +103,7 @@ SourceIn c (Register i) = Unit {0}
 
 abbrev pub SortIn : ℕ → Option Sort → Type 0
 SortIn c (Some (Push x)) = SourceIn c x
-SortIn c (Some (Top op n)) = (n ≡ 1) ⊎ (n ≡ 2)
+SortIn c (Some (Top op)) = Unit {0}
 SortIn c (Some (Beside op x)) = SourceIn c x
 SortIn c (Some Plus) = Unit {0}
 SortIn c (Some (Storing i)) = 1 ≤ index_of i
@@ -208,29 +213,29 @@ pub sorted_4 : Sorted 4 (Some (Push (Register Right)))
 unfolding step
 sorted_4 = record { steps = λ fmt ls env kept s. refl; behind = λ n. refl; meanwhile = λ n. plain n; operand = tt }
 
-pub sorted_124 : Sorted 124 (Some (Top Either 2))
+pub sorted_124 : Sorted 124 (Some (Top Either))
 unfolding step
-sorted_124 = record { steps = λ fmt ls env kept s. refl; behind = λ n. less n; meanwhile = λ n. plain n; operand = inr refl }
+sorted_124 = record { steps = λ fmt ls env kept s. refl; behind = λ n. less n; meanwhile = λ n. plain n; operand = tt }
 
-pub sorted_38 : Sorted 38 (Some (Top Both 2))
+pub sorted_38 : Sorted 38 (Some (Top Both))
 unfolding step
-sorted_38 = record { steps = λ fmt ls env kept s. refl; behind = λ n. less n; meanwhile = λ n. plain n; operand = inr refl }
+sorted_38 = record { steps = λ fmt ls env kept s. refl; behind = λ n. less n; meanwhile = λ n. plain n; operand = tt }
 
-pub sorted_45 : Sorted 45 (Some (Top Without 2))
+pub sorted_45 : Sorted 45 (Some (Top Without))
 unfolding step
-sorted_45 = record { steps = λ fmt ls env kept s. refl; behind = λ n. less n; meanwhile = λ n. plain n; operand = inr refl }
+sorted_45 = record { steps = λ fmt ls env kept s. refl; behind = λ n. less n; meanwhile = λ n. plain n; operand = tt }
 
-pub sorted_59 : Sorted 59 (Some (Top Join 2))
+pub sorted_59 : Sorted 59 (Some (Top Join))
 unfolding step
-sorted_59 = record { steps = λ fmt ls env kept s. refl; behind = λ n. less n; meanwhile = λ n. plain n; operand = inr refl }
+sorted_59 = record { steps = λ fmt ls env kept s. refl; behind = λ n. less n; meanwhile = λ n. plain n; operand = tt }
 
-pub sorted_42 : Sorted 42 (Some (Top Star 1))
+pub sorted_42 : Sorted 42 (Some (Top Star))
 unfolding step
-sorted_42 = record { steps = λ fmt ls env kept s. refl; behind = λ n. same n; meanwhile = λ n. plain n; operand = inl refl }
+sorted_42 = record { steps = λ fmt ls env kept s. refl; behind = λ n. same n; meanwhile = λ n. plain n; operand = tt }
 
-pub sorted_7 : Sorted 7 (Some (Top Erase 1))
+pub sorted_7 : Sorted 7 (Some (Top Erase))
 unfolding step
-sorted_7 = record { steps = λ fmt ls env kept s. refl; behind = λ n. same n; meanwhile = λ n. plain n; operand = inl refl }
+sorted_7 = record { steps = λ fmt ls env kept s. refl; behind = λ n. same n; meanwhile = λ n. plain n; operand = tt }
 
 pub sorted_63 : Sorted 63 (Some (Beside Either (Given Empty)))
 unfolding step

@@ -46,15 +46,11 @@ pub enum Source {
     Register(Register),
 }
 
-// A code pushes an operand; or has an operation on so many machines of the stack, or on an operand and the top; or makes `A+`; or stores
-// the top in a register.
+// A code pushes an operand; or has an operation on machines of the stack, or on an operand and the top; or makes `A+`; or stores the top in a register.
 #[derive(Clone, Copy)]
 pub enum Sort {
     Push(Source),
-    Top {
-        operation: Operation,
-        count: usize,
-    },
+    Top(Operation),
     Beside {
         operation: Operation,
         operand: Source,
@@ -75,30 +71,12 @@ fn sign(c: u8) -> Option<Sort>
         MARK_CODE => Some(Sort::Push(Source::Given(Given::Mark))),
         PATTERN_CODE => Some(Sort::Push(Source::Register(Register::Pattern))),
         RIGHT_CODE => Some(Sort::Push(Source::Register(Register::Right))),
-        EITHER_CODE => Some(Sort::Top {
-            operation: Operation::Either,
-            count: 2,
-        }),
-        BOTH_CODE => Some(Sort::Top {
-            operation: Operation::Both,
-            count: 2,
-        }),
-        WITHOUT_CODE => Some(Sort::Top {
-            operation: Operation::Without,
-            count: 2,
-        }),
-        JOIN_CODE => Some(Sort::Top {
-            operation: Operation::Join,
-            count: 2,
-        }),
-        STAR_CODE => Some(Sort::Top {
-            operation: Operation::Star,
-            count: 1,
-        }),
-        ERASE_CODE => Some(Sort::Top {
-            operation: Operation::Erase,
-            count: 1,
-        }),
+        EITHER_CODE => Some(Sort::Top(Operation::Either)),
+        BOTH_CODE => Some(Sort::Top(Operation::Both)),
+        WITHOUT_CODE => Some(Sort::Top(Operation::Without)),
+        JOIN_CODE => Some(Sort::Top(Operation::Join)),
+        STAR_CODE => Some(Sort::Top(Operation::Star)),
+        ERASE_CODE => Some(Sort::Top(Operation::Erase)),
         OPTION_CODE => Some(Sort::Beside {
             operation: Operation::Either,
             operand: Source::Given(Given::Empty),

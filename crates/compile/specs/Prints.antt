@@ -4,6 +4,7 @@ use Rattle.std.specs.Io.KnownBytes.{Keeps, Consumes, Appends, IsAtEnd}
 use Rattle.automata.specs.Format.{narrow}
 use Rattle.compiler.specs.Outcome.{outcome}
 use Rattle.compiler.specs.declared.Compiled.{Compiled}
+use Rattle.compiler.specs.declared.Refusal.{Refusal}
 use Rattle.driver.specs.Entry.{documented, Answers}
 use Rattle.report.specs.Shown.{Shows}
 use Rattle.stream.specs.declared.Failure.{Failure}
@@ -19,7 +20,7 @@ text_room = 16384 + 1
 
 -- What is written for a text is what is shown for the compiler's answer, with buffers of the documented lengths, and the card buffer behind it.
 pub record Prints (text old out : List ℕ) (r : ℕ) : Type 0 where
-  pub answer : Compiled
+  pub answer : Result Compiled Refusal
   pub card : List ℕ
   pub answers : Answers (outcome narrow documented text documented (length old)) old card answer
   pub shows : Shows answer card out r

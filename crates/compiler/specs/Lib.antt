@@ -3,6 +3,7 @@ pub mod Allows
 pub mod Book
 pub mod Rest
 pub mod Outcome
+pub mod Refusals
 pub mod Reading
 pub mod Lent
 pub mod Table

@@ -4,6 +4,7 @@ use mathlib.Core.Bool.{true, false}
 use mathlib.Core.Logic.{inl, inr}
 use mathlib.Core.List.{List}
 use Prim.Native.Nat.{ℕ, ◌^◌, ◌≤◌, ◌<◌}
+use native.Mathlib.Nat.{le_refl}
 use native.Mathlib.Omega.{arith}
 use lib.ListN.{length}
 use Rattle.automata.specs.Format.{narrow}
@@ -13,9 +14,8 @@ use Rattle.card.proofs.LoadLaws.{tested}
 use Rattle.card.specs.Loads.{Loaded}
 use Rattle.card.proofs.Loads.{load_loaded}
 use Rattle.card.specs.Answer.{load, rejected}
-use Rattle.moves.specs.Holds.{Table}
 use Rattle.fields.specs.Counts.{Counted}
-use Rattle.fields.specs.CardTable.{card_table, states_many}
+use Rattle.fields.specs.CardTable.{states_many}
 use Rattle.run.specs.Walk.{Ready}
 use Rattle.run.proofs.WalkLaws.{ready_counted}
 use Rattle.board.proofs.EntryLaws.{rejected_test, rejected_some}
@@ -23,9 +23,9 @@ use Rattle.census.specs.Census.{longest_plan, counts, refused, census, no_card, 
 use Rattle.census.proofs.CardLaws.{answers_only, loaded_counted}
 use Rattle.census.specs.EndLaws.{ending}
 use Rattle.census.proofs.EndLaws.{allowed_ending, unfinished_ending, hopeless_ending}
-use Rattle.arrivals.specs.Weights.{weighed, earlier, each, mark_weight, fits}
+use Rattle.arrivals.specs.Weights.{most_words, weighed, earlier, each, mark_weight, fits}
 use Rattle.arrivals.specs.WeightLaws.{earlier_each}
-use Rattle.arrivals.specs.Rounds.{Startable, Arrived, Countable as Summable}
+use Rattle.arrivals.specs.Rounds.{Arrived, Countable as Summable}
 use Rattle.arrivals.proofs.PowerLaws.{fits_true, fits_false, powers_fit}
 use Rattle.counting.specs.Counting.{Countable, sums_of}
 use Rattle.counting.proofs.EndingLaws.{ending_earlier}
@@ -54,29 +54,25 @@ module _ (c : List ℕ) (m n k : ℕ) (here next : List ℕ) (R : Ready c m n) (
   pub parts : Counted narrow c m n
   parts = ready_counted c m n R
 
-  module _ (ms bs : List ℕ) (f : ms ≡ marks_of narrow c) (e : bs ≡ moves_of narrow c) where
+  -- the table of moves of x letters
+  module _ (x : ℕ) (q : x ≡ m) (ms bs : List ℕ) (f : ms ≡ marks_of narrow c) (e : bs ≡ moves_of narrow c) where
     many : length ms ≡ n
     many = states_many c m n parts ms f ∙ R.states
 
-    table : Table 120 m ms bs
-    table = card_table c m n parts ms f bs e l.inside
+    few : (j : ℕ) → j ≤ k → x ^ j ≤ most_words
+    few = rw q (powers_fit m k C.few)
 
-    pub startable : Startable bs m k here next
-    startable = record {
-      some = rw (C.here_long, ← many) table.some;
-      targets = rw (C.here_long, ← many) (record { long = table.long; inside = table.inside });
-      long = C.next_long ∙ sym C.here_long;
-      fits = powers_fit m k C.few;
-    }
+    pub startable : ((length here ≡ length ms) × (length next ≡ length here)) × ((j : ℕ) → j ≤ k → x ^ j ≤ most_words)
+    startable = ((C.here_long ∙ sym many, C.next_long ∙ sym C.here_long), few)
 
-    module _ (row : List ℕ) (A : Arrived bs m k (length here) row) where
+    module _ (row : List ℕ) (A : Arrived bs x k (length here) row) where
       pub summable : Summable row ms
-      summable = record { long = many ∙ sym (A.long ∙ C.here_long); fits = omega (arith, A.sum each, earlier_each bs m k 0, C.few) }
+      summable = record { long = many ∙ sym (A.long ∙ C.here_long); fits = omega (arith, A.sum each, earlier_each bs x k 0, few k (le_refl k)) }
 
       -- A sum by marks byte is the number of plans that end so,
       ending_sum : (mark : ℕ) → weighed (mark_weight ms mark) row ≡ ending narrow c mark k 0
       ending_sum mark = A.sum (mark_weight ms mark)
-          ∙ sym (ending_earlier c l m n parts ms bs f e mark k 0 l.contents.states_some ∙ ap (λ x. earlier bs x k (mark_weight ms mark) 0) R.letters)
+          ∙ sym (ending_earlier c l m n parts ms bs f e mark k 0 l.contents.states_some ∙ ap (λ y. earlier bs y k (mark_weight ms mark) 0) (R.letters ∙ sym q))
 
       -- and the three are the answer.
       pub counted : sums_of row ms ≡ census narrow c k

@@ -31,9 +31,9 @@ fn sums(words: &[u64], marks: &[u8]) -> Census
     requires { Summable words.now marks.now }
     ensures { census_in result ≡ sums_of words.now marks.now }
 {
-    let allowed = arrivals::total(words, marks, Mark::Accepting as u8);
-    let unfinished = arrivals::total(words, marks, Mark::Unfinished as u8);
-    let hopeless = arrivals::total(words, marks, Mark::Dead as u8);
+    let allowed = arrivals::total(words, marks, Mark::Accepting);
+    let unfinished = arrivals::total(words, marks, Mark::Unfinished);
+    let hopeless = arrivals::total(words, marks, Mark::Dead);
     Census {
         allowed,
         unfinished,
@@ -46,10 +46,9 @@ fn count(card: &Card, k: usize, here: &mut [u64], next: &mut [u64]) -> Census
     requires { Countable (letters_in card.now) (states_in card.now) k here.old next.old }
     ensures { census_in result ≡ census narrow (bytes_of card.now) k }
 {
-    let m = card.layout.counts.letters;
-    let marks = card.layout.marks();
-    arrivals::arrive(card.layout.moves(), m, k, here, next);
-    sums(&here[..], marks)
+    let states = card.states();
+    arrivals::arrive(states, k, here, next);
+    sums(&here[..], states.marks)
 }
 
 // A card that loads: the bounds are tested, then the plans are counted.

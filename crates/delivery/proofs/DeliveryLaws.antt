@@ -16,12 +16,14 @@ use Rattle.card.specs.Judge.{judge}
 use Rattle.card.proofs.JudgeLaws.{replies_only}
 use Rattle.card.specs.Demand.{Demand3}
 use Rattle.compiler.specs.Outcome.{Outcome, card, stop, answer, outcome, card_stands}
-use Rattle.compiler.specs.declared.Compiled as C
+use Rattle.std.specs.Prelude.{Result, Ok, Err}
+use Rattle.compiler.specs.declared.Compiled.{Compiled}
+use Rattle.compiler.specs.declared.Refusal.{Refusal}
 use Rattle.driver.specs.Entry.{documented, reading, Answers}
 use Rattle.promises.specs.Demands.{book_allows}
 use Rattle.promises.proofs.Today.{card_keeps_demand, rules_obeyed, one_card}
 use Rattle.promises.proofs.Refusals.{refusal_numbered}
-use Rattle.handing.specs.declared.Delivered as D
+use Rattle.handing.specs.declared.Delivered.{Delivered}
 use Rattle.handing.specs.Answers.{board_says, delivery}
 use Rattle.handing.specs.Answers as A
 use Rattle.handing.specs.Handing.{Within, handed}
@@ -35,19 +37,19 @@ module _ (text lent old new : List ℕ) where
   o = outcome narrow documented text lent (length old)
 
   -- a card is no refusal
-  no_refusal : (n p r at : ℕ) → outcome narrow documented text lent (length old) ≡ stop r at → reading (C.TheVariants.Card n p) ≡ answer (stop r at) → ⊥
-  no_refusal n p r at e a = let b = (refusal_numbered narrow documented text lent (length old) r at e).0 in let z : 0 ≡ r = ap (λ x. x.number) a in omega arith
+  no_refusal : (n : Compiled) (r at : ℕ) → outcome narrow documented text lent (length old) ≡ stop r at → reading (Ok n) ≡ answer (stop r at) → ⊥
+  no_refusal n r at e a = let b = (refusal_numbered narrow documented text lent (length old) r at e).0 in let z : 0 ≡ r = ap (λ x. x.number) a in omega arith
 
   -- The card is within its buffer.
-  pub card_within : (s : C.Compiled) → Answers (outcome narrow documented text lent (length old)) old new s → Within s new
-  card_within (C.TheVariants.Refused number line) a = tt
-  card_within (C.TheVariants.Card n p) a = go o refl a
+  pub card_within : (s : Result Compiled Refusal) → Answers (outcome narrow documented text lent (length old)) old new s → Within s new
+  card_within (Err refusal) a = tt
+  card_within (Ok n) a = go o refl a
     where
-      go : (x : Outcome) → outcome narrow documented text lent (length old) ≡ x → Answers x old new (C.TheVariants.Card n p) → n ≤ length new
+      go : (x : Outcome) → outcome narrow documented text lent (length old) ≡ x → Answers x old new (Ok n) → n.length ≤ length new
       go (card c peak) e a =
-          let z : n ≡ length c = ap (λ x. x.length) a.answer in
+          let z : n.length ≡ length c = ap (λ x. x.length) a.answer in
           omega (arith, ap length a.buffer, length-append c (drop (length c) old))
-      go (stop r at) e a = absurd (no_refusal n p r at e a.answer)
+      go (stop r at) e a = absurd (no_refusal n r at e a.answer)
 
 module _ (text plan lent old new : List ℕ) where
   module _ (c : List ℕ) (peak : ℕ) (e : outcome narrow documented text lent (length old) ≡ card c peak) where
@@ -71,7 +73,7 @@ module _ (text plan lent old new : List ℕ) where
     some z = omega (arith, (load_loaded narrow c demand.loads).contents.long)
 
     -- DEMAND 3, where the answer and the buffer are those of the entries.
-    whole : (r : D.Delivered) → delivery r ≡ A.card (length c) peak (board_says (load narrow c) (judge narrow c plan)) → new ≡ c ++ drop (length c) old → Accepted text plan c peak old new r
+    whole : (r : Result Delivered Refusal) → delivery r ≡ A.card (length c) peak (board_says (load narrow c) (judge narrow c plan)) → new ≡ c ++ drop (length c) old → Accepted text plan c peak old new r
     whole r a b = record {
       machine = M;
       reply = judge narrow c plan;
@@ -97,18 +99,18 @@ module _ (text plan lent old new : List ℕ) where
     }
 
   -- THE WHOLE WAY: what the compiler answers, handed over.
-  pub delivers : (s : C.Compiled) (r : D.Delivered) → Answers (outcome narrow documented text lent (length old)) old new s → delivery r ≡ handed s new plan → Delivers text plan lent old new r
-  delivers (C.TheVariants.Card n p) r a h = record { accepted = accepted; refusal = λ number line e. absurd (no_refusal text lent old new n p number line e (rw e at a.answer)) }
+  pub delivers : (s : Result Compiled Refusal) (r : Result Delivered Refusal) → Answers (outcome narrow documented text lent (length old)) old new s → delivery r ≡ handed s new plan → Delivers text plan lent old new r
+  delivers (Ok n) r a h = record { accepted = accepted; refusal = λ number line e. absurd (no_refusal text lent old new n number line e (rw e at a.answer)) }
     where
       accepted : (c : List ℕ) (peak : ℕ) → outcome narrow documented text lent (length old) ≡ card c peak → Accepted text plan c peak old new r
       accepted c peak e =
-          let x : Answers (card c peak) old new (C.TheVariants.Card n p) = rw e at a in
-          let l : n ≡ length c = ap (λ x. x.length) x.answer in
-          let t : take n new ≡ c = ap₂ take l x.buffer ∙ card_stands c peak old in
+          let x : Answers (card c peak) old new (Ok n) = rw e at a in
+          let l : n.length ≡ length c = ap (λ x. x.length) x.answer in
+          let t : take n.length new ≡ c = ap₂ take l x.buffer ∙ card_stands c peak old in
           whole c peak e r
           (h ∙ (λ i. A.card (l i) (x.answer i).peak (board_says (load narrow (t i)) (judge narrow (t i) plan))))
           x.buffer
-  delivers (C.TheVariants.Refused number line) r a h = record {
-    accepted = λ c peak e. let x : Answers (card c peak) old new (C.TheVariants.Refused number line) = rw e at a in absurd (some c peak e (sym (ap (λ y. y.length) x.answer)));
-    refusal = λ n at e. let x : Answers (stop n at) old new (C.TheVariants.Refused number line) = rw e at a in (h ∙ (λ i. A.refused (x.answer i).number (x.answer i).line), x.buffer);
+  delivers (Err refusal) r a h = record {
+    accepted = λ c peak e. let x : Answers (card c peak) old new (Err refusal) = rw e at a in absurd (some c peak e (sym (ap (λ y. y.length) x.answer)));
+    refusal = λ n at e. let x : Answers (stop n at) old new (Err refusal) = rw e at a in (h ∙ (λ i. A.refused (x.answer i).number (x.answer i).line), x.buffer);
   }

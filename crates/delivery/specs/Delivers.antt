@@ -1,5 +1,5 @@
 -- DEMAND 3 for one call: a text, a plan, lent buffers, whatever they held. `text` is a book, and `lent` are the lengths of the buffers lent.
-use Rattle.std.specs.Prelude.{◌≡◌, true, false, ◌↔◌, List, ◌++◌, ℕ, ◌≤◌, ◌<◌, length, take, drop, get_or}
+use Rattle.std.specs.Prelude.{◌≡◌, true, false, ◌↔◌, List, Result, ◌++◌, ℕ, ◌≤◌, ◌<◌, length, take, drop, get_or}
 use Rattle.automata.specs.Format.{narrow}
 use Rattle.automata.specs.Automaton.{Automaton, accepts}
 use Rattle.automata.specs.Machine.{Machine, size}
@@ -19,6 +19,7 @@ use Rattle.compiler.specs.Outcome as Outcome
 use Rattle.compiler.specs.Outcome.{stop, outcome}
 use Rattle.driver.specs.Entry.{documented}
 use Rattle.promises.specs.Demands.{book_allows}
+use Rattle.compiler.specs.declared.Refusal.{Refusal}
 use Rattle.handing.specs.declared.Delivered.{Delivered}
 use Rattle.handing.specs.Answers.{judged, card, refused, delivery}
 
@@ -49,7 +50,7 @@ pub record ForeignAfter (text plan : List ℕ) (j : ℕ) : Type 0 where
   pub foreign : length (letters_in text) ≤ column (letters_in text) (get_or plan j 0)
 
 -- What is promised where the book is accepted, with the card c and this peak.
-pub record Accepted (text plan c : List ℕ) (peak : ℕ) (old new : List ℕ) (r : Delivered) : Type 0 where
+pub record Accepted (text plan c : List ℕ) (peak : ℕ) (old new : List ℕ) (r : Result Delivered Refusal) : Type 0 where
   -- the machine on the card, and what judging replied
   pub machine : Machine
   pub reply : Reply Verdict
@@ -89,7 +90,7 @@ pub record Accepted (text plan c : List ℕ) (peak : ℕ) (old new : List ℕ) (
   pub every : Demand3 narrow (letters_in text) (book_allows text) c
 
 -- What is promised of every text, plan and lent buffer.
-pub record Delivers (text plan lent old new : List ℕ) (r : Delivered) : Type 0 where
+pub record Delivers (text plan lent old new : List ℕ) (r : Result Delivered Refusal) : Type 0 where
   -- "A book is accepted when the table names no refusal for compiling it with the buffers lent"
   pub accepted : (c : List ℕ) (peak : ℕ) → outcome narrow documented text lent (length old) ≡ Outcome.card c peak → Accepted text plan c peak old new r
   -- "A book's refusal returns the number, its line .., and the card buffer unchanged"

@@ -5,6 +5,7 @@
 ghost use Rattle.driver.specs.Entry.{lent_lengths};
 ghost use Rattle.delivery.specs.Delivers.{Delivers};
 
+use compiler::Refusal;
 use handing::Delivered;
 
 // Compiles a book and judges a plan by its card.
@@ -20,7 +21,7 @@ pub fn deliver(
     table: &mut [u16],
     work: &mut [u16],
     code: &mut [u8],
-) -> Delivered
+) -> Result<Delivered, Refusal>
     ensures { Delivers text.now plan.now (lent_lengths low.old high.old registers.old stack.old rows.old table.old work.old code.old) card.old card.new result }
 {
     let answer = driver::compile(

@@ -5,6 +5,7 @@
 use std::io;
 
 // The whole way with buffers of its own.
+// Stays: one struct for this program and `compile` has eight fields and eight fills, and each lends the fields one by one: as many lines, and a crate more.
 fn deliver(rt: &impl Print, text: &[u8], plan: &[u8]) -> io::Result<()> {
     let mut card = [7u8; 4000];
     let mut low = [7u8; 43706];

@@ -1,1 +1,2 @@
 pub mod DistanceLaws
+pub mod SweepLaws

@@ -4,23 +4,12 @@
 ghost use Rattle.std.specs.Prelude.{length};
 ghost use Rattle.automata.specs.Format.{narrow};
 ghost use Rattle.compiler.specs.Outcome.{outcome};
-ghost use Rattle.driver.specs.Entry.{documented, lent_lengths, Answers, Ready, Puts};
+ghost use Rattle.driver.specs.Entry.{documented, lent_lengths, Answers};
 
+use answers::Scratch;
 use compiler::{Compiled, Refusal};
-use frame::Opened;
 
-// What the lines say: the card of the machine in a slot, or their refusal.
-fn put(ended: Result<usize, Refusal>, letters: &[u8], slot: &[u8], card: &mut [u8]) -> Compiled
-    requires { Ready letters.now slot.now ended }
-    ensures { Puts letters.now slot.now ended card.old card.new result }
-{
-    match ended {
-        Ok(peak) => frame::put_card(letters, peak, slot, card),
-        Err(refusal) => Compiled::Refused(refusal.number, refusal.line),
-    }
-}
-
-// Compiles a book. The card, or the number of a refusal with its line; whatever the lent buffers held.
+// Compiles a book: its card, or why there is none; whatever the lent buffers held.
 pub fn compile(
     text: &[u8],
     card: &mut [u8],
@@ -32,11 +21,10 @@ pub fn compile(
     table: &mut [u16],
     work: &mut [u16],
     code: &mut [u8],
-) -> Compiled
+) -> Result<Compiled, Refusal>
     ensures { Answers (outcome narrow documented text.now (lent_lengths low.old high.old registers.old stack.old rows.old table.old work.old code.old) (length card.old)) card.old card.new result }
 {
-    match frame::opening(
-        text,
+    let lengths = [
         low.len(),
         high.len(),
         registers.len(),
@@ -45,24 +33,20 @@ pub fn compile(
         table.len(),
         work.len(),
         code.len(),
-    ) {
-        Opened::Lines(from, end) => {
-            let letters = &text[from..end];
-            let ended = lines::lines(
-                text,
-                letters,
-                end + 1,
-                low,
-                high,
-                registers,
-                stack,
-                rows,
-                table,
-                work,
-                code,
-            );
-            put(ended, letters, &registers[..], card)
-        }
-        Opened::Refused(n, line) => Compiled::Refused(n, line),
-    }
+    ];
+    let opened = frame::opening(text, &lengths)?;
+    let letters = &text[opened.start..opened.end];
+    let mut scratch = Scratch { rows, table, work };
+    let peak = lines::lines(
+        text,
+        letters,
+        opened.end + 1,
+        low,
+        high,
+        registers,
+        stack,
+        &mut scratch,
+        code,
+    )?;
+    frame::put_card(letters, peak, &registers[..], card)
 }

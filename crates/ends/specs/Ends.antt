@@ -16,23 +16,14 @@ pub record Filled (n dead here never : ℕ) (old new : List ℕ) : Type 0 where
   pub long : length new ≡ length old
   pub entry : (q : ℕ) → q < n → get_or new q 0 ≡ placed dead here (λ _. never) q
 
--- The moves by a column of m lead to states; the places before and after lie apart, with one entry more for no dead state.
-pub record Stepping (moves : List ℕ) (m n column dead : ℕ) (ends : List ℕ) (from to : ℕ) : Type 0 where
-  pub known : column < m
-  pub table : length moves ≡ n * m
-  pub inside : (q : ℕ) → q < n → get_or moves (q * m + column) 0 < n
-  pub most : dead ≤ n
-  pub before : from + n ≤ length ends
-  pub after : to + n < length ends
-  pub apart : (from + n ≤ to) ⊎ (to + n < from)
-
 -- the place of state q's next state
-abbrev pub next_place : List ℕ → ℕ → ℕ → List ℕ → ℕ → ℕ → ℕ
-next_place moves m column old from q = get_or old (from + get_or moves (q * m + column) 0) 0
+abbrev pub next_place : List ℕ → ℕ → ℕ → List ℕ → ℕ → ℕ
+next_place moves m column before q = get_or before (get_or moves (q * m + column) 0) 0
 
-pub record Stepped (moves : List ℕ) (m n column dead from to here : ℕ) (old new : List ℕ) (last : ℕ) : Type 0 where
+-- One letter more, by its column: `before` became `new`, in the row that held `old`.
+pub record Stepped (moves : List ℕ) (m n column dead here : ℕ) (before old new : List ℕ) (last : ℕ) : Type 0 where
   pub long : length new ≡ length old
-  pub entry : (q : ℕ) → q < n → get_or new (to + q) 0 ≡ placed dead here (next_place moves m column old from) q
-  pub most : (q : ℕ) → q < n → next_place moves m column old from q ≤ last
+  pub entry : (q : ℕ) → q < n → get_or new q 0 ≡ placed dead here (next_place moves m column before) q
+  pub most : (q : ℕ) → q < n → next_place moves m column before q ≤ last
   -- one of them is the last, where one is not 0
-  pub attained : (last ≡ 0) ⊎ ((q : ℕ) × (q < n) × (next_place moves m column old from q ≡ last))
+  pub attained : (last ≡ 0) ⊎ ((q : ℕ) × (q < n) × (next_place moves m column before q ≡ last))

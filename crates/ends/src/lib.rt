@@ -3,12 +3,12 @@
 #![tactic(auto)]
 
 ghost use Rattle.std.specs.Prelude.{◌≤◌, ◌<◌, length};
-ghost use Rattle.ends.specs.Ends.{DeadState, Filled, Stepping, Stepped};
+ghost use Rattle.ends.specs.Ends.{DeadState, Filled, Stepped};
 
-use moves::Mark;
+use moves::{Mark, StatesTo};
 
 // The first dead state, or the number of states.
-// Stays: as a place, for which there is an entry more, so that each letter writes it without a test.
+// Stays: a place, and no Option: a row has an entry more for it, which each letter writes without a test; of an Option its one caller would make this place again.
 pub fn dead_state(marks: &[u8]) -> usize
     ensures { DeadState marks.now result }
 {
@@ -27,29 +27,26 @@ pub fn fill(ends: &mut [usize], n: usize, dead: usize, here: usize, never: usize
     ends[dead] = here;
 }
 
-// One letter more, by its column: the dead state is dead here, each other one where the next state is. The places lie from `from` on before and from `to` on
-// after. The last place of the next states is handed back.
-pub fn step(
-    moves: &[u8],
-    m: usize,
-    n: usize,
+// One letter more, by its column: the dead state is dead here, each other one where the next state is. The places before are those of the word behind the letter;
+// the last place of the next states is handed back.
+pub fn step<const MOST: usize>(
+    states: StatesTo<MOST>,
     column: usize,
     dead: usize,
-    ends: &mut [usize],
-    from: usize,
-    to: usize,
+    before: &[usize],
+    after: &mut [usize],
     here: usize,
 ) -> usize
-    requires { Stepping moves.now m n column dead ends.old from to }
-    ensures { Stepped moves.now m n column dead from to here ends.old ends.new result }
+    requires known { (column < states.letters) × (dead ≤ length states.marks.now) }
+    requires rows { (length states.marks.now ≤ length before.now) × (length states.marks.now < length after.old) }
+    ensures { Stepped states.entry.moves.now states.entry.letters (length states.entry.marks.now) column dead here before.now after.old after.new result }
 {
     let mut last = 0;
-    for q in 0..n {
-        let next = moves[q * m + column] as usize;
-        let end = ends[from + next];
-        ends[to + q] = end;
+    for q in 0..states.len() {
+        let end = before[states.target(q, column)];
+        after[q] = end;
         last = last.max(end);
     }
-    ends[to + dead] = here;
+    after[dead] = here;
     last
 }

@@ -1,14 +1,10 @@
--- Classes of a table's states on the way to those of equivalent states, as code keeps them in one list of numbers: three arrays of n entries, the first with the
--- class of each state (a state of it, its leader), the second with a number of each state.
-use Rattle.std.specs.Prelude.{◌≡◌, cond, List, ℕ, zero, suc, ◌+◌, ◌≤◌, ◌<◌, length, get_or, take, eqb}
+-- Classes of a table's states on the way to those of equivalent states, as code keeps them in lists of numbers: one has the class of each state (a state of it, its
+-- leader), one a number of each state, one links of states.
+use Rattle.std.specs.Prelude.{◌≡◌, cond, List, ℕ, zero, suc, ◌≤◌, ◌<◌, length, eqb}
 use Rattle.automata.specs.Machine.{Machine, automaton}
 use Rattle.automata.specs.Refinement.{Coarse}
 use Rattle.entries.specs.declared.table.Table.{Table}
 use Rattle.entries.specs.Entries.{class_of, machine_of}
-
--- The second array.
-abbrev pub next : ℕ → List ℕ → ℕ → ℕ
-next n w p = get_or w (n + p) zero
 
 -- A class goes by a state of it, its leader, and no state of it comes before the leader.
 pub record Led (n : ℕ) (f : ℕ → ℕ) : Type 0 where
@@ -24,14 +20,16 @@ unfoldable pub leaders : (ℕ → ℕ) → ℕ → ℕ
 leaders g zero = zero
 leaders g (suc m) = let r = leaders g m in cond (eqb (g m) m) (suc r) r
 
--- The table, and a list with room for the three arrays.
-pub record Sized (T : Table) (w : List ℕ) : Type 0 where
-  pub room : T.states + (T.states + T.states) ≤ length w
+-- A table, and an entry for each of its states in each of three lists.
+pub record Sized (T : Table) (classes next links : List ℕ) : Type 0 where
+  pub classes_long : length classes ≡ T.states
+  pub next_long : length next ≡ T.states
+  pub links_long : T.states ≤ length links
   pub few : T.states < 65536
 
 -- Classes on the way, so many of them at least: each goes by its first state, equivalent states share one, and states that share one answer alike.
-pub record Refining (T : Table) (w : List ℕ) (count : ℕ) : Type 0 where
-  pub led : Led T.states (class_of (take T.states w))
-  pub coarse : Coarse T.columns (machine_of T) (class_of (take T.states w))
-  pub told : Told T.states (machine_of T) (class_of (take T.states w))
-  pub counted : count ≤ leaders (class_of (take T.states w)) T.states
+pub record Refining (T : Table) (classes : List ℕ) (count : ℕ) : Type 0 where
+  pub led : Led T.states (class_of classes)
+  pub coarse : Coarse T.columns (machine_of T) (class_of classes)
+  pub told : Told T.states (machine_of T) (class_of classes)
+  pub counted : count ≤ leaders (class_of classes) T.states

@@ -1,5 +1,5 @@
 -- What entries of lists say: the state that a column of a table leads to, a state's class, a state's flag.
-use Rattle.std.specs.Prelude.{◌≡◌, List, ℕ, zero, ◌<◌, get_or}
+use Rattle.std.specs.Prelude.{◌≡◌, Bool, List, ℕ, zero, ◌<◌, get_or}
 use Rattle.automata.specs.Machine.{Machine, automaton}
 use Rattle.automata.specs.Partition.{bit}
 use Rattle.automata.specs.Table.{flag_of, table_machine}
@@ -18,6 +18,10 @@ pub record Target (T : Table) (p c r : ℕ) : Type 0 where
 abbrev pub class_of : List ℕ → ℕ → ℕ
 class_of cls p = get_or cls p zero
 
--- a state's flag as 0 or 1
+-- a state's flag
+abbrev pub flag_at : List ℕ → ℕ → Bool
+flag_at t p = flag_of (get_or t p 0)
+
+-- the same as 0 or 1
 abbrev pub flag_bit : List ℕ → ℕ → ℕ
-flag_bit t p = bit (flag_of (get_or t p 0))
+flag_bit t p = bit (flag_at t p)

@@ -13,14 +13,14 @@ pub struct Table<'a> {
 
 impl<'a> Table<'a> {
     ghost use Rattle.std.specs.Prelude.{◌≡◌, ◌<◌, length};
-    ghost use Rattle.entries.specs.Entries.{Target, flag_bit};
+    ghost use Rattle.entries.specs.Entries.{Target, flag_at};
 
-    // A state's flag as 0 or 1.
-    pub fn flag(&self, p: usize) -> u8
+    // Whether a state accepts.
+    pub fn accepts(&self, p: usize) -> bool
         requires { p < length self.now.cells.now }
-        ensures { result ≡ flag_bit self.now.cells.now p }
+        ensures { result ≡ flag_at self.now.cells.now p }
     {
-        crate::flag(self.cells, p)
+        self.cells[p] != 0
     }
 
     // The state that column c leads to from state p.

@@ -17,6 +17,8 @@ use Rattle.operands.specs.Operand.{name_slot, Shelves}
 use Rattle.answers.specs.Refusal.{refusal_of as refused_number}
 use Rattle.operations.specs.Apply.{format_of, greatest, greatest_both, tallest, Lent, lent_kept}
 use Rattle.evaluate.specs.Steps.{store_of, book_in, Gives, Stands, Shelved, Stood, Stepping, Steps}
+use Rattle.answers.specs.declared.Scratch.{Scratch}
+use Rattle.answers.specs.Scratch.{SameRoom, same_room, room_on}
 use Rattle.operands.specs.declared.Layout.{Layout}
 use Rattle.evaluate.specs.declared.run.Stepped.{Stepped}
 use Rattle.evaluate.specs.declared.run.Failure.{Failure}
@@ -35,9 +37,9 @@ NamesHeld l m first second code = (i : ℕ) → i < length code → is_name (get
 abbrev pub AllStood : Layout → ℕ → List ℕ → List ℕ → List (ℕ × Machine) → List ℕ → Type 0
 AllStood l m first second env code = (i : ℕ) → i < length code → Stood l m first second env (get_or code i 0)
 
-pub record Running (l : Layout) (ls first second registers code stack rows table work : List ℕ) : Type 0 where
+pub record Running (l : Layout) (ls first second registers code stack : List ℕ) (scratch : Scratch) : Type 0 where
   pub shelves : Shelves l (length ls) first second registers
-  pub lent : Lent l (length ls) stack rows table work
+  pub lent : Lent l (length ls) stack scratch
   pub held : Slots l.limits.states (suc (length ls)) l.size 3 registers
   pub height : highest 0 code ≤ tallest
   pub names : NamesHeld l (length ls) first second code
@@ -63,7 +65,7 @@ highest_from (c ∷ cs) h = go (besides c)
 
 -- ---- part of a program has run
 
-module _ (l : Layout) (ls first second code registers₀ stack₀ rows₀ table₀ work₀ : List ℕ) where
+module _ (l : Layout) (ls first second code registers₀ stack₀ : List ℕ) (scratch₀ : Scratch) where
   abbrev m : ℕ
   m = length ls
 
@@ -71,7 +73,7 @@ module _ (l : Layout) (ls first second code registers₀ stack₀ rows₀ table�
   whole env = execute (format_of l) ls env (book_in l m registers₀) code (store_of l m 0 stack₀ registers₀)
 
   -- The first i codes have run: what is left, on the machines that the slots hold now, gives the rest.
-  pub record Going (registers stack rows table work : List ℕ) (sp peak i : ℕ) : Type 0 where
+  pub record Going (registers stack : List ℕ) (scratch : Scratch) (sp peak i : ℕ) : Type 0 where
     pub inside : i ≤ length code
     pub gives : (env : List (ℕ × Machine)) → AllStood l m first second env code
         → (counts : List ℕ) × (greatest counts ≡ peak) × (whole env ≡ after_ran counts (execute (format_of l) ls env (book_in l m registers₀) (drop i code) (store_of l m sp stack registers)))
@@ -80,12 +82,10 @@ module _ (l : Layout) (ls first second code registers₀ stack₀ rows₀ table�
     pub tall : highest sp (drop i code) ≤ tallest
     pub height : height_of sp (drop i code) ≡ height_of 0 code
     pub stack_long : length stack ≡ length stack₀
-    pub rows_long : length rows ≡ length rows₀
-    pub table_long : length table ≡ length table₀
-    pub work_long : length work ≡ length work₀
+    pub room : SameRoom scratch₀ scratch
 
-  module _ (R : Running l ls first second registers₀ code stack₀ rows₀ table₀ work₀) where
-    pub going_start : Going registers₀ stack₀ rows₀ table₀ work₀ 0 0 0
+  module _ (R : Running l ls first second registers₀ code stack₀ scratch₀) where
+    pub going_start : Going registers₀ stack₀ scratch₀ 0 0 0
     going_start = record {
       inside = omega arith;
       gives = λ env N. ([], refl, sym (after_none (whole env)));
@@ -94,12 +94,10 @@ module _ (l : Layout) (ls first second code registers₀ stack₀ rows₀ table�
       tall = R.height;
       height = refl;
       stack_long = refl;
-      rows_long = refl;
-      table_long = refl;
-      work_long = refl;
+      room = same_room scratch₀;
     }
 
-    module _ {registers stack rows table work : List ℕ} {sp peak i : ℕ} (G : Going registers stack rows table work sp peak i) where
+    module _ {registers stack : List ℕ} {scratch : Scratch} {sp peak i : ℕ} (G : Going registers stack scratch sp peak i) where
       module _ (h : i < length code) where
         c : ℕ
         c = get_or code i 0
@@ -111,11 +109,11 @@ module _ (l : Layout) (ls first second code registers₀ stack₀ rows₀ table�
         tall_split : max (height_while c sp) (highest (height_after c sp) (drop (suc i) code)) ≤ tallest
         tall_split = subst (λ q. highest sp q ≤ tallest) split G.tall
 
-        pub going_step : Stepping l ls first second registers (get_or code i 0) sp stack rows table work
+        pub going_step : Stepping l ls first second registers (get_or code i 0) sp stack scratch
         unfolding c
         going_step = record {
           shelves = shelves_kept R.shelves G.shelved.long;
-          lent = lent_kept R.lent G.stack_long G.rows_long G.table_long G.work_long;
+          lent = lent_kept R.lent G.stack_long G.room;
           slots = G.slots;
           held = G.shelved.held;
           meanwhile = omega (arith, tall_split);
@@ -137,10 +135,10 @@ module _ (l : Layout) (ls first second code registers₀ stack₀ rows₀ table�
           shelved_on : Shelved l m registers₀ registers'
           shelved_on = record { held = S.shelved.held; book = S.shelved.book ∙ G.shelved.book; long = S.shelved.long ∙ G.shelved.long }
 
-          pub going_next : {rows' table' work' : List ℕ} (x : Stepped) (p : ℕ) → q ≡ Ok x → p ≡ max peak x.sets → length rows' ≡ length rows → length table' ≡ length table → length work' ≡ length work
-              → Going registers' stack' rows' table' work' x.height p (i + 1)
+          pub going_next : {scratch' : Scratch} (x : Stepped) (p : ℕ) → q ≡ Ok x → p ≡ max peak x.sets → SameRoom scratch scratch'
+              → Going registers' stack' scratch' x.height p (i + 1)
           unfolding c
-          going_next x p e f a b d =
+          going_next {scratch'} x p e f k =
               let (t, T) = subst (λ q. Stands l m stack' q (height_after (get_or code i 0) sp)) e S.stands in
               record {
                 inside = omega arith;
@@ -150,9 +148,7 @@ module _ (l : Layout) (ls first second code registers₀ stack₀ rows₀ table�
                 tall = subst (λ j. highest x.height (drop j code) ≤ tallest) (sym (add-one i)) (subst (λ y. highest y (drop (suc i) code) ≤ tallest) (sym t) (omega (arith, tall_split)));
                 height = ap (λ j. height_of x.height (drop j code)) (add-one i) ∙ ap (λ y. height_of y (drop (suc i) code)) t ∙ ap (height_of sp) (sym split) ∙ G.height;
                 stack_long = S.long ∙ G.stack_long;
-                rows_long = a ∙ G.rows_long;
-                table_long = b ∙ G.table_long;
-                work_long = d ∙ G.work_long;
+                room = room_on scratch₀ scratch scratch' G.room k;
               }
             where
               on : (env : List (ℕ × Machine)) → AllStood l m first second env code

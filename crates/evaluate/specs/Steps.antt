@@ -10,19 +10,21 @@ use Rattle.automata.specs.Given.{empty_machine}
 use Rattle.language.specs.Environment.{lookup}
 use Rattle.book.specs.Kind.{is_name}
 use Rattle.book.specs.StackLaws.{height_after, height_while, besides}
-use Rattle.sets.specs.Operations.{operation_of}
+use Rattle.sets.specs.Operations.{operation_of, operands_of}
 use Rattle.sets.specs.declared.Operation.{Operation as Code}
+use Rattle.sets.specs.declared.Operation.TheVariants.{Either, Both, Without, Join, Star, Erase}
 use Rattle.slots.specs.Slot.{Slot, slot_machine, Holds, Written}
 use Rattle.slots.specs.Aside.{Aside}
 use Rattle.answers.specs.Operate.{operate}
 use Rattle.codes.specs.Execute.{Store, Ran, ran, failed, stuck, push_made, with_one, with_two, step}
 use Rattle.operands.specs.Stack.{needs, slot_at, Slots, machines, fills, fills_most, slot_same, slots_below, slots_less, slots_more, machines_below}
-use Rattle.codes.specs.Codes.{operand_of, stored, step_as, SourceIn, Sorted, index_of, index_small}
+use Rattle.codes.specs.Codes.{operand_of, stored, on_top, SourceIn, Sorted, index_of, index_small}
 use Rattle.codes.specs.declared.Register as register
 use Rattle.codes.specs.declared.Register.TheVariants.{Book, Pattern, Right}
 use Rattle.operands.specs.Operand.{name_slot, operand_in, OperandReady, Shelves, Bringing, Brought, copied, written_within}
 use Rattle.answers.specs.Refusal.{refusal_of as refused_number}
 use Rattle.operations.specs.Apply.{format_of, greatest, tallest, Lent, slot_room, Applying, Makes, Doubling, Besides, aside_below}
+use Rattle.answers.specs.declared.Scratch.{Scratch}
 use Rattle.operands.specs.declared.Layout.{Layout}
 use Rattle.codes.specs.declared.Source.{Source}
 use Rattle.codes.specs.declared.Source.TheVariants.{Letter, Name, Given, Register}
@@ -76,9 +78,9 @@ pub record Shelved (l : Layout) (m : ℕ) (before registers : List ℕ) : Type 0
 abbrev pub Stood : Layout → ℕ → List ℕ → List ℕ → List (ℕ × Machine) → ℕ → Type 0
 Stood l m first second env c = is_name c ≡ true → slot_machine l.limits.states (suc m) (name_slot l.size first second c) ≡ lookup c (empty_machine m) env
 
-pub record Stepping (l : Layout) (ls first second registers : List ℕ) (c sp : ℕ) (stack rows table work : List ℕ) : Type 0 where
+pub record Stepping (l : Layout) (ls first second registers : List ℕ) (c sp : ℕ) (stack : List ℕ) (scratch : Scratch) : Type 0 where
   pub shelves : Shelves l (length ls) first second registers
-  pub lent : Lent l (length ls) stack rows table work
+  pub lent : Lent l (length ls) stack scratch
   pub slots : Slots l.limits.states (suc (length ls)) l.size sp stack
   pub held : Slots l.limits.states (suc (length ls)) l.size 3 registers
   pub meanwhile : height_while c sp ≤ tallest
@@ -94,7 +96,7 @@ pub record Steps (l : Layout) (ls first second : List ℕ) (c sp : ℕ) (registe
 
 -- ---- operands
 
-module _ {l : Layout} {ls first second registers : List ℕ} {c sp : ℕ} {stack rows table work : List ℕ} (S : Stepping l ls first second registers c sp stack rows table work) where
+module _ {l : Layout} {ls first second registers : List ℕ} {c sp : ℕ} {stack : List ℕ} {scratch : Scratch} (S : Stepping l ls first second registers c sp stack scratch) where
   abbrev m : ℕ
   m = length ls
 
@@ -207,32 +209,28 @@ module _ {l : Layout} {ls first second registers : List ℕ} {c sp : ℕ} {stack
 
     -- ---- an operation on the topmost machines
 
-    pub top_count : (op : Code) (n : ℕ) → r ≡ Some (Top op n) → (n ≡ 1) ⊎ (n ≡ 2)
-    top_count op n e = (subst (Sorted c) e D).operand
+    pub top_low : (op : Code) → (1 ≤ operands_of op) × (operands_of op ≤ 2)
+    top_low Either = (omega arith, omega arith)
+    top_low Both = (omega arith, omega arith)
+    top_low Without = (omega arith, omega arith)
+    top_low Join = (omega arith, omega arith)
+    top_low Star = (omega arith, omega arith)
+    top_low Erase = (omega arith, omega arith)
 
-    pub top_low : (op : Code) (n : ℕ) → r ≡ Some (Top op n) → (1 ≤ n) × (n ≤ 2)
-    top_low op n e = go (top_count op n e)
+    pub top_stuck : (op : Code) (n : ℕ) → n ≡ operands_of op → r ≡ Some (Top op) → sp < n → Steps l ls first second c sp registers stack registers stack (Err Stuck)
+    top_stuck op n w e h = stuck_steps (λ env N. (subst (Sorted c) e D).steps (format_of l) ls env (book_in l m registers) s ∙ ap (on_top (format_of l) ls s op) (sym w) ∙ go n sp h (rw w (top_low op)))
       where
-        go : (n ≡ 1) ⊎ (n ≡ 2) → (1 ≤ n) × (n ≤ 2)
-        go (inl q) = (omega arith, omega arith)
-        go (inr q) = (omega arith, omega arith)
+        go : (n sp : ℕ) → sp < n → (1 ≤ n) × (n ≤ 2) → on_top (format_of l) ls (store_of l m sp stack registers) op n ≡ stuck
+        go zero sp h w = absurd (omega arith)
+        go (suc zero) zero h w = refl
+        go (suc zero) (suc sp) h w = absurd (omega arith)
+        go (suc (suc n)) zero h w = refl
+        go (suc (suc n)) (suc zero) h w = refl
+        go (suc (suc n)) (suc (suc sp)) h w = absurd (omega (arith, w.1))
 
-    pub top_stuck : (op : Code) (n : ℕ) → r ≡ Some (Top op n) → sp < n → Steps l ls first second c sp registers stack registers stack (Err Stuck)
-    top_stuck op n e h = stuck_steps (λ env N. D.steps (format_of l) ls env (book_in l m registers) s ∙ ap (step_as (format_of l) ls env (book_in l m registers) s) e ∙ go env n sp h (top_count op n e))
-      where
-        go : (env : List (ℕ × Machine)) (n sp : ℕ) → sp < n → (n ≡ 1) ⊎ (n ≡ 2) → step_as (format_of l) ls env (book_in l m registers) (store_of l m sp stack registers) (Some (Top op n)) ≡ stuck
-        go env zero sp h w = absurd (omega arith)
-        go env (suc zero) zero h w = refl
-        go env (suc zero) (suc sp) h w = absurd (omega arith)
-        go env (suc (suc zero)) zero h w = refl
-        go env (suc (suc zero)) (suc zero) h w = refl
-        go env (suc (suc zero)) (suc (suc sp)) h w = absurd (omega arith)
-        go env (suc (suc (suc n))) sp h (inl q) = absurd (omega arith)
-        go env (suc (suc (suc n))) sp h (inr q) = absurd (omega arith)
-
-    pub top_apply : (op : Code) (n : ℕ) → r ≡ Some (Top op n) → n ≤ sp → Applying l m (sp - n) (sp - 1) stack rows table work
-    top_apply op n e h =
-        let (a, b) = top_low op n e in
+    pub top_apply : (op : Code) (n : ℕ) → n ≡ operands_of op → n ≤ sp → Applying l m (sp - n) (sp - 1) stack scratch
+    top_apply op n w h =
+        let (a, b) = top_low op in
         record {
           lent = S.lent;
           low = omega (arith, tall);
@@ -241,25 +239,22 @@ module _ {l : Layout} {ls first second registers : List ℕ} {c sp : ℕ} {stack
           right_slot = top_slot (omega arith);
         }
 
-    pub top_steps : (op : Code) (n : ℕ) → r ≡ Some (Top op n) → n ≤ sp → {t : List ℕ} (h' : ℕ) → h' ≡ sp - n + 1 → {q : Result ℕ refusals.TooMany}
+    pub top_steps : (op : Code) (n : ℕ) → n ≡ operands_of op → r ≡ Some (Top op) → n ≤ sp → {t : List ℕ} (h' : ℕ) → h' ≡ sp - n + 1 → {q : Result ℕ refusals.TooMany}
         → Makes l m (sp - n) stack t q (operate (format_of l) m (operation_of op) (slot_at l.limits.states k l.size stack (sp - n)) (slot_at l.limits.states k l.size stack (sp - 1)))
         → Steps l ls first second c sp registers stack registers t (stepped h' q)
-    top_steps op n e h {t} h' i {q} M =
-        let (a, b) = top_low op n e in
+    top_steps op n w e h {t} h' i {q} M =
+        let (a, b) = top_low op in
+        let E : Sorted c (Some (Top op)) = subst (Sorted c) e D in
         made_steps (sp - n) (operate (format_of l) m (operation_of op) (slot_at l.limits.states k l.size stack (sp - n)) (slot_at l.limits.states k l.size stack (sp - 1)))
-        (omega (arith, tall)) (omega arith) (height a) (λ env N. D.steps (format_of l) ls env (book_in l m registers) s ∙ ap (step_as (format_of l) ls env (book_in l m registers) s) e ∙ go env n h (top_count op n e)) h' (i ∙ add-one (sp - n)) q M
+        (omega (arith, tall)) (omega arith) (omega (arith, E.behind sp))
+        (λ env N. E.steps (format_of l) ls env (book_in l m registers) s ∙ ap (on_top (format_of l) ls s op) (sym w) ∙ go n h (rw w (top_low op))) h' (i ∙ add-one (sp - n)) q M
       where
-        height : 1 ≤ n → height_after c sp ≡ suc (sp - n)
-        height a = omega (arith, (subst (Sorted c) e D).behind sp)
-
-        go : (env : List (ℕ × Machine)) (n : ℕ) → n ≤ sp → (n ≡ 1) ⊎ (n ≡ 2) → step_as (format_of l) ls env (book_in l m registers) s (Some (Top op n))
+        go : (n : ℕ) → n ≤ sp → (1 ≤ n) × (n ≤ 2) → on_top (format_of l) ls s op n
             ≡ push_made s (machines l.limits.states k l.size stack (sp - n)) (operate (format_of l) m (operation_of op) (slot_at l.limits.states k l.size stack (sp - n)) (slot_at l.limits.states k l.size stack (sp - 1)))
-        go env zero h (inl q) = absurd (omega arith)
-        go env zero h (inr q) = absurd (omega arith)
-        go env (suc zero) h w = ap (λ ms. with_one ms λ A rest. push_made s rest (operate (format_of l) m (operation_of op) A A)) (one_top sp h)
-        go env (suc (suc zero)) h w = ap (λ ms. with_two ms λ A B rest. push_made s rest (operate (format_of l) m (operation_of op) A B)) (two_tops h)
-        go env (suc (suc (suc n))) h (inl q) = absurd (omega arith)
-        go env (suc (suc (suc n))) h (inr q) = absurd (omega arith)
+        go zero h w = absurd (omega (arith, w.0))
+        go (suc zero) h w = ap (λ ms. with_one ms λ A rest. push_made s rest (operate (format_of l) m (operation_of op) A A)) (one_top sp h)
+        go (suc (suc zero)) h w = ap (λ ms. with_two ms λ A B rest. push_made s rest (operate (format_of l) m (operation_of op) A B)) (two_tops h)
+        go (suc (suc (suc n))) h w = absurd (omega (arith, w.1))
 
     -- ---- an operation with a machine beside the top
 
@@ -270,10 +265,10 @@ module _ {l : Layout} {ls first second registers : List ℕ} {c sp : ℕ} {stack
     beside_stuck op x e h = stuck_steps (λ env N. (subst (Sorted c) e D).steps (format_of l) ls env (book_in l m registers) s
         ∙ ap (λ ms. with_one ms λ A rest. push_made s rest (operate (format_of l) m (operation_of op) (operand_of ls env (book_in l m registers) s x) A)) (none_top h))
 
-    doubling : sp < tallest → 1 ≤ sp → Doubling l m (sp - 1) stack rows table work
+    doubling : sp < tallest → 1 ≤ sp → Doubling l m (sp - 1) stack scratch
     doubling a h = record { lent = S.lent; low = omega arith; slot = top_slot h }
 
-    pub beside_ready : (op : Code) (x : Source) → r ≡ Some (Beside op x) → 1 ≤ sp → Besides l ls first second registers x (sp - 1) stack rows table work
+    pub beside_ready : (op : Code) (x : Source) → r ≡ Some (Beside op x) → 1 ≤ sp → Besides l ls first second registers x (sp - 1) stack scratch
     beside_ready op x e h = record { doubling = doubling (beside_low op x e) h; shelves = S.shelves; ready = operand_ready x (subst (Sorted c) e D).operand }
 
     pub beside_steps : (op : Code) (x : Source) → r ≡ Some (Beside op x) → 1 ≤ sp → {t : List ℕ} {q : Result ℕ refusals.TooMany}
@@ -292,7 +287,7 @@ module _ {l : Layout} {ls first second registers : List ℕ} {c sp : ℕ} {stack
     pub plus_stuck : r ≡ Some Plus → sp < 1 → Steps l ls first second c sp registers stack registers stack (Err Stuck)
     plus_stuck e h = stuck_steps (λ env N. (subst (Sorted c) e D).steps (format_of l) ls env (book_in l m registers) s ∙ ap (λ ms. with_one ms λ A rest. push_made s rest (star_join A)) (none_top h))
 
-    pub plus_ready : r ≡ Some Plus → 1 ≤ sp → Doubling l m (sp - 1) stack rows table work
+    pub plus_ready : r ≡ Some Plus → 1 ≤ sp → Doubling l m (sp - 1) stack scratch
     plus_ready e h = doubling (omega (arith, S.meanwhile, (subst (Sorted c) e D).meanwhile sp)) h
 
     pub plus_steps : r ≡ Some Plus → 1 ≤ sp → {t : List ℕ} {q : Result ℕ refusals.TooMany} → Makes l m (sp - 1) stack t q (star_join (slot_at l.limits.states k l.size stack (sp - 1)))

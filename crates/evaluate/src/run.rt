@@ -1,13 +1,14 @@
 // A program's codes, one after another, and the machine that they leave.
-ghost use Rattle.evaluate.specs.Steps.{Stepping, Steps, number_of};
+ghost use Rattle.answers.specs.Scratch.{SameRoom};
+ghost use Rattle.evaluate.specs.Steps.{Stepping, Steps};
 ghost use Rattle.evaluate.specs.declared.run.Failure.TheVariants.{TooMany as Failed};
 ghost use Rattle.evaluate.specs.Run.{Running, height_of};
 ghost use Rattle.evaluate.specs.Evaluated.{Evaluates};
 ghost use Rattle.std.specs.Prelude.{◌≡◌};
 
-use answers::TooMany;
+use answers::{Scratch, TooMany};
 use codes::Sort;
-use operands::{Layout, copies, operand};
+use operands::{Layout, Names, copies, operand};
 use operations::apply;
 
 // The height of the stack behind a code, and the most sets that one of its stages made.
@@ -24,18 +25,6 @@ pub enum Failure {
     Stuck,
 }
 
-impl Failure {
-    // The refusal's number; 0 where no stage was refused.
-    pub fn number(self) -> u8
-        ensures { result ≡ number_of self }
-    {
-        match self {
-            Failure::TooMany(refusal) => refusal.number(),
-            Failure::Stuck => 0,
-        }
-    }
-}
-
 impl From<TooMany> for Failure {
     ghost from_gives = { λ refusal r. r ≡ Failed refusal };
 
@@ -50,42 +39,31 @@ fn step(
     sp: usize,
     l: Layout,
     letters: &[u8],
-    first: &[u8],
-    second: &[u8],
+    names: &Names,
     registers: &mut [u8],
     stack: &mut [u8],
-    rows: &mut [u8],
-    table: &mut [u16],
-    work: &mut [u16],
+    scratch: &mut Scratch,
 ) -> Result<Stepped, Failure>
-    requires { Stepping l letters.now first.now second.now registers.old c sp stack.old rows.old table.old work.old }
-    ensures { Steps l letters.now first.now second.now c sp registers.old stack.old registers.new stack.new result }
+    requires { Stepping l letters.now names.now.low.now names.now.high.now registers.old c sp stack.old scratch.old }
+    ensures steps { Steps l letters.now names.now.low.now names.now.high.now c sp registers.old stack.old registers.new stack.new result }
+    ensures room { SameRoom scratch.old scratch.new }
 {
     let sort = codes::sort_of(c).ok_or(Failure::Stuck)?;
     match sort {
         Sort::Push(source) => {
-            operand::bring(source, l, letters, first, second, &registers[..], stack, sp);
+            operand::bring(source, l, letters, names, registers, stack, sp);
             Ok(Stepped {
                 height: sp + 1,
                 sets: 0,
             })
         }
-        Sort::Top { operation, count } => {
+        Sort::Top(operation) => {
+            let count = operation.operands();
             if sp < count {
                 return Err(Failure::Stuck);
             }
             let left = sp - count;
-            let sets = apply::apply(
-                operation,
-                letters.len(),
-                l,
-                left,
-                sp - 1,
-                stack,
-                rows,
-                table,
-                work,
-            )?;
+            let sets = apply::apply(operation, letters.len(), l, left, sp - 1, stack, scratch)?;
             Ok(Stepped {
                 height: left + 1,
                 sets,
@@ -100,14 +78,11 @@ fn step(
                 operand,
                 l,
                 letters,
-                first,
-                second,
-                &registers[..],
+                names,
+                registers,
                 sp - 1,
                 stack,
-                rows,
-                table,
-                work,
+                scratch,
             )?;
             Ok(Stepped { height: sp, sets })
         }
@@ -115,7 +90,7 @@ fn step(
             if sp < 1 {
                 return Err(Failure::Stuck);
             }
-            let sets = apply::plus(letters.len(), l, sp - 1, stack, rows, table, work)?;
+            let sets = apply::plus(letters.len(), l, sp - 1, stack, scratch)?;
             Ok(Stepped { height: sp, sets })
         }
         Sort::Store(register) => {
@@ -144,24 +119,20 @@ pub fn run(
     code: &[u8],
     l: Layout,
     letters: &[u8],
-    first: &[u8],
-    second: &[u8],
+    names: &Names,
     registers: &mut [u8],
     stack: &mut [u8],
-    rows: &mut [u8],
-    table: &mut [u16],
-    work: &mut [u16],
+    scratch: &mut Scratch,
 ) -> Result<usize, Failure>
-    requires running { Running l letters.now first.now second.now registers.old code.now stack.old rows.old table.old work.old }
+    requires running { Running l letters.now names.now.low.now names.now.high.now registers.old code.now stack.old scratch.old }
     requires code_value { height_of 0 code.now ≡ 1 }
-    ensures { Evaluates l letters.now first.now second.now code.now registers.old registers.new stack.new result }
+    ensures made { Evaluates l letters.now names.now.low.now names.now.high.now code.now registers.old registers.new stack.new result }
+    ensures room { SameRoom scratch.old scratch.new }
 {
     let mut sp = 0;
     let mut peak: usize = 0;
     for c in code {
-        let made = step(
-            *c, sp, l, letters, first, second, registers, stack, rows, table, work,
-        )?;
+        let made = step(*c, sp, l, letters, names, registers, stack, scratch)?;
         sp = made.height;
         peak = peak.max(made.sets);
     }

@@ -22,6 +22,7 @@ use Rattle.operands.specs.Stack.{Slots, Below, slots_below, slots_more}
 use Rattle.operands.specs.Operand.{name_slot, lent}
 use Rattle.evaluate.specs.Run.{height_of, Running}
 use Rattle.evaluate.specs.Evaluated.{program_height}
+use Rattle.answers.specs.declared.Scratch.{Scratch}
 use Rattle.operands.specs.declared.Layout.{Layout}
 use Rattle.evaluate_run.specs.Ready.{Coded}
 
@@ -67,10 +68,10 @@ abbrev pub layout : Layout
 layout = record { limits = record { sets = 512; states = 120 }; size = 3362 }
 
 module _ {code : List ℕ} (C : Coded code) where
-  pub running : (letters names registers stack rows table work : List ℕ) → 2 ≡ length letters → Slots 120 3 3362 13 names → Slots 120 3 3362 3 registers
-      → 43706 ≡ length names → 10086 ≡ length registers → 63878 ≡ length stack → 62464 ≡ length rows → 14336 ≡ length table → 6720 ≡ length work
-      → Running layout letters names names registers code stack rows table work
-  running letters names registers stack rows table work two N S a b c d e f = record {
+  pub running : (letters names registers stack : List ℕ) (scratch : Scratch) → 2 ≡ length letters → Slots 120 3 3362 13 names → Slots 120 3 3362 3 registers
+      → 43706 ≡ length names → 10086 ≡ length registers → 63878 ≡ length stack
+      → 62464 ≡ length scratch.rows.now → 14336 ≡ length scratch.table.now → 6720 ≡ length scratch.work.now → Running layout letters names names registers code stack scratch
+  running letters names registers stack scratch two N S a b c d e f = record {
     shelves = record { states = omega arith; letters = omega arith; slot = omega arith; first_long = omega arith; second_long = omega arith; registers_long = omega arith };
     lent = record {
       states = (omega arith, omega arith);

@@ -7,13 +7,14 @@ ghost use Rattle.std.specs.Prelude.{◌≡◌, ◌*◌, ◌<◌, ◌≤◌, leng
 ghost use Rattle.operands.specs.Stack.{Slots};
 ghost use Rattle.evaluate_run.specs.Ready.{Coded};
 
-use answers::Limits;
+use answers::{Limits, Scratch};
 use evaluate::run;
 use evaluate::run::Failure;
+use octets::number;
 use operands::Layout;
 use reader::line::{program_length, read_line};
 use reader::names::Names;
-use slots::{given, slot};
+use slots::given;
 use std::io;
 
 // `.*` in each of n slots.
@@ -37,10 +38,11 @@ fn say(rt: &impl Print, r: Result<usize, Failure>, stack: &[u8]) -> io::Result<(
 {
     match r {
         Ok(peak) => {
-            let states = slot::number(stack, 0);
+            let states = number::read(stack, 0);
             println!(rt; "{peak} sets {states} states")
         }
-        Err(failure) => say_refused(rt, failure.number()),
+        Err(Failure::TooMany(refusal)) => say_refused(rt, refusal.number()),
+        Err(Failure::Stuck) => say_refused(rt, 0),
     }
 }
 
@@ -95,17 +97,23 @@ fn make(rt: &impl Print, code: &[u8], letters: &[u8]) -> io::Result<()>
         },
         size: 3362,
     };
+    let shelves = operands::Names {
+        low: &names,
+        high: &names,
+    };
+    let mut scratch = Scratch {
+        rows: &mut rows,
+        table: &mut table,
+        work: &mut work,
+    };
     let r = run::run(
         code,
         l,
         letters,
-        &names,
-        &names,
+        &shelves,
         &mut registers,
         &mut stack,
-        &mut rows,
-        &mut table,
-        &mut work,
+        &mut scratch,
     );
     say(rt, r, &stack)
 }

@@ -1,25 +1,28 @@
--- The readers of a card: its contents by their numbers, its parts as parts of its bytes, the column of a letter.
+-- The readers of a card: its contents by their numbers, its parts as parts of its bytes.
 use mathlib.Core.Path.{◌≡◌, refl, sym, ap, ap₂, ◌∙◌}
 use mathlib.Core.Bool.{true, false}
-use mathlib.Core.Logic.{◌⊎◌, inl, inr, ◌≢◌}
+use mathlib.Core.Logic.{◌⊎◌, inl, inr}
 use mathlib.Core.List.{List}
-use Prim.Native.Nat.{ℕ, ◌+◌, ◌*◌, ◌-◌, ◌≤◌, ◌<◌}
+use Prim.Native.Nat.{ℕ, ◌+◌, ◌*◌, ◌-◌, ◌≤◌}
 use native.Mathlib.Nat.{mul-le-mul, mul-one}
+use native.Mathlib.Numerals.{add-one}
 use native.Mathlib.Omega.{arith}
-use lib.ListN.{length, take, drop, length-drop}
+use lib.ListN.{length, get_or, take, drop, length-drop}
 use lib.Seq.{take_all}
 use Rattle.automata.specs.Booleans.{bool_cases, not_true}
-use Rattle.automata.specs.Basics.{LtCases, lt_cases, nat_test, find, find_le, find_at, find_least}
 use Rattle.automata.specs.Format.{narrow}
+use Rattle.octets.specs.Numbers.{number_at as two_at}
 use Rattle.card.specs.Number.{number_at}
 use Rattle.card.specs.Layout.{letter_count, state_count, letters_of, marks_of, moves_of, Contents, contents_test}
 use Rattle.card.proofs.LayoutLaws.{contents_sound, contents_whole, moves_one}
-use Rattle.card.specs.Alphabet.{column}
 use Rattle.fields.specs.Counts.{Counted, counts_of}
 use Rattle.std.specs.Prelude.{Option, Some, None}
-use Rattle.std.specs.List.{AllWithin, HoldsAt}
-use Rattle.std.specs.Option.{MatchOption, unwrap_or}
 use Rattle.fields.specs.declared.Counts.{Counts}
+
+-- ---- a number of two bytes, as the card has those of any width
+
+pub two_bytes : {x : ℕ} (c : List ℕ) (i : ℕ) → x ≡ two_at c i → x ≡ number_at 2 c i
+two_bytes c i e = omega (arith, e, ap (λ j. get_or c j 0) (add-one i))
 
 -- ---- the contents
 
@@ -102,20 +105,3 @@ module _ (c : List ℕ) (m n : ℕ) (r : Counted narrow c m n) where
 
   pub moves_part : take (length c - (12 + m + n)) (drop (12 + m + n) c) ≡ moves_of narrow c
   moves_part = take_all (length c - (12 + m + n)) (drop (12 + m + n) c) (omega (arith, length-drop (12 + m + n) c)) ∙ sym (moves_one narrow c r.right refl ∙ (rw (r.letters, r.states)))
-
--- ---- the column of a letter
-
--- no letter before the first one found is l, and that one is; or none is
-pub column_first : (ls : List ℕ) (l : ℕ) (r : Option ℕ)
-    → MatchOption r (AllWithin (λ x. x ≢ l) ls 0 (length ls)) (λ i. (i < length ls) × HoldsAt (λ x. x ≡ l) ls i × AllWithin (λ x. x ≢ l) ls 0 i)
-    → unwrap_or r (length ls) ≡ column ls l
-column_first ls l None h = go (lt_cases (find nat_test l ls) (length ls))
-  where
-    go : LtCases (find nat_test l ls) (length ls) → length ls ≡ column ls l
-    go (inl p) = absurd (h (find nat_test l ls) 0 (omega arith) p.0 (find_at nat_test 0 l ls p.0))
-    go (inr p) = omega (arith, p.0, find_le nat_test l ls)
-column_first ls l (Some i) (b, e, n) = go (lt_cases (find nat_test l ls) i)
-  where
-    go : LtCases (find nat_test l ls) i → i ≡ column ls l
-    go (inl p) = absurd (n (find nat_test l ls) 0 (omega arith) p.0 (find_at nat_test 0 l ls (omega (arith, p.0, b))))
-    go (inr p) = omega (arith, p.0, find_least nat_test 0 l ls i b (e 0))

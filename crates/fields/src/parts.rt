@@ -2,9 +2,11 @@
 ghost use Rattle.std.specs.Prelude.{◌≡◌, IfSome, option_map};
 ghost use Rattle.automata.specs.Format.{narrow};
 ghost use Rattle.card.specs.Layout.{letters_of, marks_of, moves_of};
+ghost use Rattle.card.specs.Load.{CardInside};
 ghost use Rattle.fields.specs.Counts.{Counted, counts_of};
 
 use crate::Counts;
+use moves::States;
 
 // A card whose contents are right, and the counts that they give.
 #[derive(Clone, Copy)]
@@ -48,5 +50,19 @@ impl<'a> Layout<'a> {
     {
         let start = 12 + self.counts.letters + self.counts.states;
         &self.bytes[start..]
+    }
+
+    // The table of moves, where each move is to a state.
+    pub fn states(&self) -> States<'a>
+        requires { CardInside narrow self.now.bytes.now }
+        ensures marks { result.marks.now ≡ marks_of narrow self.now.bytes.now }
+        ensures moves { result.moves.now ≡ moves_of narrow self.now.bytes.now }
+        ensures letters { result.letters ≡ self.now.counts.letters }
+    {
+        States {
+            marks: self.marks(),
+            moves: self.moves(),
+            letters: self.counts.letters,
+        }
     }
 }

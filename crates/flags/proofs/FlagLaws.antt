@@ -8,7 +8,7 @@ use native.Mathlib.Nat.{not-suc-le-zero, le_of_suc-le-suc}
 use native.Mathlib.Numerals.{add-one}
 use native.Mathlib.Omega.{arith}
 use lib.Dec.{eqb}
-use lib.ListN.{length, get_or, set, replicate, take, length-set, length-replicate, get_or-replicate}
+use lib.ListN.{length, get_or, set, replicate, length-set, length-replicate, get_or-replicate}
 use lib.Seq.{ext_get_or, get_or-set_same, get_or-set_other}
 use borrow.Author.Tests.{eq-eqb, ne_eqb}
 use Rattle.std.specs.List.{zip, list_any}
@@ -97,13 +97,12 @@ any_front f (suc n) = ap (λ (v : Bool). choose (f (suc n)) (λ _. true) (λ _. 
 abbrev pub both : ℕ × ℕ → Bool
 both p = flag_of p.0 && flag_of p.1
 
-pub both_any : (n : ℕ) (r a : List ℕ) → n ≤ length r → n ≤ length a → list_any both (zip (take n r) a) ≡ some_accepting (flag_at r) (flag_at a) n
-both_any zero r a h g = refl
-both_any (suc n) [] a h g = absurd (not-suc-le-zero h)
-both_any (suc n) (x ∷ r) [] h g = absurd (not-suc-le-zero g)
-both_any (suc n) (x ∷ r) (y ∷ a) h g =
-    ap (λ (v : Bool). both (x, y) || v) (both_any n r a (le_of_suc-le-suc h) (le_of_suc-le-suc g))
-    ∙ sym (any_front (λ q. flag_at (x ∷ r) q && flag_at (y ∷ a) q) n)
+pub both_any : (r a : List ℕ) → length r ≤ length a → list_any both (zip r a) ≡ some_accepting (flag_at r) (flag_at a) (length r)
+both_any [] a h = refl
+both_any (x ∷ r) [] h = absurd (not-suc-le-zero h)
+both_any (x ∷ r) (y ∷ a) h =
+    ap (λ (v : Bool). both (x, y) || v) (both_any r a (le_of_suc-le-suc h))
+    ∙ sym (any_front (λ q. flag_at (x ∷ r) q && flag_at (y ∷ a) q) (length r))
 
 -- no state is in the row
 pub accepting_none : (r a : List ℕ) (n : ℕ) → ((p : ℕ) → p < n → flag_at r p && flag_at a p ≡ false) → false ≡ some_accepting (flag_at r) (flag_at a) n

@@ -1,7 +1,7 @@
 -- A row of flags closed under one transition per state: what following it adds.
 use Rattle.std.specs.Prelude.{◌≡◌, Bool, true, ◌⊎◌, List, [], ◌∷◌, ℕ, zero, suc, ◌≤◌, length, eqb}
 use Rattle.automata.specs.Booleans.{choose}
-use Rattle.automata.specs.Table.{ClosedTable}
+use Rattle.entries.specs.declared.table.Table.{Table}
 use Rattle.rows.specs.Rows.{flag_at}
 use Rattle.rows.specs.Sums.{Bits}
 
@@ -19,11 +19,10 @@ unset (x ∷ xs) = choose (eqb x 0) (λ _. suc (unset xs)) (λ _. unset xs)
 abbrev pub Closed : (ℕ → ℕ) → List ℕ → Type 0
 Closed next row = (x : ℕ) → flag_at row x ≡ true → flag_at row (next x) ≡ true
 
--- a closed table, over one column at least, and a row with a flag for each state
-pub record Closes (base n k : ℕ) (t row : List ℕ) : Type 0 where
-  pub table : ClosedTable base n k t
-  pub columns : 1 ≤ k
-  pub long : length row ≡ n
+-- a table over one column at least, and a row with a flag for each state
+pub record Closes (T : Table) (row : List ℕ) : Type 0 where
+  pub columns : 1 ≤ T.columns
+  pub long : length row ≡ T.states
 
 -- p is flagged, and besides what was flagged before only what p leads to; a closed row stays closed.
 pub record Chased (next : ℕ → ℕ) (n p : ℕ) (row row' : List ℕ) : Type 0 where

@@ -1,7 +1,6 @@
 // Rows of flags, a byte for each state of an operand: filled with what the listed members of another row lead to, closed under the mark, and tested for an
-// accepting member. These are parts: callers give closed tables and rows that are long enough.
+// accepting member. These are parts: callers give rows that are long enough.
 #![tactic(auto)]
 
 pub mod bits;
 pub mod closure;
-pub mod table;

@@ -1,7 +1,7 @@
 -- From what the parts leave to the reply of the definitions.
 use mathlib.Core.Path.{◌≡◌, sym, ap, ◌∙◌, subst}
 use mathlib.Core.List.{List}
-use Prim.Native.Nat.{ℕ, ◌+◌, ◌≤◌, ◌<◌}
+use Prim.Native.Nat.{ℕ, ◌≤◌, ◌<◌}
 use native.Mathlib.Omega.{arith}
 use lib.ListN.{length}
 use Rattle.automata.specs.Format.{narrow}
@@ -10,7 +10,6 @@ use Rattle.card.specs.Alphabet.{Known}
 use Rattle.card.proofs.Alphabet.{at_known}
 use Rattle.card.specs.Load.{Tested}
 use Rattle.card.proofs.LoadLaws.{tested}
-use Rattle.card.proofs.Loads.{load_loaded}
 use Rattle.card.specs.Answer.{load, rejected}
 use Rattle.card.specs.Reply.{answered, refused, no_card, unknown_letter, is_answered}
 use Rattle.factor.specs.Shortest.{shortest}
@@ -20,7 +19,7 @@ use Rattle.run.specs.Walk.{Ready, KnownTo}
 use Rattle.board.proofs.EntryLaws.{rejected_test, rejected_some}
 use Rattle.forbidden.specs.declared.Stretch.{Stretch}
 use Rattle.forbidden.specs.Reading.{shortest_in}
-use Rattle.forbidden.specs.Pass.{most_places, Searched}
+use Rattle.forbidden.specs.Pass.{Searched}
 
 -- a card that does not load
 pub refused_card : (c plan : List ℕ) (k : ℕ) → rejected k ≡ load narrow c → refused k 0 ≡ shortest narrow c plan
@@ -34,10 +33,6 @@ module _ (c : List ℕ) (m n : ℕ) (R : Ready c m n) (plan : List ℕ) where
   -- all letters are on the card
   pub all_known : (k : ℕ) → KnownTo (letters_of narrow c) plan 0 k → length plan ≤ k → Known (letters_of narrow c) plan
   all_known k K h = at_known (letters_of narrow c) plan (λ j b. K.known j (omega arith) (omega arith))
-
-  -- there is room for the places
-  pub room : n + n + 2 ≤ most_places
-  room = omega (arith, (load_loaded narrow c R.loads).contents.states_most, R.states)
 
   -- THE ANSWER of the pass is the reply.
   pub searched_reply : (a : Option Stretch) → Known (letters_of narrow c) plan → Searched c plan a → answered (shortest_in a) ≡ shortest narrow c plan

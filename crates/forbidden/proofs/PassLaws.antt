@@ -1,42 +1,34 @@
 -- What holds in the pass after the letters from i on, and what its parts require and leave.
-use mathlib.Core.Path.{◌≡◌, refl, sym, ap, ap₂, ◌∙◌, subst}
-use mathlib.Core.Logic.{◌⊎◌, inl, inr, ◌≢◌}
+use mathlib.Core.Path.{◌≡◌, refl, sym, ap, ◌∙◌, subst}
+use mathlib.Core.Logic.{◌≢◌}
 use mathlib.Core.List.{List, []}
-use Prim.Native.Nat.{ℕ, suc, ◌+◌, ◌*◌, ◌-◌, ◌≤◌, ◌<◌}
+use Prim.Native.Nat.{ℕ, suc, ◌+◌, ◌-◌, ◌≤◌, ◌<◌}
 use native.Mathlib.Numerals.{add-one}
 use native.Mathlib.Omega.{arith}
-use lib.ListN.{length, get_or}
-use mir.Syntax.{w8, w64}
-use mir.Val.{Fits}
+use mathlib.Core.List.{◌++◌}
+use lib.ListN.{length, get_or, take, drop}
+use lib.Seq.{take-length, drop-length}
+use Rattle.std.proofs.lemmas.List.{append-nil}
 use Rattle.automata.specs.Format.{narrow}
 use Rattle.card.specs.Layout.{letter_count, state_count, letters_of, marks_of, moves_of}
-use Rattle.card.proofs.LayoutLaws.{letters_length, marks_of_length, moves_length, moves_at}
+use Rattle.card.proofs.LayoutLaws.{letters_length, marks_of_length}
 use Rattle.card.specs.Alphabet.{column, Known}
 use Rattle.card.proofs.Alphabet.{known_at}
 use Rattle.card.specs.Loads.{Loaded}
 use Rattle.card.proofs.Loads.{load_loaded}
 use Rattle.card.specs.Judge.{card_allows}
-use Rattle.factor.specs.Factor.{Inside, none, at}
-use Rattle.ends.specs.Ends.{DeadState, Filled, Stepping, Stepped}
+use Rattle.factor.specs.Factor.{Inside, at}
+use Rattle.ends.specs.Ends.{DeadState, Filled, Stepped}
 use Rattle.fields.specs.Counts.{Counted}
-use Rattle.std.specs.Prelude.{Some, None}
+use Rattle.std.specs.Prelude.{Option, Some, None}
 use Rattle.run.specs.Walk.{Ready, ColumnTable}
 use Rattle.run.specs.Cards.{bytes_of, letters_in, states_in, ready_of}
-use Rattle.run.specs.declared.loaded.Card.{Card}
-use Rattle.forbidden.specs.declared.Best.{Best}
+use Rattle.run.specs.declared.walker.Walker.{Walker}
+use Rattle.forbidden.specs.declared.Stretch.{Stretch}
+use Rattle.forbidden.specs.Reading.{shortest_in}
 use Rattle.forbidden.specs.Pass.{Searched, Bettered}
 use Rattle.forbidden.proofs.PlacesLaws.{Places, something, nothing, places_start, places_step, last_low, last_inside, last_start}
-use Rattle.forbidden.proofs.BestLaws.{BestFrom, best_start, best_next, best_none, best_at}
-
-pub byte_wide : (x : ℕ) → Fits w8 x → Fits w64 x
-byte_wide x f = record { fits = omega (arith, f.fits) }
-
-pub one_less : (i : ℕ) → 0 < i → i - 1 < i
-one_less i h = omega arith
-
--- a row and an entry more fit
-pub row_fits : (n l : ℕ) → n + n + 2 ≤ l → n < l
-row_fits n l h = omega arith
+use Rattle.forbidden.proofs.BestLaws.{BestFrom, best_start, best_next, best_last}
 
 -- A card that loads, with its table of columns, and a plan of its letters.
 pub record Searchable (c : List ℕ) (m n : ℕ) (table plan : List ℕ) : Type 0 where
@@ -45,22 +37,19 @@ pub record Searchable (c : List ℕ) (m n : ℕ) (table plan : List ℕ) : Type 
   pub known : Known (letters_of narrow c) plan
 
 -- what the pass is given
-pub searchable_of : (card : Card) (table plan : List ℕ) → ColumnTable (letters_of narrow (bytes_of card)) table → Known (letters_of narrow (bytes_of card)) plan
-    → Searchable (bytes_of card) (letters_in card) (states_in card) table plan
-searchable_of card table plan t k = record { ready = ready_of card; columns = t; known = k }
+pub searchable_of : (walker : Walker) (plan : List ℕ) → Known (letters_of narrow (bytes_of walker.card)) plan
+    → Searchable (bytes_of walker.card) (letters_in walker.card) (states_in walker.card) walker.columns plan
+searchable_of walker plan k = record { ready = ready_of walker.card; columns = walker.right; known = k }
 
-pub record Under (c : List ℕ) (m n : ℕ) (table plan moves : List ℕ) (dead never room i from : ℕ) (places : List ℕ) (b : Best) : Type 0 where
+pub record Under (c : List ℕ) (m n : ℕ) (table plan : List ℕ) (dead never i : ℕ) (before after : List ℕ) (b : Option Stretch) : Type 0 where
   pub searchable : Searchable c m n table plan
-  pub moved : moves ≡ moves_of narrow c
   pub first : DeadState (marks_of narrow c) dead
   pub some : Inside (card_allows narrow c) []
   pub far : never ≡ suc (length plan)
   pub low : i ≤ length plan
-  pub roomy : n + n + 2 ≤ room
-  pub long : length places ≡ room
-  pub half : (from ≡ 0) ⊎ (from ≡ n + 1)
-  pub entries : Places c plan (suc (length plan)) i from places
-  pub best : BestFrom (card_allows narrow c) plan (suc (length plan)) i b
+  pub rows : (n < length before) × (n < length after)
+  pub entries : Places c plan (suc (length plan)) i before
+  pub best : BestFrom (card_allows narrow c) plan i b
 
 module _ (c : List ℕ) (m n : ℕ) (table plan : List ℕ) (S : Searchable c m n table plan) where
   loaded : Loaded narrow c
@@ -80,39 +69,36 @@ module _ (c : List ℕ) (m n : ℕ) (table plan : List ℕ) (S : Searchable c m 
     pub pass_nothing : d ≡ 0 → Searched c plan (Some (record { start = 0; length = 0 }))
     pass_nothing z = record { answer = at 0 0; is = refl; right = nothing c loaded plan S.known d dead_first z }
 
-    pub under_start : (moves old new : List ℕ) → d ≢ 0 → moves ≡ moves_of narrow c → n + n + 2 ≤ length old → Filled n d (length plan) (length plan + 1) old new
-        → Under c m n table plan moves d (length plan + 1) (length new) (length plan) 0 new (record { start = 0; length = length plan + 1 })
-    under_start moves old new f t r F = record {
+    many : length marks ≡ n
+    many = ap length e ∙ marks_of_length narrow c loaded.contents ∙ S.ready.states
+
+    module _ (k : ℕ) (q : k ≡ length marks) where
+      pub fill_room : (old : List ℕ) → n < length old → (k < length (take (length old) old)) × (d ≤ k)
+      fill_room old h = (rw (take-length old) (omega (arith, q, many)), omega (arith, q, many, dead_most))
+
+    pub under_start : (k : ℕ) (old new after : List ℕ) → k ≡ length marks → d ≢ 0 → (n < length old) × (n < length after)
+        → Filled k d (length plan) (length plan + 1) (take (length old) old) new
+        → Under c m n table plan d (length plan + 1) (length plan) (new ++ drop (length old) old) after None
+    under_start k old new after q f r F₀ = rw (drop-length old, append-nil new) (record {
       searchable = S;
-      moved = t;
       first = dead_first;
       some = s;
       far = add-one (length plan);
       low = omega arith;
-      roomy = omega (arith, F.long);
-      long = refl;
-      half = inl refl;
+      rows = (omega (arith, F.long), r.1);
       entries = places_start c loaded plan S.known d old new dead_first (rw (S.ready.states, ← add-one (length plan)) F);
-      best = rw (add-one (length plan)) (best_start (card_allows narrow c) plan (suc (length plan)) s);
-    }
+      best = best_start (card_allows narrow c) plan s;
+    })
       where
+        F : Filled n d (length plan) (length plan + 1) old new
+        F = rw (take-length old, q ∙ many) at F₀
+
         s : Inside (card_allows narrow c) []
         s = something c loaded plan S.known d dead_first f
 
-module _ (c : List ℕ) (m n : ℕ) (table plan moves : List ℕ) (d never room i from : ℕ) (places : List ℕ) (b : Best)
-    (U : Under c m n table plan moves d never room i from places b) where
+module _ (c : List ℕ) (m n : ℕ) (table plan : List ℕ) (d never i : ℕ) (old after : List ℕ) (b : Option Stretch) (U : Under c m n table plan d never i old after b) where
   abbrev S : Searchable c m n table plan
   S = U.searchable
-
-  pub half_most : from ≤ n + 1
-  half_most = go U.half
-    where
-      go : (from ≡ 0) ⊎ (from ≡ n + 1) → from ≤ n + 1
-      go (inl z) = omega arith
-      go (inr z) = omega arith
-
-  pub under_rows : Fits w64 (n + 1)
-  under_rows = record { fits = omega (arith, (loaded c m n table plan S).contents.states_most, S.ready.states) }
 
   pub under_before : 0 < i → i - 1 < length plan
   under_before p = omega (arith, U.low)
@@ -128,85 +114,56 @@ module _ (c : List ℕ) (m n : ℕ) (table plan moves : List ℕ) (d never room 
     is = S.columns.entry (get_or plan (i - 1) 0) byte
 
     -- the letter's column is one of the card's
-    pub under_column : k < m
+    under_column : k < m
     under_column = rw (is, ← S.ready.letters, ← letters_length narrow c (loaded c m n table plan S).contents) (known_at (letters_of narrow c) plan S.known (i - 1) before)
 
-    pub under_wide : Fits w64 k
-    under_wide = record { fits = omega (arith, under_column, (loaded c m n table plan S).contents.letters_most, S.ready.letters) }
+    -- the table of moves, of x letters
+    module _ (x : ℕ) (q : x ≡ m) (ms bs : List ℕ) (f : ms ≡ marks_of narrow c) (e : bs ≡ moves_of narrow c) where
+      states : length ms ≡ n
+      states = ap length f ∙ marks_of_length narrow c (loaded c m n table plan S).contents ∙ S.ready.states
 
-    pub under_stepping : Stepping moves m n k d places from (n + 1 - from)
-    under_stepping = record {
-      known = under_column;
-      table = ap length U.moved ∙ moves_length narrow c ∙ ap₂ ◌*◌ S.ready.states S.ready.letters;
-      inside = λ q h.
-          let y : q < state_count narrow c = rw S.ready.states h in
-          let z : k < letter_count narrow c = rw S.ready.letters under_column in
-          rw (U.moved, ← S.ready.letters, moves_at narrow c q k y z, ← S.ready.states) ((loaded c m n table plan S).inside q k y z);
-      most = omega (arith, U.first.most, marks_of_length narrow c (loaded c m n table plan S).contents, S.ready.states);
-      before = go U.half;
-      after = on U.half;
-      apart = aside U.half;
-    }
-      where
-        go : (from ≡ 0) ⊎ (from ≡ n + 1) → from + n ≤ length places
-        go (inl z) = omega (arith, U.long, U.roomy)
-        go (inr z) = omega (arith, U.long, U.roomy)
+      pub under_known : (k < x) × (d ≤ length ms)
+      under_known = (rw q under_column, omega (arith, U.first.most, ap length f))
 
-        on : (from ≡ 0) ⊎ (from ≡ n + 1) → n + 1 - from + n < length places
-        on (inl z) = omega (arith, U.long, U.roomy)
-        on (inr z) = omega (arith, U.long, U.roomy)
+      pub under_rows : (length ms ≤ length (take (length old) old)) × (length ms < length (take (length after) after))
+      under_rows = rw (take-length old, take-length after) (omega (arith, states, U.rows.0), omega (arith, states, U.rows.1))
 
-        aside : (from ≡ 0) ⊎ (from ≡ n + 1) → (from + n ≤ n + 1 - from) ⊎ (n + 1 - from + n < from)
-        aside (inl z) = inl (omega arith)
-        aside (inr z) = inr (omega arith)
+      module _ (new : List ℕ) (last : ℕ) (T₀ : Stepped bs x (length ms) k d (i - 1) (take (length old) old) (take (length after) after) new last) where
+        T : Stepped bs x (length ms) k d (i - 1) old after new last
+        T = rw (take-length old, take-length after) at T₀
 
-    module _ (new : List ℕ) (last : ℕ) (T : Stepped moves m n k d from (n + 1 - from) (i - 1) places new last) where
-      whole : suc (i - 1) ≡ i
-      whole = omega arith
+        whole : suc (i - 1) ≡ i
+        whole = omega arith
 
-      entries : Places c plan (suc (length plan)) (suc (i - 1)) from places
-      entries = subst (λ j. Places c plan (suc (length plan)) j from places) (sym whole) U.entries
+        entries : Places c plan (suc (length plan)) (suc (i - 1)) old
+        entries = subst (λ j. Places c plan (suc (length plan)) j old) (sym whole) U.entries
 
-      stepped : Stepped (moves_of narrow c) (letter_count narrow c) (state_count narrow c) (column (letters_of narrow c) (get_or plan (i - 1) 0)) d from (n + 1 - from) (i - 1) places new last
-      stepped = rw (S.ready.letters, S.ready.states, ← is, ← U.moved) T
+        stepped : Stepped (moves_of narrow c) (letter_count narrow c) (state_count narrow c) (column (letters_of narrow c) (get_or plan (i - 1) 0)) d (i - 1) old after new last
+        stepped = rw (S.ready.letters, ← q, S.ready.states, ← states, ← is, ← e) T
 
-      pub under_last : i - 1 ≤ last
-      under_last = omega (arith, last_low c (loaded c m n table plan S) plan S.known (i - 1) before from places entries d (n + 1 - from) new last stepped)
+        pub under_last : i - 1 ≤ last
+        under_last = omega (arith, last_low c (loaded c m n table plan S) plan S.known (i - 1) before old entries d after new last stepped)
 
-      -- ONE LETTER MORE.
-      pub under_next : (r : Best) → Bettered b (i - 1) last never r → Under c m n table plan moves d never room (i - 1) (n + 1 - from) new r
-      under_next r B = record {
-        searchable = S;
-        moved = U.moved;
-        first = U.first;
-        some = U.some;
-        far = U.far;
-        low = omega (arith, U.low);
-        roomy = U.roomy;
-        long = T.long ∙ U.long;
-        half = go U.half;
-        entries = places_step c (loaded c m n table plan S) plan S.known (i - 1) before from places entries d (n + 1 - from) new last stepped U.first;
-        best = best_next (card_allows narrow c) plan (suc (length plan)) (i - 1) before b (subst (λ j. BestFrom (card_allows narrow c) plan (suc (length plan)) j b) (sym whole) U.best) last
-            (last_inside c (loaded c m n table plan S) plan S.known (i - 1) before from places entries d (n + 1 - from) new last stepped)
-            (last_start c (loaded c m n table plan S) plan S.known (i - 1) before from places entries d (n + 1 - from) new last stepped U.some)
-            r (rw U.far at B);
-      }
-        where
-          go : (from ≡ 0) ⊎ (from ≡ n + 1) → (n + 1 - from ≡ 0) ⊎ (n + 1 - from ≡ n + 1)
-          go (inl z) = inr (omega arith)
-          go (inr z) = inl (omega arith)
+        -- ONE LETTER MORE.
+        pub under_next : (r : Option Stretch) → Bettered b (i - 1) last never r → Under c m n table plan d never (i - 1) (new ++ drop (length after) after) old r
+        under_next r B = rw (drop-length after, append-nil new) (record {
+          searchable = S;
+          first = U.first;
+          some = U.some;
+          far = U.far;
+          low = omega (arith, U.low);
+          rows = (omega (arith, T.long, U.rows.1), U.rows.0);
+          entries = places_step c (loaded c m n table plan S) plan S.known (i - 1) before old entries d after new last stepped U.first;
+          best = best_next (card_allows narrow c) plan (suc (length plan)) (i - 1) before last
+              (last_inside c (loaded c m n table plan S) plan S.known (i - 1) before old entries d after new last stepped)
+              (last_start c (loaded c m n table plan S) plan S.known (i - 1) before old entries d after new last stepped U.some)
+              b (subst (λ j. BestFrom (card_allows narrow c) plan j b) (sym whole) U.best) r (rw U.far at B);
+        })
 
   -- ALL LETTERS.
-  module _ (h : i ≤ 0) where
-    whole_plan : BestFrom (card_allows narrow c) plan (suc (length plan)) 0 b
-    whole_plan = subst (λ j. BestFrom (card_allows narrow c) plan (suc (length plan)) j b) (omega arith) U.best
-
-    pub under_none : b.length ≡ never → Searched c plan None
-    under_none e = record { answer = none; is = refl; right = best_none (card_allows narrow c) plan (suc (length plan)) b whole_plan (e ∙ U.far) }
-
-    pub under_at : b.length ≢ never → Searched c plan (Some (record { start = b.start; length = b.length }))
-    under_at f = record {
-      answer = at b.start b.length;
-      is = refl;
-      right = best_at (card_allows narrow c) plan (suc (length plan)) b whole_plan (λ t. f (t ∙ sym U.far));
-    }
+  pub under_all : i ≤ 0 → Searched c plan b
+  under_all h = record {
+    answer = shortest_in b;
+    is = refl;
+    right = best_last (card_allows narrow c) plan b (subst (λ j. BestFrom (card_allows narrow c) plan j b) (omega arith) U.best);
+  }

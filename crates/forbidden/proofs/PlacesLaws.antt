@@ -26,8 +26,8 @@ use Rattle.ends.specs.Ends.{DeadState, Filled, next_place, Stepped}
 use Rattle.forbidden.proofs.DeadLaws.{place_or, move_state, first_low, dead_by, no_word, dead_is}
 
 -- Of each state the place where, by the letters from i on, it is dead first.
-pub record Places (c plan : List ℕ) (never i from : ℕ) (ends : List ℕ) : Type 0 where
-  pub entry : (q : ℕ) → q < state_count narrow c → get_or ends (from + q) 0 ≡ place_or never (first_dead narrow c (drop i plan) q i)
+pub record Places (c plan : List ℕ) (never i : ℕ) (ends : List ℕ) : Type 0 where
+  pub entry : (q : ℕ) → q < state_count narrow c → get_or ends q 0 ≡ place_or never (first_dead narrow c (drop i plan) q i)
 
 module _ (c : List ℕ) (l : Loaded narrow c) (plan : List ℕ) (o : Known (letters_of narrow c) plan) where
   abbrev ls : List ℕ
@@ -61,18 +61,16 @@ module _ (c : List ℕ) (l : Loaded narrow c) (plan : List ℕ) (o : Known (lett
 
   -- ---- no letter
 
-  pub places_start : (d : ℕ) (old new : List ℕ) → DeadState (marks_of narrow c) d → Filled n d (length plan) never old new → Places c plan never (length plan) 0 new
+  pub places_start : (d : ℕ) (old new : List ℕ) → DeadState (marks_of narrow c) d → Filled n d (length plan) never old new → Places c plan never (length plan) new
   places_start d old new D F = record { entry = λ q h. rw (drop-length plan) (go q h (same_cases nat_test q d)) }
     where
-      go : (q : ℕ) → q < n → SameCases nat_test q d → get_or new (0 + q) 0 ≡ first [] q (length plan)
+      go : (q : ℕ) → q < n → SameCases nat_test q d → get_or new q 0 ≡ first [] q (length plan)
       go q h (inl e) =
-          let z : 0 + q ≡ q = omega arith in
           let y : mark_at narrow c q ≡ 2 = (dead_is c l never d q D h).0 e.0 in
-          ap (λ i. get_or new i 0) z ∙ F.entry q h ∙ (rw (e.1, y))
+          F.entry q h ∙ (rw (e.1, y))
       go q h (inr e) =
-          let z : 0 + q ≡ q = omega arith in
           let y : eqb (mark_at narrow c q) 2 ≡ false = not_true (eqb (mark_at narrow c q) 2) (λ t. e.0 ((dead_is c l never d q D h).1 (nat_test.sound (mark_at narrow c q) 2 t))) in
-          ap (λ i. get_or new i 0) z ∙ F.entry q h ∙ (rw (e.1, y))
+          F.entry q h ∙ (rw (e.1, y))
 
   -- ---- one letter
 
@@ -95,18 +93,18 @@ module _ (c : List ℕ) (l : Loaded narrow c) (plan : List ℕ) (o : Known (lett
     long : suc i + length s ≡ length plan
     long = omega (arith, length-drop (suc i) plan)
 
-    module _ (from : ℕ) (old : List ℕ) (P : Places c plan never (suc i) from old) where
+    module _ (before : List ℕ) (P : Places c plan never (suc i) before) where
       -- the places of the next states are those of the letters behind
-      next_is : (q : ℕ) → q < n → next_place (moves_of narrow c) m (column ls x) old from q ≡ first s (move_at narrow c q (column ls x)) (suc i)
+      next_is : (q : ℕ) → q < n → next_place (moves_of narrow c) m (column ls x) before q ≡ first s (move_at narrow c q (column ls x)) (suc i)
       next_is q h =
-          ap (λ t. get_or old (from + t) 0) (moves_at narrow c q (column ls x) h (rw (← letters_length narrow c l.contents) known_x))
+          ap (λ t. get_or before t 0) (moves_at narrow c q (column ls x) h (rw (← letters_length narrow c l.contents) known_x))
           ∙ P.entry (move_at narrow c q (column ls x)) (move_state c l never q x h known_x)
 
-      module _ (d to : ℕ) (new : List ℕ) (last : ℕ) (S : Stepped (moves_of narrow c) m n (column ls x) d from to i old new last) where
-        pub places_step : DeadState (marks_of narrow c) d → Places c plan never i to new
+      module _ (d : ℕ) (old new : List ℕ) (last : ℕ) (S : Stepped (moves_of narrow c) m n (column ls x) d i before old new last) where
+        pub places_step : DeadState (marks_of narrow c) d → Places c plan never i new
         places_step D = record { entry = λ q h. rw cut (go q h (same_cases nat_test q d)) }
           where
-            go : (q : ℕ) → q < n → SameCases nat_test q d → get_or new (to + q) 0 ≡ first (x ∷ s) q i
+            go : (q : ℕ) → q < n → SameCases nat_test q d → get_or new q 0 ≡ first (x ∷ s) q i
             go q h (inl e) =
                 let y : mark_at narrow c q ≡ 2 = (dead_is c l never d q D h).0 e.0 in
                 S.entry q h ∙ (rw (e.1, y))
@@ -122,7 +120,7 @@ module _ (c : List ℕ) (l : Loaded narrow c) (plan : List ℕ) (o : Known (lett
         furthest : (q : ℕ) × (q < n) × (first s (move_at narrow c q (column ls x)) (suc i) ≡ last)
         furthest = go S.attained
           where
-            go : (last ≡ 0) ⊎ ((q : ℕ) × (q < n) × (next_place (moves_of narrow c) m (column ls x) old from q ≡ last)) → (q : ℕ) × (q < n) × (first s (move_at narrow c q (column ls x)) (suc i) ≡ last)
+            go : (last ≡ 0) ⊎ ((q : ℕ) × (q < n) × (next_place (moves_of narrow c) m (column ls x) before q ≡ last)) → (q : ℕ) × (q < n) × (first s (move_at narrow c q (column ls x)) (suc i) ≡ last)
             go (inl z) = absurd (omega (arith, last_low))
             go (inr (q, h, e)) = (q, h, sym (next_is q h) ∙ e)
 

@@ -6,7 +6,7 @@ use mathlib.Core.List.{List, [], ◌∷◌, ◌++◌}
 use Prim.Native.Nat.{ℕ, zero, suc, ◌-◌, ◌≤◌, ◌<◌}
 use native.Mathlib.Nat.{not-suc-le-zero}
 use native.Mathlib.Omega.{arith}
-use lib.Dec.{ltb}
+use lib.Dec.{leb, ltb}
 use lib.ListN.{length, drop, take, length-drop}
 use lib.Seq.{take_all}
 use native.Mathlib.Numerals.{add-one}
@@ -14,6 +14,7 @@ use Rattle.automata.specs.Format.{narrow}
 use Rattle.automata.specs.Booleans.{choose}
 use Rattle.automata.specs.Basics.{LtCases, lt_cases, lt_ltb, ltb_false}
 use Rattle.automata.specs.Machine.{Machine}
+use Rattle.std.specs.List.{list_all, zip}
 use Rattle.rows.specs.Rows.{number_at}
 use Rattle.card.specs.Same.{card_of}
 use Rattle.book.specs.Text.{Line, lines_of, letters_of}
@@ -31,27 +32,30 @@ use Rattle.scans.specs.Lines.{line_of, line_at, Ends}
 use Rattle.scans.specs.Head.{head_of}
 use Rattle.std.specs.Prelude.{Result, Ok, Err}
 use Rattle.book.specs.Refusals.{refusal_number}
-use Rattle.book.specs.declared.refusal.Refusal.{Refusal}
+use Rattle.book.specs.declared.refusal.Refusal as refused_line_of
 use Rattle.kept.specs.Stored.{InSlot}
 use Rattle.compiler.specs.Reading.{Answers}
 use Rattle.compiler.specs.Rest.{lines_from}
 use Rattle.compiler.specs.Lent.{documented}
 use Rattle.frame.specs.Frame.{Writable, PutsCard, Headed, Heads, Opens}
 use Rattle.compiler.specs.declared.Compiled.{Compiled}
-use Rattle.compiler.specs.declared.Compiled.TheVariants.{Card, Refused}
+use Rattle.compiler.specs.Refusals.{reason_number, refused_number, refused_line}
+use Rattle.compiler.specs.declared.LineRefusal.{LineRefusal}
+use Rattle.compiler.specs.declared.Reason.TheVariants.{NotRead}
+use Rattle.compiler.specs.declared.Refusal.{Refusal}
+use Rattle.compiler.specs.declared.Refusal.TheVariants.{TextTooLong, BufferTooShort, Line as OnLine, OutputTooShort}
 use Rattle.frame.specs.declared.Opened.{Opened}
-use Rattle.frame.specs.declared.Opened.TheVariants as opened
 
 -- a refusal leaves the card buffer as it was
-pub stops : (n at : ℕ) (old : List ℕ) → Answers (stop n at) old old (Refused n at)
-stops n at old = record { answer = refl; buffer = refl }
+pub stops : (r : Refusal) (old : List ℕ) → Answers (stop (refused_number r) (refused_line r)) old old (Err r)
+stops r old = record { answer = refl; buffer = refl }
 
 -- ---- the card
 
 -- what the writer's answer becomes
-abbrev compiled_of : ℕ → Option ℕ → Compiled
-compiled_of peak (Some l) = Card l peak
-compiled_of peak None = Refused 11 0
+abbrev compiled_of : ℕ → Option ℕ → Result Compiled Refusal
+compiled_of peak (Some l) = Ok (record { length = l; peak = peak })
+compiled_of peak None = Err OutputTooShort
 
 put : (c old new : List ℕ) (peak : ℕ) (w : Option ℕ) → W.Written c old new w → Answers (choose (ltb (length old) (length c)) (λ _. stop 11 0) (λ _. card c peak)) old new (compiled_of peak w)
 put c old new peak w R = go (lt_cases (length old) (length c))
@@ -100,16 +104,16 @@ module _ (ls slot : List ℕ) (n : ℕ) (e : n ≡ number_at slot 0) where
         (put (kept_card n ls table) old new peak w R);
   }
 
-  pub puts_card : (peak l : ℕ) (old new : List ℕ) (w : Option ℕ) → W.Written (kept_card n ls table) old new w → w ≡ Some l → PutsCard ls slot peak old new (Card l peak)
+  pub puts_card : (peak l : ℕ) (old new : List ℕ) (w : Option ℕ) → W.Written (kept_card n ls table) old new w → w ≡ Some l → PutsCard ls slot peak old new (Ok (record { length = l; peak = peak }))
   puts_card peak l old new w R q = subst (λ w. PutsCard ls slot peak old new (compiled_of peak w)) q (puts peak old new w R)
 
-  pub puts_none : (peak : ℕ) (old new : List ℕ) (w : Option ℕ) → W.Written (kept_card n ls table) old new w → w ≡ None → PutsCard ls slot peak old new (Refused 11 0)
+  pub puts_none : (peak : ℕ) (old new : List ℕ) (w : Option ℕ) → W.Written (kept_card n ls table) old new w → w ≡ None → PutsCard ls slot peak old new (Err OutputTooShort)
   puts_none peak old new w R q = subst (λ w. PutsCard ls slot peak old new (compiled_of peak w)) q (puts peak old new w R)
 
 -- ---- line 1
 
 -- a text of no bytes: no letters, and no line behind them
-pub no_bytes : (text : List ℕ) → length text ≡ 0 → Heads text (opened.Lines 0 0)
+pub no_bytes : (text : List ℕ) → length text ≡ 0 → Heads text (Ok (record { start = 0; end = 0 }))
 unfolding compile_book compile_text compile_lines
 no_bytes [] e = record {
   says = record {
@@ -159,8 +163,8 @@ module _ (text : List ℕ) (end : ℕ) (E : Ends text 0 end) (h : 0 < length tex
   unfolding compile_book compile_text compile_head
   book_head = ap (compile_text narrow) (E.lines h)
 
-  pub headed : (m : ℕ) (x : Result ℕ Refusal) → read_head narrow (line_at text 0 end) ≡ head_of (line_at text 0 end).bytes x → x ≡ Ok m → length text ≤ 16384
-      → Heads text (opened.Lines 1 end)
+  pub headed : (m : ℕ) (x : Result ℕ refused_line_of.Refusal) → read_head narrow (line_at text 0 end) ≡ head_of (line_at text 0 end).bytes x → x ≡ Ok m → length text ≤ 16384
+      → Heads text (Ok (record { start = 1; end = end }))
   headed m x e q s =
       let f : read_head narrow (line_at text 0 end) ≡ letters (take m (drop 1 (line_at text 0 end).bytes)) = rw q at e in
       let (z, K) = head_read (line_at text 0 end) (take m (drop 1 (line_at text 0 end).bytes)) f in
@@ -184,24 +188,33 @@ module _ (text : List ℕ) (end : ℕ) (E : Ends text 0 end) (h : 0 < length tex
       some zero h = absurd (omega arith)
       some (suc e) h = omega arith
 
-  pub head_stops : (n : Refusal) (x : Result ℕ Refusal) → read_head narrow (line_at text 0 end) ≡ head_of (line_at text 0 end).bytes x → x ≡ Err n → Heads text (opened.Refused (refusal_number n) 1)
+  pub head_stops : (n : refused_line_of.Refusal) (x : Result ℕ refused_line_of.Refusal) → read_head narrow (line_at text 0 end) ≡ head_of (line_at text 0 end).bytes x → x ≡ Err n → Heads text (Err (record { reason = NotRead n; line = 1 }))
   head_stops n x e q =
       let f : read_head narrow (line_at text 0 end) ≡ L.HeadRead.stops (refusal_number n) = rw q at e in
       record { says = book_head ∙ ap (λ r. after_head r (λ ls. lines_from narrow text ls (suc end))) f }
 
 -- ---- 1 and 2
 
+-- the lent lengths pair by pair with the documented ones
+pub all_enough : (needs lent : List ℕ) → length lent ≡ length needs → enough needs lent ≡ list_all (λ x. leb x.0 x.1) (zip needs lent)
+all_enough [] [] e = refl
+all_enough [] (l ∷ ls) e = absurd (omega arith)
+all_enough (n ∷ ns) [] e = absurd (omega arith)
+all_enough (n ∷ ns) (l ∷ ls) e = rw (all_enough ns ls (omega arith)) refl
+
 module _ (text lent : List ℕ) where
-  pub too_long : 16384 < length text → Opens text lent (opened.Refused 1 0)
+  pub too_long : 16384 < length text → Opens text lent (Err TextTooLong)
   unfolding outcome
   too_long h = record { says = λ room. rw (lt_ltb 16384 (length text) h) }
 
-  pub too_short : length text ≤ 16384 → enough documented lent ≡ false → Opens text lent (opened.Refused 2 0)
+  pub too_short : length text ≤ 16384 → enough documented lent ≡ false → Opens text lent (Err BufferTooShort)
   unfolding outcome
   too_short h e = record { says = λ room. rw (ltb_false 16384 (length text) h, e) }
 
   -- what line 1 says
-  pub opens : (r : Opened) → length text ≤ 16384 → enough documented lent ≡ true → Heads text r → Opens text lent r
+  pub opens : (o : Opened) → length text ≤ 16384 → enough documented lent ≡ true → Heads text (Ok o) → Opens text lent (Ok o)
+  opens o h e H = record { says = (h, e, H.says) }
+
+  pub opens_not : (s : LineRefusal) → length text ≤ 16384 → enough documented lent ≡ true → Heads text (Err s) → Opens text lent (Err (OnLine s))
   unfolding outcome
-  opens (opened.Lines from end) h e H = record { says = (h, e, H.says) }
-  opens (opened.Refused n l) h e H = let z : compile_book narrow text ≡ stopped n l = H.says in record { says = λ room. rw (ltb_false 16384 (length text) h, e, z) }
+  opens_not s h e H = let z : compile_book narrow text ≡ stopped (reason_number s.reason) s.line = H.says in record { says = λ room. rw (ltb_false 16384 (length text) h, e, z) }

@@ -8,7 +8,8 @@ use Rattle.loading.specs.Faults.{fault_number}
 use Rattle.board.specs.Answers.{reply_of}
 use Rattle.handing.specs.declared.OnCard.{OnCard}
 use Rattle.handing.specs.declared.Delivered.{Delivered}
-use Rattle.handing.specs.declared.Delivered.TheVariants.{Card, Refused}
+use Rattle.compiler.specs.Refusals.{refused_number, refused_line}
+use Rattle.compiler.specs.declared.Refusal.{Refusal}
 
 -- What a board answers: the card's letters and states with judging's reply, or loading's refusal, 21 to 26.
 pub data OnBoard : Type 0 where
@@ -29,6 +30,6 @@ pub data Delivery : Type 0 where
   card : (length peak : ℕ) (board : OnBoard) → Delivery
   refused : (number line : ℕ) → Delivery
 
-abbrev pub delivery : Delivered → Delivery
-delivery (Card length peak board) = card length peak (on_board board)
-delivery (Refused number line) = refused number line
+abbrev pub delivery : Result Delivered Refusal → Delivery
+delivery (Ok d) = card d.compiled.length d.compiled.peak (on_board d.board)
+delivery (Err r) = refused (refused_number r) (refused_line r)

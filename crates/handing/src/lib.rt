@@ -10,7 +10,7 @@ ghost use Rattle.handing.specs.Answers.{on_board, board_says, delivery};
 ghost use Rattle.handing.specs.Handing.{Within, handed};
 
 use board::Refusal;
-use compiler::Compiled;
+use compiler::{Compiled, Refusal as BookRefusal};
 use fields::Counts;
 use loading::Fault;
 use run::Verdict;
@@ -22,11 +22,11 @@ pub struct OnCard {
     pub answer: Result<Verdict, Refusal>,
 }
 
-// The card's length and the peak with what the board answers; or the number of the book's refusal and its line.
+// What compiling gives, with what the board answers on the card.
 #[derive(Clone, Copy)]
-pub enum Delivered {
-    Card(usize, usize, Result<OnCard, Fault>),
-    Refused(u8, usize),
+pub struct Delivered {
+    pub compiled: Compiled,
+    pub board: Result<OnCard, Fault>,
 }
 
 // The board's part: the card is loaded, and the plan is judged.
@@ -42,16 +42,15 @@ fn load_and_judge(bytes: &[u8], plan: &[u8]) -> Result<OnCard, Fault>
 }
 
 // The board is handed the card buffer's bytes up to the card's length, and no others.
-pub fn hand_over(answer: Compiled, card: &[u8], plan: &[u8]) -> Delivered
+pub fn hand_over(
+    answer: Result<Compiled, BookRefusal>,
+    card: &[u8],
+    plan: &[u8],
+) -> Result<Delivered, BookRefusal>
     requires { Within answer card.now }
     ensures { delivery result ≡ handed answer card.now plan.now }
 {
-    match answer {
-        Compiled::Card(length, peak) => Delivered::Card(
-            length,
-            peak,
-            load_and_judge(&card[..length], plan),
-        ),
-        Compiled::Refused(number, line) => Delivered::Refused(number, line),
-    }
+    let compiled = answer?;
+    let board = load_and_judge(&card[..compiled.length], plan);
+    Ok(Delivered { compiled, board })
 }

@@ -1,13 +1,12 @@
 // Read after read: the bytes are taken in, and the lines of the plans that ended in them are written.
 ghost use Rattle.std.specs.Prelude.{◌≡◌, List, ℕ, ◌≤◌, length, IfOk};
 ghost use Rattle.std.specs.Io.KnownBytes.{Appends};
-ghost use Rattle.judging.specs.Plan.{Columns, Owed};
 ghost use Rattle.reply.specs.Text.{longest, reply_lines};
 ghost use Rattle.plans.specs.Plans.{ended};
 ghost use Rattle.judging.specs.Lines.{Counted, Since};
 ghost use Rattle.judge.specs.Lines.{Wrote, Replies};
 
-use judging::{State, feed, finish, plan, start};
+use judging::{State, Tested, feed, finish, start};
 use std::io;
 use std::io::{Read, Write};
 use stream::Failure;
@@ -24,24 +23,22 @@ pub enum Ending {
 
 // Takes in all bytes of a read, and writes their answers.
 fn answer_all<W: Write>(
-    card: &[u8],
-    columns: &[u8; 256],
-    owed: &[u16; 120],
+    tested: &Tested,
     state: State,
     bytes: &[u8],
     out: &mut [u8],
     output: &mut W,
 ) -> io::Result<State>
-    requires { Columns card.now columns.now × Counted card.now state (length bytes.now) × (longest ≤ length out.old) × Owed card.now owed.now }
-    ensures wrote { IfOk result (Wrote card.now state bytes.now) }
-    ensures text { IfOk result (λ s. (u : List ℕ) → Since card.now u state
-        → Appends (W.contents output.old) (W.contents output.new) (reply_lines card.now (ended u bytes.now))) }
+    requires { Counted tested.now.bytes.now state (length bytes.now) × (longest ≤ length out.old) }
+    ensures wrote { IfOk result (Wrote tested.now.bytes.now state bytes.now) }
+    ensures text { IfOk result (λ s. (u : List ℕ) → Since tested.now.bytes.now u state
+        → Appends (W.contents output.old) (W.contents output.new) (reply_lines tested.now.bytes.now (ended u bytes.now))) }
 {
     let mut state = state;
     let mut from = 0;
     // Stays: a piece takes in as many bytes as there is room to answer, so that no range tells the steps.
     while from < bytes.len() {
-        let fed = feed(card, columns, owed, state, &bytes[from..], out);
+        let fed = feed(tested, state, &bytes[from..], out);
         state = fed.state;
         let used = fed.used;
         let at = fed.at;
@@ -61,22 +58,20 @@ pub fn judge_all<R: Read, W: Write>(
 {
     let mut bytes = [0u8; 65536];
     let mut out = [0u8; 65536];
-    let mut state = start(card);
-    let columns = plan::columns(card, state.judging);
-    let owed = plan::owed(card, state.judging);
+    let tested = Tested::of(card);
+    let mut state = start(&tested);
     for _ in 0..READS {
         let Ok(n) = input.read(&mut bytes) else {
             return Err(Failure::NotRead);
         };
         if n == 0 {
-            let last = finish(card, &owed, state, &mut out);
+            let last = finish(&tested, state, &mut out);
             let Ok(()) = output.write_all(&out[..last]) else {
                 return Err(Failure::NotWritten);
             };
             return Ok(Ending::Whole);
         }
-        let Ok(next) = answer_all(card, &columns, &owed, state, &bytes[..n], &mut out, output)
-        else {
+        let Ok(next) = answer_all(&tested, state, &bytes[..n], &mut out, output) else {
             return Err(Failure::NotWritten);
         };
         state = next;

@@ -2,32 +2,32 @@
 use mathlib.Core.Path.{◌≡◌, refl, sym, ap, subst, ◌∙◌}
 use mathlib.Core.Bool.{Bool, true, false, true≢false}
 use mathlib.Core.List.{List, [], ◌∷◌, ◌++◌, append-nil}
-use Prim.Native.Nat.{ℕ, zero, suc, ◌+◌, ◌-◌, ◌*◌, ◌^◌, ◌≤◌, ◌<◌}
+use Prim.Native.Nat.{ℕ, zero, suc, ◌+◌, ◌-◌, ◌^◌, ◌≤◌, ◌<◌}
 use native.Mathlib.Omega.{arith}
 use lib.ListN.{length, take, length-take}
 use Rattle.automata.specs.Format.{narrow}
 use Rattle.card.specs.Judge.{judge}
-use Rattle.std.specs.Prelude.{Result, Ok}
-use Rattle.fields.specs.declared.Counts.{Counts}
+use Rattle.std.specs.Prelude.{Result}
+use Rattle.card.specs.Load.{load_test}
+use Rattle.run.specs.declared.Run.{Run}
 use Rattle.run.specs.declared.Verdict.{Verdict}
 use Rattle.board.specs.declared.refusals.Refusal.{Refusal}
 use Rattle.plans.specs.Plans.{ended, begun, last_plan, line_of, LineEnd}
 use Rattle.plans.proofs.PlansLaws.{line_length, ended_line, begun_line, ended_last, begun_last, begun_few}
-use Rattle.judging.specs.declared.plan.Judging.{Judging}
 use Rattle.judging.specs.declared.State.{State}
-use Rattle.judging.specs.Plan.{Tests, Judges, More, Answers}
+use Rattle.judging.specs.Plan.{Goes, Judges, More, Answers}
 use Rattle.reply.specs.Text.{reply_line, reply_lines, longest, PutLine}
 use Rattle.judging.specs.Lines.{is_open, Since, Counted, Feeds, Finishes}
-use Rattle.judging.proofs.PlanLaws.{letters_few}
+use Rattle.judging.proofs.PlanLaws.{judges_goes, letters_few}
 use Rattle.reply.proofs.TextLaws.{lines_more}
 
 -- ---- taking in
 
-abbrev state : Judging → Bool → State
-state j o = record { judging = j; «open» = o }
+abbrev state : Run → Bool → State
+state j o = record { run = j; «open» = o }
 
 -- The first `from` bytes are taken in, from the plan j₀ on.
-pub record Upto (c s : List ℕ) (j₀ : Judging) (o₀ : Bool) (from : ℕ) (j : Judging) (o : Bool) (out : List ℕ) (at : ℕ) : Type 0 where
+pub record Upto (c s : List ℕ) (j₀ : Run) (o₀ : Bool) (from : ℕ) (j : Run) (o : Bool) (out : List ℕ) (at : ℕ) : Type 0 where
   pub inside : from ≤ length s
   pub within : at ≤ length out
   pub start : from ≡ 0 → at ≡ 0
@@ -35,31 +35,31 @@ pub record Upto (c s : List ℕ) (j₀ : Judging) (o₀ : Bool) (from : ℕ) (j 
   pub opened : (u : List ℕ) → o₀ ≡ is_open u → o ≡ is_open (begun u (take from s))
   pub text : (u : List ℕ) → Judges c u j₀ → take at out ≡ reply_lines c (ended u (take from s))
 
-module _ (c s : List ℕ) (j₀ : Judging) (o₀ : Bool) where
+module _ (c s : List ℕ) (j₀ : Run) (o₀ : Bool) where
   pub upto_none : (out : List ℕ) → Upto c s j₀ o₀ 0 j₀ o₀ out 0
   upto_none out = record { inside = omega arith; within = omega arith; start = λ _. refl; judges = λ u w. w; opened = λ u e. e; text = λ u w. refl }
 
-  module _ (from : ℕ) (j : Judging) (o : Bool) (out : List ℕ) (at : ℕ) (x : Upto c s j₀ o₀ from j o out at) where
+  module _ (from : ℕ) (j : Run) (o : Bool) (out : List ℕ) (at : ℕ) (x : Upto c s j₀ o₀ from j o out at) where
     -- the letters can be counted
-    pub upto_fits : (n e : ℕ) → Counted c (state j₀ o₀) n → length s ≤ n → LineEnd s from e → (k : Counts) → j.loaded ≡ Ok k → j.run.letters + length (line_of s from e) < 2 ^ 64
-    upto_fits n e w h l k z = omega (
+    pub upto_fits : (n e : ℕ) → Counted c (state j₀ o₀) n → length s ≤ n → LineEnd s from e → load_test narrow c ≡ 0 → j.letters + length (line_of s from e) < 2 ^ 64
+    upto_fits n e w h l z = omega (
       arith,
       w.fits,
       line_length s from e l,
       l.most,
       l.low,
-      letters_few c _ j (x.judges w.bytes w.since.judges) k z,
+      letters_few c _ j (x.judges w.bytes w.since.judges) z,
       begun_few w.bytes (take from s),
       length-take from s,
       x.inside,
     )
 
-    pub upto_tests : (n : ℕ) → Counted c (state j₀ o₀) n → Tests c j
-    upto_tests n w = (x.judges w.bytes w.since.judges).tests
+    pub upto_goes : (n : ℕ) → Counted c (state j₀ o₀) n → Goes c j
+    upto_goes n w = judges_goes c _ j (x.judges w.bytes w.since.judges)
 
-    module _ (e : ℕ) (l : LineEnd s from e) (j' : Judging) (m : More c j (line_of s from e) j') where
+    module _ (e : ℕ) (l : LineEnd s from e) (j' : Run) (m : More c j (line_of s from e) j') where
       -- A LINE ENDS: its plan's answer stands behind the text, and the next plan begins.
-      pub upto_line : e < length s → (a : Result Verdict Refusal) → Answers c j' a → (out' : List ℕ) (r : ℕ) → PutLine out at a out' r → at + longest ≤ length out' → (j'' : Judging) → Judges c [] j''
+      pub upto_line : e < length s → (a : Result Verdict Refusal) → Answers c j' a → (out' : List ℕ) (r : ℕ) → PutLine out at a out' r → at + longest ≤ length out' → (j'' : Run) → Judges c [] j''
           → Upto c s j₀ o₀ (e + 1) j'' false out' r
       upto_line h a v out' r p b j'' k = let z : e + 1 ≡ suc e = omega arith in rw z (record {
         inside = omega arith;
@@ -122,7 +122,7 @@ module _ (c s : List ℕ) (j₀ : Judging) (o₀ : Bool) where
 -- ---- the last plan
 
 module _ (c : List ℕ) (st : State) (out' : List ℕ) where
-  pub finishes_open : st.«open» ≡ true → (a : Result Verdict Refusal) → Answers c st.judging a → (out : List ℕ) (r : ℕ) → PutLine out 0 a out' r → longest ≤ length out' → Finishes c st out' r
+  pub finishes_open : st.«open» ≡ true → (a : Result Verdict Refusal) → Answers c st.run a → (out : List ℕ) (r : ℕ) → PutLine out 0 a out' r → longest ≤ length out' → Finishes c st out' r
   finishes_open t a v out r p h = record { within = omega (arith, p.most); text = λ u w. go u w (sym w.opened ∙ t) }
     where
       go : (u : List ℕ) → Since c u st → is_open u ≡ true → take r out' ≡ reply_lines c (last_plan u)

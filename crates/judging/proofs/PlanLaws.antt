@@ -1,4 +1,4 @@
--- The states of judging plan after plan.
+-- Runs of plan after plan on a card that was tested.
 use mathlib.Core.Path.{◌≡◌, refl, sym, ap, subst, ◌∙◌}
 use mathlib.Core.Bool.{true, false}
 use mathlib.Core.Logic.{◌⊎◌, inl, inr}
@@ -9,100 +9,64 @@ use lib.ListN.{length}
 use lib.Dec.{ltb}
 use Rattle.automata.specs.Booleans.{bool_cases}
 use Rattle.automata.specs.Format.{narrow}
-use Rattle.card.specs.Layout.{letters_of}
+use Rattle.card.specs.Layout.{letter_count, state_count, letters_of}
 use Rattle.card.specs.Load.{load_test}
 use Rattle.card.specs.Alphabet.{column}
 use Rattle.card.specs.Answer.{rejected, load}
 use Rattle.card.specs.Judge.{Place, none, found, judge}
 use Rattle.card.specs.Run.{Run, run_start, run_letter, run_on, run_reply}
 use Rattle.run.specs.declared.Run.{Run as Run'}
-use Rattle.std.specs.Prelude.{Result, Ok, Err, IfOk}
-use Rattle.fields.specs.declared.Counts.{Counts}
-use Rattle.loading.specs.declared.Fault.{Fault}
-use Rattle.loading.specs.Faults.{fault_number}
 use Rattle.run.specs.declared.Verdict.{Verdict}
 use Rattle.run.specs.declared.UnknownLetter.{UnknownLetter}
+use Rattle.run.specs.declared.loaded.Card.{Card}
+use Rattle.std.specs.Prelude.{Result, Err}
+use Rattle.loading.specs.declared.Fault.{Fault}
+use Rattle.loading.specs.Faults.{fault_number}
 use Rattle.board.specs.declared.refusals.Refusal.TheVariants.{Card as CardFault}
 use Rattle.run.specs.Reading.{run_of, reply_of}
-use Rattle.run.specs.Walk.{Ready, Underway, OwedTable, Runs}
-use Rattle.run.specs.Pieces.{After, after_piece, after_reply}
+use Rattle.run.specs.Cards.{bytes_of, states_in, ready_of}
+use Rattle.run.specs.Walk.{Runs}
+use Rattle.run.specs.Pieces.{after_piece, after_reply}
 use Rattle.board.proofs.EntryLaws.{refused_judge, rejected_test, rejected_some}
-use Rattle.judging.specs.declared.plan.Judging.{Judging}
-use Rattle.judging.specs.Plan.{Tests, Columns, Owed, Judges, More, Answers}
+use Rattle.judging.specs.Plan.{Goes, Judges, More, Answers}
 
-rejected_loads : (c : List ℕ) (f : Fault) → rejected (fault_number f) ≡ load narrow c → load_test narrow c ≡ 0 → ⊥
-rejected_loads c f e z = rejected_some c (fault_number f) e (sym (rejected_test c (fault_number f) e).0 ∙ z)
+-- ---- a card that loads
 
-not_both : {A : Type 0} (o : Result Counts Fault) (k : Counts) (f : Fault) → o ≡ Ok k → o ≡ Err f → A
-not_both o k f e g = let z : ◌≡◌ {A = Result Counts Fault} (Ok k) (Err f) = sym e ∙ g in cc
+module _ (k : Card) where
+  abbrev c : List ℕ
+  c = bytes_of k
 
-same_counts : (k l : Counts) → ◌≡◌ {A = Result Counts Fault} (Ok k) (Ok l) → k ≡ l
-same_counts k l e = cc
+  abbrev n : ℕ
+  n = state_count narrow c
 
-pub where_ok : (o : Result Counts Fault) (P : Type 0) → ((k : Counts) → o ≡ Ok k → P) → IfOk o (λ _. P)
-where_ok (Ok k) P f = f k refl
-where_ok (Err e) P f = tt
+  counted : (s : Run) (r : Run') → Runs c (states_in k) s r → Runs c n s r
+  counted s r w = subst (λ x. Runs c x s r) (sym (ready_of k).states) w
 
-module _ (c : List ℕ) where
-  abbrev on : Counts → Run' → Judging
-  on k r = record { loaded = Ok k; run = r }
+  pub goes_more : (r : Run') (v : List ℕ) (s : Run') → Runs c (states_in k) (run_on narrow c (run_of r) v) s → More c r v s
+  goes_more r v s w =
+      let y : Runs c n (run_on narrow c (run_of r) v) s = counted (run_on narrow c (run_of r) v) s w in
+      record { goes = record { underway = λ _. y.underway }; judges = λ u a. record { after = λ z. after_piece c n u v r s (a.after z) y } }
 
-  pub tests_ready : (k : Counts) (r : Run') → Ready c k.letters k.states → Underway c k.states r → Tests c (on k r)
-  tests_ready k r y u = record {
-    refused = λ f e. not_both (Ok k) k f refl e;
-    ready = λ l e. subst (λ x. Ready c x.letters x.states) (same_counts k l e) y;
-    underway = λ l e. subst (λ x. Underway c x.states r) (same_counts k l e) u;
-  }
+  pub answers : (r : Run') (a : Result Verdict UnknownLetter) → reply_of a ≡ run_reply narrow c (run_of r) → (u : List ℕ) → Judges c u r → reply_of a ≡ judge narrow c u
+  answers r a w u b = after_reply c n (letter_count narrow c) (record { loads = k.loads; letters = refl; states = refl }) u r a (b.after k.loads) w
 
-  pub tests_refused : (j : Judging) (f : Fault) → j.loaded ≡ Err f → rejected (fault_number f) ≡ load narrow c → Tests c j
-  tests_refused j f e g = record {
-    refused = λ h x. rw (let z : ◌≡◌ {A = Result Counts Fault} (Err h) (Err f) = sym x ∙ e in let y : h ≡ f = cc in y) g;
-    ready = λ k x. not_both j.loaded k f x e;
-    underway = λ k x. not_both j.loaded k f x e;
-  }
+-- ---- a card that is refused
 
-  -- a plan begins
-  pub begins_ready : (k : Counts) (r : Run') → Ready c k.letters k.states → Runs c k.states (run_start narrow c) r → Judges c [] (on k r)
-  begins_ready k r y w = record { tests = tests_ready k r y w.underway; after = λ l e. subst (λ x. Runs c x.states (run_start narrow c) r) (same_counts k l e) w }
+module _ (c : List ℕ) (f : Fault) (e : rejected (fault_number f) ≡ load narrow c) where
+  not_loaded : {A : Type 0} → load_test narrow c ≡ 0 → A
+  not_loaded z = absurd (rejected_some c (fault_number f) e (sym (rejected_test c (fault_number f) e).0 ∙ z))
 
-  pub begins_refused : (j : Judging) (f : Fault) → j.loaded ≡ Err f → rejected (fault_number f) ≡ load narrow c → Judges c [] j
-  begins_refused j f e g = record { tests = tests_refused j f e g; after = λ k x. not_both j.loaded k f x e }
+  pub refused_judges : (u : List ℕ) (r : Run') → Judges c u r
+  refused_judges u r = record { after = λ z. not_loaded z }
 
-  module _ (j : Judging) (t : Tests c j) where
-    pub still_refused : (f : Fault) → j.loaded ≡ Err f → Judges c [] j
-    still_refused f e = begins_refused j f e (t.refused f e)
+  pub refused_more : (r : Run') (v : List ℕ) → More c r v r
+  refused_more r v = record { goes = record { underway = λ z. not_loaded z }; judges = λ u a. refused_judges (u ++ v) r }
 
-    pub more_ready : (k : Counts) (v : List ℕ) (s : Run') → j.loaded ≡ Ok k → Runs c k.states (run_on narrow c (run_of j.run) v) s → More c j v (on k s)
-    more_ready k v s e w = record {
-      tests = tests_ready k s (t.ready k e) w.underway;
-      judges = λ u a. record {
-        tests = tests_ready k s (t.ready k e) w.underway;
-        after = λ l x. subst (λ y. After c y.states (u ++ v) s) (same_counts k l x) (after_piece c k.states u v j.run s (a.after k e) w);
-      };
-    }
+  pub refused_answers : (r : Run') → Answers c r (Err (CardFault f))
+  refused_answers r = record { is = λ u b. refused_judge c u (fault_number f) e }
 
-    pub more_refused : (f : Fault) (v : List ℕ) → j.loaded ≡ Err f → More c j v j
-    more_refused f v e = record { tests = t; judges = λ u a. record { tests = t; after = λ k x. not_both j.loaded k f x e } }
-
-    pub answers_ready : (k : Counts) (a : Result Verdict UnknownLetter) → j.loaded ≡ Ok k → reply_of a ≡ run_reply narrow c (run_of j.run) → (u : List ℕ) → Judges c u j → reply_of a ≡ judge narrow c u
-    answers_ready k a e w u b = after_reply c k.states k.letters (t.ready k e) u j.run a (b.after k e) w
-
-    pub answers_refused : (f : Fault) → j.loaded ≡ Err f → Answers c j (Err (CardFault f))
-    answers_refused f e = record { is = λ u b. refused_judge c u (fault_number f) (t.refused f e) }
-
--- a refused card has no columns
-pub columns_none : (c t : List ℕ) (j : Judging) (f : Fault) → Tests c j → j.loaded ≡ Err f → Columns c t
-columns_none c t j f w e = record { table = λ z. absurd (rejected_loads c f (w.refused f e) z) }
-
--- the letters owed, on a card that loads and on one that does not
-pub owed_table : (c : List ℕ) (m n : ℕ) (t : List ℕ) → Ready c m n → OwedTable c n t → Owed c t
-owed_table c m n t y o = record { table = λ _. rw y.states o }
-
-pub owed_none : (c t : List ℕ) (j : Judging) (f : Fault) → Tests c j → j.loaded ≡ Err f → Owed c t
-owed_none c t j f w e = record { table = λ z. absurd (rejected_loads c f (w.refused f e) z) }
-
-pub owed_ready : (c : List ℕ) (m n : ℕ) (t : List ℕ) → Ready c m n → Owed c t → OwedTable c n t
-owed_ready c m n t y o = rw (← y.states) (o.table y.loads)
+pub judges_goes : (c u : List ℕ) (r : Run') → Judges c u r → Goes c r
+judges_goes c u r w = record { underway = λ z. (w.after z).underway }
 
 -- ---- letters
 
@@ -121,5 +85,5 @@ module _ (c : List ℕ) where
   run_few r [] = omega arith
   run_few r (l ∷ u) = omega (arith, run_few (run_letter narrow c r l) u, letter_few r l)
 
-  pub letters_few : (u : List ℕ) (j : Judging) → Judges c u j → (k : Counts) → j.loaded ≡ Ok k → j.run.letters ≤ length u
-  letters_few u j w k e = omega (arith, ap (λ x. x.letters) (w.after k e).is, run_few (run_start narrow c) u)
+  pub letters_few : (u : List ℕ) (r : Run') → Judges c u r → load_test narrow c ≡ 0 → r.letters ≤ length u
+  letters_few u r w z = omega (arith, ap (λ x. x.letters) (w.after z).is, run_few (run_start narrow c) u)

@@ -13,7 +13,7 @@ is_open (b ∷ u) = true
 
 -- Since the last line end the bytes u have come.
 pub record Since (c u : List ℕ) (s : State) : Type 0 where
-  pub judges : Judges c u s.judging
+  pub judges : Judges c u s.run
   pub opened : s.open ≡ is_open u
 
 -- What has come is some u, and n more bytes of a plan can be counted.

@@ -1,44 +1,39 @@
 -- Judging one plan after another, each in pieces, on a card that was tested once: the answer is that of judging the whole plan.
 use Rattle.std.specs.Prelude.{◌≡◌, Result, Ok, Err, List, ◌++◌, ℕ}
 use Rattle.automata.specs.Format.{narrow}
-use Rattle.card.specs.Layout.{state_count, letters_of}
+use Rattle.card.specs.Layout.{state_count}
 use Rattle.card.specs.Load.{load_test}
 use Rattle.card.specs.Answer.{rejected, load}
 use Rattle.card.specs.Judge.{judge}
-use Rattle.fields.specs.declared.Counts.{Counts}
 use Rattle.loading.specs.declared.Fault.{Fault}
 use Rattle.loading.specs.Faults.{fault_number}
+use Rattle.run.specs.declared.Run.{Run}
 use Rattle.run.specs.declared.Verdict.{Verdict}
+use Rattle.run.specs.declared.judge.Judge.{Judge}
 use Rattle.board.specs.declared.refusals.Refusal.{Refusal}
 use Rattle.board.specs.Answers.{reply_of}
-use Rattle.run.specs.Walk.{Ready, Underway, ColumnTable, OwedTable}
+use Rattle.run.specs.Cards.{bytes_of}
+use Rattle.run.specs.Walk.{Underway}
 use Rattle.run.specs.Pieces.{After}
-use Rattle.judging.specs.declared.plan.Judging.{Judging}
 
--- The card was tested, and the run goes on.
-pub record Tests (c : List ℕ) (j : Judging) : Type 0 where
-  pub refused : (fault : Fault) → j.loaded ≡ Err fault → rejected (fault_number fault) ≡ load narrow c
-  pub ready : (k : Counts) → j.loaded ≡ Ok k → Ready c k.letters k.states
-  pub underway : (k : Counts) → j.loaded ≡ Ok k → Underway c k.states j.run
+-- The card was tested: it is refused, or these are its tables.
+pub record Tests (c : List ℕ) (r : Result Judge Fault) : Type 0 where
+  pub refused : (fault : Fault) → r ≡ Err fault → rejected (fault_number fault) ≡ load narrow c
+  pub accepted : (j : Judge) → r ≡ Ok j → bytes_of j.walker.card ≡ c
 
--- Where the card loads, the table has its columns.
-pub record Columns (c t : List ℕ) : Type 0 where
-  pub table : load_test narrow c ≡ 0 → ColumnTable (letters_of narrow c) t
-
--- Where the card loads, the table has the letters owed from each of its states.
-pub record Owed (c t : List ℕ) : Type 0 where
-  pub table : load_test narrow c ≡ 0 → OwedTable c (state_count narrow c) t
+-- Where the card loads, the run goes on.
+pub record Goes (c : List ℕ) (r : Run) : Type 0 where
+  pub underway : load_test narrow c ≡ 0 → Underway c (state_count narrow c) r
 
 -- Of the plan the letters u have come.
-pub record Judges (c u : List ℕ) (j : Judging) : Type 0 where
-  pub tests : Tests c j
-  pub after : (k : Counts) → j.loaded ≡ Ok k → After c k.states u j.run
+pub record Judges (c u : List ℕ) (r : Run) : Type 0 where
+  pub after : load_test narrow c ≡ 0 → After c (state_count narrow c) u r
 
 -- One piece more.
-pub record More (c : List ℕ) (j : Judging) (piece : List ℕ) (r : Judging) : Type 0 where
-  pub tests : Tests c r
-  pub judges : (u : List ℕ) → Judges c u j → Judges c (u ++ piece) r
+pub record More (c : List ℕ) (r : Run) (piece : List ℕ) (s : Run) : Type 0 where
+  pub goes : Goes c s
+  pub judges : (u : List ℕ) → Judges c u r → Judges c (u ++ piece) s
 
 -- The answer is that of judging the letters that have come.
-pub record Answers (c : List ℕ) (j : Judging) (a : Result Verdict Refusal) : Type 0 where
-  pub is : (u : List ℕ) → Judges c u j → reply_of a ≡ judge narrow c u
+pub record Answers (c : List ℕ) (r : Run) (a : Result Verdict Refusal) : Type 0 where
+  pub is : (u : List ℕ) → Judges c u r → reply_of a ≡ judge narrow c u

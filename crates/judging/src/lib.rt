@@ -5,17 +5,17 @@
 pub mod plan;
 
 ghost use Rattle.std.specs.Prelude.{[], ◌≤◌, length};
-ghost use Rattle.judging.specs.Plan.{Columns, Owed};
 ghost use Rattle.reply.specs.Text.{longest};
 ghost use Rattle.judging.specs.Lines.{Since, Counted, Feeds, Finishes};
 
-use plan::Judging;
+pub use plan::Tested;
 use reply::LONGEST;
+use run::Run;
 
-// Between two pieces: the plan so far, and whether a byte of it has come.
+// Between two pieces: the run of the plan so far, and whether a byte of it has come.
 #[derive(Clone, Copy)]
 pub struct State {
-    pub judging: Judging,
+    pub run: Run,
     pub open: bool,
 }
 
@@ -28,29 +28,19 @@ pub struct Fed {
 }
 
 // Before the first byte.
-pub fn start(card: &[u8]) -> State
-    ensures { Since card.now [] result }
+pub fn start(tested: &Tested) -> State
+    ensures { Since tested.now.bytes.now [] result }
 {
-    let judging = plan::begin(card);
-    State {
-        judging,
-        open: false,
-    }
+    let run = tested.begin();
+    State { run, open: false }
 }
 
 // Takes in bytes while there is room for one answer more.
-pub fn feed(
-    card: &[u8],
-    columns: &[u8; 256],
-    owed: &[u16; 120],
-    state: State,
-    bytes: &[u8],
-    out: &mut [u8],
-) -> Fed
-    requires { Columns card.now columns.now × Counted card.now state (length bytes.now) × (longest ≤ length out.old) × Owed card.now owed.now }
-    ensures { Feeds card.now state bytes.now out.new result }
+pub fn feed(tested: &Tested, state: State, bytes: &[u8], out: &mut [u8]) -> Fed
+    requires { Counted tested.now.bytes.now state (length bytes.now) × (longest ≤ length out.old) }
+    ensures { Feeds tested.now.bytes.now state bytes.now out.new result }
 {
-    let mut judging = state.judging;
+    let mut run = state.run;
     let mut open = state.open;
     let mut at = 0;
     let mut from = 0;
@@ -59,44 +49,41 @@ pub fn feed(
         let room = out.len() - at;
         if room < LONGEST {
             return Fed {
-                state: State { judging, open },
+                state: State { run, open },
                 used: from,
                 at,
             };
         }
         let end = plans::line_end(bytes, from);
-        judging = plan::more(card, columns, judging, &bytes[from..end]);
+        run = tested.more(run, &bytes[from..end]);
         if end == bytes.len() {
             return Fed {
-                state: State {
-                    judging,
-                    open: true,
-                },
+                state: State { run, open: true },
                 used: end,
                 at,
             };
         }
-        at = reply::line(out, at, plan::answer(card, owed, judging));
-        judging = plan::next(card, judging);
+        at = reply::line(out, at, tested.answer(run));
+        run = tested.begin();
         open = false;
         from = end + 1;
     }
     Fed {
-        state: State { judging, open },
+        state: State { run, open },
         used: from,
         at,
     }
 }
 
 // Bytes after the last line end are one more plan.
-pub fn finish(card: &[u8], owed: &[u16; 120], state: State, out: &mut [u8]) -> usize
-    requires { Counted card.now state 0 × (longest ≤ length out.old) × Owed card.now owed.now }
-    ensures { Finishes card.now state out.new result }
+pub fn finish(tested: &Tested, state: State, out: &mut [u8]) -> usize
+    requires { Counted tested.now.bytes.now state 0 × (longest ≤ length out.old) }
+    ensures { Finishes tested.now.bytes.now state out.new result }
 {
-    let judging = state.judging;
+    let run = state.run;
     let open = state.open;
     if open {
-        return reply::line(out, 0, plan::answer(card, owed, judging));
+        return reply::line(out, 0, tested.answer(run));
     }
     0
 }

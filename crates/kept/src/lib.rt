@@ -21,6 +21,7 @@ pub enum Place {
 }
 
 // Copies the slot in front of one buffer to a place of another.
+// Stays: it copies all of a slot, whatever it holds; `operands::copies::copy` goes as far as a machine, and asks its callers for one.
 fn copy(from: &[u8], to: &mut [u8], at: usize)
     requires in_bounds { 3362 ≤ length from.now }
     requires at_in_bounds { at + 3362 ≤ length to.old }

@@ -1,24 +1,20 @@
--- A round of partition refinement over a table, as code keeps it in one list of numbers: the class of each state (a state of it, its leader), the class after the
--- round, and the leaders of each class linked from the latest to the first. What holds of these arrays when the states below m have been placed.
-use Rattle.std.specs.Prelude.{◌≡◌, Bool, true, false, ◌≢◌, List, ℕ, zero, ◌+◌, ◌≤◌, ◌<◌, length, get_or, take}
+-- A round of partition refinement over a table, as code keeps it in three lists of numbers: the class of each state (a state of it, its leader), the class after the
+-- round, and the leaders of each class linked from the latest to the first. What holds of these lists when the states below m have been placed.
+use Rattle.std.specs.Prelude.{◌≡◌, Bool, true, false, ◌≢◌, List, ℕ, ◌≤◌, ◌<◌, length, Option, Some, None}
 use Rattle.automata.specs.Machine.{Machine, automaton}
 use Rattle.automata.specs.Refinement.{SameSignature}
 use Rattle.entries.specs.declared.table.Table.{Table}
 use Rattle.entries.specs.Entries.{class_of, machine_of}
-use Rattle.entries.specs.Classes.{next, Led, Told}
+use Rattle.entries.specs.Classes.{Led, Told, Sized}
 
 -- An answer says whether P holds.
 pub record Says (r : Bool) (P : Type 0) : Type 0 where
   pub yes : r ≡ true → P
   pub no : r ≡ false → P → ⊥
 
--- The third array: the links.
-abbrev pub link : ℕ → List ℕ → ℕ → ℕ
-link n w p = get_or w (n + (n + p)) zero
-
 -- Two states of a table are to be compared by the classes that their columns lead to.
-pub record Compared (T : Table) (p q : ℕ) (w : List ℕ) : Type 0 where
-  pub room : T.states ≤ length w
+pub record Compared (T : Table) (p q : ℕ) (classes : List ℕ) : Type 0 where
+  pub long : length classes ≡ T.states
   pub one : p < T.states
   pub other : q < T.states
 
@@ -50,24 +46,29 @@ pub record Linked (f g l : ℕ → ℕ) (m : ℕ) : Type 0 where
   pub head : (p : ℕ) → p < m → f p ≡ p → Latest f g p (l p) m
   pub inner : (p : ℕ) → p < m → g p ≡ p → f p ≢ p → Latest f g (f p) (l p) p
 
--- the arrays of w when the states below m are placed
-pub record Partial (k n : ℕ) (M : Machine) (cls w : List ℕ) (m : ℕ) : Type 0 where
-  pub kept : take n w ≡ cls
-  pub led : Led n (class_of cls)
-  pub placed : Placed k M (class_of cls) (next n w) m
-  pub linked : Linked (class_of cls) (next n w) (link n w) m
+-- the lists of a round when the states below m are placed
+pub record Partial (k n : ℕ) (M : Machine) (classes next links : List ℕ) (m : ℕ) : Type 0 where
+  pub led : Led n (class_of classes)
+  pub placed : Placed k M (class_of classes) (class_of next) m
+  pub linked : Linked (class_of classes) (class_of next) (class_of links) m
 
--- A table, its arrays with the classes that a round begins with, and a state that is not yet placed, but all before it are.
-pub record Under (T : Table) (p : ℕ) (w : List ℕ) : Type 0 where
-  pub room : T.states + (T.states + T.states) ≤ length w
-  pub few : T.states < 65536
+-- A table, the lists of a round over it, and a state that is not yet placed, but all before it are.
+pub record Under (T : Table) (p : ℕ) (classes next links : List ℕ) : Type 0 where
+  pub sized : Sized T classes next links
   pub inside : p < T.states
-  pub told : Told T.states (machine_of T) (class_of (take T.states w))
-  pub partial : Partial T.columns T.states (machine_of T) (take T.states w) w p
+  pub told : Told T.states (machine_of T) (class_of classes)
+  pub partial : Partial T.columns T.states (machine_of T) classes next links p
 
--- r is the leader that p goes with: an earlier one, or p itself where the round keeps no earlier leader together with p
-pub record Leads (k : ℕ) (M : Machine) (f g : ℕ → ℕ) (p r : ℕ) : Type 0 where
-  pub low : r ≤ p
-  pub sound : Together k M f r p
-  pub leads : r < p → g r ≡ r
-  pub none : r ≡ p → (s : ℕ) → s < p → g s ≡ s → Together k M f s p → ⊥
+-- The same for some classes after the round.
+pub record Underway (T : Table) (p : ℕ) (classes links : List ℕ) : Type 0 where
+  pub next : List ℕ
+  pub under : Under T p classes next links
+
+-- The leader that p goes with is r, an earlier one; or the round keeps no earlier leader together with p.
+abbrev pub Leads : ℕ → Machine → (ℕ → ℕ) → (ℕ → ℕ) → ℕ → Option ℕ → Type 0
+Leads k M f g p (Some r) = (r < p) × (g r ≡ r) × Together k M f r p
+Leads k M f g p None = (s : ℕ) → s < p → g s ≡ s → Together k M f s p → ⊥
+
+-- The same for each choice of classes after the round that the links go with.
+abbrev pub LedBy : Table → ℕ → List ℕ → List ℕ → Option ℕ → Type 0
+LedBy T p classes links r = (next : List ℕ) → Under T p classes next links → Leads T.columns (machine_of T) (class_of classes) (class_of next) p r

@@ -36,8 +36,11 @@ use Rattle.line.specs.Line.{Program, Runs, Drafted, FormSays, CompilesForm, IsFo
 use Rattle.progress.specs.Progress.{Behind, tell_of, tell_code}
 use Rattle.progress.specs.declared.Book.{Book}
 use Rattle.progress.specs.declared.Read.{Read}
-use Rattle.compiler.specs.declared.Refusal.{Refusal}
+use Rattle.compiler.specs.Refusals.{reason_number}
+use Rattle.compiler.specs.declared.LineRefusal.{LineRefusal}
+use Rattle.compiler.specs.declared.Reason.TheVariants.{NotRead}
 use Rattle.line.proofs.RunLaws.{layout, stages_made, stages_stopped}
+use Rattle.answers.specs.declared.Scratch.{Scratch}
 
 -- The peak of two rows of stages is the greater of their peaks.
 most_append : (cs ds : List ℕ) → most (cs ++ ds) ≡ max (most cs) (most ds)
@@ -78,7 +81,7 @@ module _ (ls : List ℕ) (d : Draft) (b : Book) (low high registers : List ℕ) 
   )
 
   -- a form whose stages stop
-  form_off : (F : Form) (next : ℕ) (n : Refusal) (low' high' registers' : List ℕ) → line_made narrow ls d.env d.kept F ≡ refused n.number → n.line ≡ b.line
+  form_off : (F : Form) (next : ℕ) (n : LineRefusal) (low' high' registers' : List ℕ) → line_made narrow ls d.env d.kept F ≡ refused (reason_number n.reason) → n.line ≡ b.line
       → FormSays ls d F b next low' high' registers' (Err n)
   unfolding compile_form
   form_off (define x e) next n low' high' registers' q l = (ap (λ r. on_made r (λ counts M. on (record { env = (x, M) ∷ d.env; counts = d.counts ++ counts; kept = d.kept }))) q, l)
@@ -94,7 +97,7 @@ module _ (ls : List ℕ) (b : Book) (next len : ℕ) (code low high registers re
         (stages_made ls len code low high registers registers' stack r E d.env d.kept F D.stored P p e) K U;
   }
 
-  form_stops : (pl : Place) (k : Failure) → r ≡ Err k → (n : Refusal) (low' high' registers'' : List ℕ) → n.number ≡ number_of k → n.line ≡ b.line
+  form_stops : (pl : Place) (k : Failure) → r ≡ Err k → (n : LineRefusal) (low' high' registers'' : List ℕ) → reason_number n.reason ≡ number_of k → n.line ≡ b.line
       → CompilesForm ls b next len code low high registers low' high' registers'' (IsForm pl) (Err n)
   form_stops pl k e n low' high' registers'' z l = record {
     says = λ d F i D P.
@@ -104,7 +107,7 @@ module _ (ls : List ℕ) (b : Book) (next len : ℕ) (code low high registers re
 
 -- a form whose program was run
 pub form_run : (ls : List ℕ) (b : Book) (code low high registers registers' stack : List ℕ) (r : Result ℕ Failure) (t : Read) → Evaluates layout ls low high (take t.len code) registers registers' stack r
-    → length ls ≤ 26 → (n : Result Book Refusal) (low' high' registers'' : List ℕ) → Finishes t b stack low high registers' low' high' registers'' n r
+    → length ls ≤ 26 → (n : Result Book LineRefusal) (low' high' registers'' : List ℕ) → Finishes t b stack low high registers' low' high' registers'' n r
     → CompilesForm ls b t.next t.len code low high registers low' high' registers'' (IsForm t.place) n
 form_run ls b code low high registers registers' stack r t E few n low' high' registers'' F = go r refl F
   where
@@ -118,7 +121,7 @@ form_run ls b code low high registers registers' stack r t E few n low' high' re
         (form_stops ls b t.next t.len code low high registers registers' stack r E t.place k e m low' high' registers'' z l)
 
 -- what keeping the machine asks of the buffers behind the run
-pub kept_asks : {text ls : List ℕ} {b : Book} {low high registers stack rows table work code : List ℕ} → Going text ls b low high registers stack rows table work code
+pub kept_asks : {text ls : List ℕ} {b : Book} {low high registers stack : List ℕ} {scratch : Scratch} {code : List ℕ} → Going text ls b low high registers stack scratch code
     → (registers' stack' : List ℕ) → length registers' ≡ length registers → length stack' ≡ length stack → (3362 ≤ length stack') × Shelves low high registers'
 kept_asks G registers' stack' e f =
     (omega (arith, G.room.stack, f), record { low = G.room.low; high = G.room.high; registers = omega (arith, G.room.registers, e) })
@@ -154,7 +157,7 @@ module _ (text ls : List ℕ) (b : Book) {o₀ : List ℕ} (o : List ℕ) (a : R
   ruled len next e = subst (answers.NextSays line R.end ls b.names o₀ o) e R.says
 
   -- a form compiled is its line compiled
-  goes : (F : Form) (d : Draft) (next len : ℕ) (low high registers low' high' registers' : List ℕ) (r : Result Book Refusal) → answers.Written line ls b.names o₀ o len F → next ≡ suc R.end
+  goes : (F : Form) (d : Draft) (next len : ℕ) (low high registers low' high' registers' : List ℕ) (r : Result Book LineRefusal) → answers.Written line ls b.names o₀ o len F → next ≡ suc R.end
       → Drafted ls d b low high registers → FormSays ls d F b next low' high' registers' r → LineSays text ls d b R.end low' high' registers' r
   unfolding compile_line
   goes F d next len low high registers low' high' registers' (Ok r) W n D (d', q, D', at, ln) =
@@ -162,7 +165,7 @@ module _ (text ls : List ℕ) (b : Book) {o₀ : List ℕ} (o : List ℕ) (a : R
   goes F d next len low high registers low' high' registers' (Err r) W n D (q, l) =
       (ap (λ x. after_read x (compile_form narrow ls d)) (W.reads_as.is (names_of d.env) D.names) ∙ q, l)
 
-  line_defined : (x len next : ℕ) (low high registers low' high' registers' : List ℕ) (r : Result Book Refusal) → a ≡ Ok (record { code = form_code.Define x len; next = next })
+  line_defined : (x len next : ℕ) (low high registers low' high' registers' : List ℕ) (r : Result Book LineRefusal) → a ≡ Ok (record { code = form_code.Define x len; next = next })
       → CompilesForm ls b next len o low high registers low' high' registers' (IsForm (place.Name x)) r → CompilesLine text ls b low high registers low' high' registers' r
   line_defined x len next low high registers low' high' registers' r e C = record {
     end = R.end;
@@ -173,7 +176,7 @@ module _ (text ls : List ℕ) (b : Book) {o₀ : List ℕ} (o : List ℕ) (a : R
         (C.says d (define x w.body) (w.body, refl) D (written_program line ls b o len (define x w.body) d D.names w.written));
   }
 
-  line_ruled : (len next : ℕ) (low high registers low' high' registers' : List ℕ) (r : Result Book Refusal) → a ≡ Ok (record { code = form_code.Rule len; next = next })
+  line_ruled : (len next : ℕ) (low high registers low' high' registers' : List ℕ) (r : Result Book LineRefusal) → a ≡ Ok (record { code = form_code.Rule len; next = next })
       → CompilesForm ls b next len o low high registers low' high' registers' (IsForm place.Book) r → CompilesLine text ls b low high registers low' high' registers' r
   line_ruled len next low high registers low' high' registers' r e C = record {
     end = R.end;
@@ -184,7 +187,7 @@ module _ (text ls : List ℕ) (b : Book) {o₀ : List ℕ} (o : List ℕ) (a : R
         (C.says d (rule w.kind w.pattern w.contexts) (w.kind, w.pattern, w.contexts, refl) D (written_program line ls b o len (rule w.kind w.pattern w.contexts) d D.names w.written));
   }
 
-  line_stops : (k : refused_line.Refusal) (n : Refusal) (low high registers low' high' registers' : List ℕ) → a ≡ Err k → n.number ≡ refusal_number k → n.line ≡ b.line
+  line_stops : (k : refused_line.Refusal) (n : LineRefusal) (low high registers low' high' registers' : List ℕ) → a ≡ Err k → reason_number n.reason ≡ refusal_number k → n.line ≡ b.line
       → CompilesLine text ls b low high registers low' high' registers' (Err n)
   unfolding compile_line
   line_stops k n low high registers low' high' registers' e z l = record {
@@ -196,9 +199,9 @@ module _ (text ls : List ℕ) (b : Book) {o₀ : List ℕ} (o : List ℕ) (a : R
   }
 
   -- the program of a line that was read, over the machines so far
-  runs_define : (x len next : ℕ) (low high registers stack rows table work code : List ℕ) → a ≡ Ok (record { code = form_code.Define x len; next = next }) → Going text ls b low high registers stack rows table work code
-      → Runs ls len o low high registers stack rows table work
-  runs_define x len next low high registers stack rows table work code e G =
+  runs_define : (x len next : ℕ) (low high registers stack : List ℕ) (scratch : Scratch) (code : List ℕ) → a ≡ Ok (record { code = form_code.Define x len; next = next }) → Going text ls b low high registers stack scratch code
+      → Runs ls len o low high registers stack scratch
+  runs_define x len next low high registers stack scratch code e G =
       let (w, n) = named x len next e in
       record {
         env = G.draft.env;
@@ -210,9 +213,9 @@ module _ (text ls : List ℕ) (b : Book) {o₀ : List ℕ} (o : List ℕ) (a : R
         room = G.room;
       }
 
-  runs_rule : (len next : ℕ) (low high registers stack rows table work code : List ℕ) → a ≡ Ok (record { code = form_code.Rule len; next = next }) → Going text ls b low high registers stack rows table work code
-      → Runs ls len o low high registers stack rows table work
-  runs_rule len next low high registers stack rows table work code e G =
+  runs_rule : (len next : ℕ) (low high registers stack : List ℕ) (scratch : Scratch) (code : List ℕ) → a ≡ Ok (record { code = form_code.Rule len; next = next }) → Going text ls b low high registers stack scratch code
+      → Runs ls len o low high registers stack scratch
+  runs_rule len next low high registers stack scratch code e G =
       let (w, n) = ruled len next e in
       record {
         env = G.draft.env;
@@ -227,20 +230,20 @@ module _ (text ls : List ℕ) (b : Book) {o₀ : List ℕ} (o : List ℕ) (a : R
   -- ---- by what the reader says of the line
 
   -- the program of a line that was read, over the machines so far
-  pub told_runs : (v : Read) → tell_of a b.line ≡ Ok v → (low high registers stack rows table work code : List ℕ) → Going text ls b low high registers stack rows table work code
-      → Runs ls v.len o low high registers stack rows table work × (Right v.place × (b.line < 65536))
-  told_runs v i low high registers stack rows table work code G = IfOk-at_ok (λ v. Runs ls v.len o low high registers stack rows table work × (Right v.place × (b.line < 65536))) i (go a refl)
+  pub told_runs : (v : Read) → tell_of a b.line ≡ Ok v → (low high registers stack : List ℕ) (scratch : Scratch) (code : List ℕ) → Going text ls b low high registers stack scratch code
+      → Runs ls v.len o low high registers stack scratch × (Right v.place × (b.line < 65536))
+  told_runs v i low high registers stack scratch code G = IfOk-at_ok (λ v. Runs ls v.len o low high registers stack scratch × (Right v.place × (b.line < 65536))) i (go a refl)
     where
       on_code : (x : Code) (next : ℕ) → a ≡ Ok (record { code = x; next = next })
-          → Runs ls (tell_code x next).len o low high registers stack rows table work × (Right (tell_code x next).place × (b.line < 65536))
-      on_code (form_code.Define x len) next e = (runs_define x len next low high registers stack rows table work code e G, ((named x len next e).0.named, G.line))
-      on_code (form_code.Rule len) next e = (runs_rule len next low high registers stack rows table work code e G, (tt, G.line))
+          → Runs ls (tell_code x next).len o low high registers stack scratch × (Right (tell_code x next).place × (b.line < 65536))
+      on_code (form_code.Define x len) next e = (runs_define x len next low high registers stack scratch code e G, ((named x len next e).0.named, G.line))
+      on_code (form_code.Rule len) next e = (runs_rule len next low high registers stack scratch code e G, (tt, G.line))
 
-      go : (q : Result read_line_of.Line refused_line.Refusal) → a ≡ q → IfOk (tell_of q b.line) (λ v. Runs ls v.len o low high registers stack rows table work × (Right v.place × (b.line < 65536)))
+      go : (q : Result read_line_of.Line refused_line.Refusal) → a ≡ q → IfOk (tell_of q b.line) (λ v. Runs ls v.len o low high registers stack scratch × (Right v.place × (b.line < 65536)))
       go (Ok n) e = on_code n.code n.next e
       go (Err k) e = tt
 
-  pub told_line : (v : Read) → tell_of a b.line ≡ Ok v → (low high registers low' high' registers' : List ℕ) (r : Result Book Refusal)
+  pub told_line : (v : Read) → tell_of a b.line ≡ Ok v → (low high registers low' high' registers' : List ℕ) (r : Result Book LineRefusal)
       → CompilesForm ls b v.next v.len o low high registers low' high' registers' (IsForm v.place) r → CompilesLine text ls b low high registers low' high' registers' r
   told_line v i low high registers low' high' registers' r =
       IfOk-at_ok (λ v. CompilesForm ls b v.next v.len o low high registers low' high' registers' (IsForm v.place) r → CompilesLine text ls b low high registers low' high' registers' r) i (go a refl)
@@ -254,10 +257,10 @@ module _ (text ls : List ℕ) (b : Book) {o₀ : List ℕ} (o : List ℕ) (a : R
       go (Ok n) e = λ C. on_code n.code n.next e C
       go (Err k) e = tt
 
-  pub told_off : (n : Refusal) → tell_of a b.line ≡ Err n → (low high registers low' high' registers' : List ℕ) → CompilesLine text ls b low high registers low' high' registers' (Err n)
+  pub told_off : (n : LineRefusal) → tell_of a b.line ≡ Err n → (low high registers low' high' registers' : List ℕ) → CompilesLine text ls b low high registers low' high' registers' (Err n)
   told_off n i low high registers low' high' registers' =
       IfErr-at_err (λ n. CompilesLine text ls b low high registers low' high' registers' (Err n)) i (go a refl)
     where
       go : (q : Result read_line_of.Line refused_line.Refusal) → a ≡ q → IfErr (tell_of q b.line) (λ n. CompilesLine text ls b low high registers low' high' registers' (Err n))
       go (Ok n) e = tt
-      go (Err k) e = line_stops k (record { number = refusal_number k; line = b.line }) low high registers low' high' registers' e refl refl
+      go (Err k) e = line_stops k (record { reason = NotRead k; line = b.line }) low high registers low' high' registers' e refl refl

@@ -11,11 +11,15 @@ use Rattle.automata.specs.Format.{narrow}
 use Rattle.automata.specs.Basics.{nat_test}
 use Rattle.automata.specs.Booleans.{and_left, and_right}
 use Rattle.automata.specs.Machine.{Machine}
-use Rattle.automata.specs.Stage.{made, refused}
+use Rattle.automata.specs.Stage.{Made, made, refused, after, StageResult, kept_one, too_many_sets, too_many_states}
+use Rattle.automata.specs.Automaton.{Automaton}
+use Rattle.automata.proofs.Exactly.{then_exactly}
 use Rattle.automata.specs.Stages.{Pairing, either, both, without}
 use Rattle.language.specs.Restriction.{RuleKind, restricts, forbids, obliges}
 use Rattle.language.specs.Evaluate.{pattern_of}
 use Rattle.language.proofs.RuleLaws.{pattern_known}
+use Rattle.language.proofs.Makes.{makes_exactly, rule_exactly, pairs_exactly}
+use Rattle.language.specs.Stagewise.{Stagewise, then_holds, expression_holds, rule_holds}
 use Rattle.language.specs.Expression.{Expr, letter, name, dot, empty, pair, join, star, plus, option, complement, member}
 use Rattle.language.specs.Environment.{names_of, known, all_known}
 use Rattle.book.specs.Kind.{kind_of, is_letter, is_name}
@@ -33,7 +37,8 @@ use Rattle.operands.specs.declared.Layout.{Layout}
 use Rattle.evaluate.specs.Steps.{number_of}
 use Rattle.evaluate.specs.declared.run.Failure.{Failure}
 use Rattle.kept.specs.Stored.{InSlot, Registers, Stored}
-use Rattle.line.specs.Line.{Program, Runs}
+use Rattle.line.specs.Line.{Program, Runs, NotStuck}
+use Rattle.answers.specs.declared.Scratch.{Scratch}
 
 -- ---- the names of a program are known
 
@@ -121,6 +126,31 @@ formed ls ns (define x e) k = tt
 formed ls ns (rule kind p cs) k = tt
 formed ls ns malformed k = absurd k
 
+-- ---- a stage that stops has a number
+
+abbrev Numbered : Made → Type 0
+Numbered (made counts M) = Unit {0}
+Numbered (refused r) = 1 ≤ r
+
+numbered : Stagewise narrow Numbered
+numbered = record { here = λ M. tt; staged = λ k A r s. staged k A r s; behind = behind }
+  where
+    staged : {S : Type 0} (k : ℕ) (A : Automaton S) (r : Made) → StageResult narrow k A r → Numbered r
+    staged k A r (kept_one n M C h s b) = tt
+    staged k A r (too_many_sets c) = omega arith
+    staged k A r (too_many_states n M C h s b) = omega arith
+
+    behind : (counts : List ℕ) (M : Machine) (r : Made) → Numbered (made counts M) → Numbered r → Numbered (after counts r)
+    behind counts M (made more N) m n = tt
+    behind counts M (refused r) m n = n
+
+line_numbered : (ls : List ℕ) (env : List (ℕ × Machine)) (kept : Machine) (F : Form) → Formed F → FormHeld 17 F → Numbered (line_made narrow ls env kept F)
+line_numbered ls env kept (define x e) t h = expression_holds narrow Numbered numbered ls env e _ (makes_exactly narrow ls env e).right
+line_numbered ls env kept (rule kind p cs) t (h, k, enough) =
+    then_holds narrow Numbered numbered _ _ (rule_holds narrow Numbered numbered ls env kind p cs) (λ R. numbered.staged _ _) _
+    (then_exactly _ _ _ _ (rule_exactly narrow ls env kind p cs enough) (λ R. pairs_exactly narrow (suc (length ls)) both kept R)).right
+line_numbered ls env kept malformed t h = absurd t
+
 -- ---- the run
 
 -- the limits of 01, and the bytes of a slot
@@ -142,8 +172,8 @@ module _ (ls : List ℕ) (len : ℕ) (code low high registers : List ℕ) where
   all_stood env kept F S P i h t = (S.names (get_or (take len code) i 0) t (member_at env F P i h t)).machine
 
   -- what the run asks
-  pub running : {stack rows table work : List ℕ} → Runs ls len code low high registers stack rows table work → Running layout ls low high registers (take len code) stack rows table work
-  running {stack} {rows} {table} {work} R = record {
+  pub running : {stack : List ℕ} {scratch : Scratch} → Runs ls len code low high registers stack scratch → Running layout ls low high registers (take len code) stack scratch
+  running {stack} {scratch} R = record {
     shelves = record {
       states = omega arith;
       letters = R.letters.0;
@@ -167,7 +197,7 @@ module _ (ls : List ℕ) (len : ℕ) (code low high registers : List ℕ) where
     names = λ i h t. (R.stored.names (get_or (take len code) i 0) t (member_at R.env R.form R.program i h t)).slot;
   }
 
-  pub one_machine : {stack rows table work : List ℕ} → Runs ls len code low high registers stack rows table work → height_of 0 (take len code) ≡ 1
+  pub one_machine : {stack : List ℕ} {scratch : Scratch} → Runs ls len code low high registers stack scratch → height_of 0 (take len code) ≡ 1
   one_machine R = ap (height_of 0) R.program.code ∙ program_height 17 R.form (formed ls (names_of R.env) R.form R.program.known) R.program.held
 
   module _ (registers' stack : List ℕ) (r : Result ℕ Failure) (E : Evaluates layout ls low high (take len code) registers registers' stack r) where
@@ -194,3 +224,14 @@ module _ (ls : List ℕ) (len : ℕ) (code low high registers : List ℕ) where
 
       pub stages_stopped : (n : Failure) → r ≡ Err n → line_made narrow ls env kept F ≡ refused (number_of n)
       stages_stopped n e = subst (λ r. Answered layout m stack r (line_made narrow ls env kept F)) e answered
+
+      -- it runs to its end, unless a stage stops it
+      pub never_stuck : NotStuck r
+      never_stuck = go r refl
+        where
+          go : (q : Result ℕ Failure) → r ≡ q → NotStuck q
+          go (Ok p) e = tt
+          go (Err k) e = λ z.
+              let n : 1 ≤ number_of k = subst Numbered (stages_stopped k e) (line_numbered ls env kept F (formed ls (names_of env) F P.known) P.held) in
+              let o : number_of k ≡ 0 = ap number_of z in
+              omega (arith, n, o)

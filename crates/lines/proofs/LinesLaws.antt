@@ -13,10 +13,13 @@ use Rattle.kept.specs.Stored.{Begins}
 use Rattle.progress.specs.Progress.{Starts}
 use Rattle.line.specs.Line.{Drafted, Going, LineSays, CompilesLine}
 use Rattle.progress.specs.declared.Book.{Book}
-use Rattle.compiler.specs.declared.Refusal.{Refusal}
+use Rattle.compiler.specs.Refusals.{reason_number}
+use Rattle.compiler.specs.declared.LineRefusal.{LineRefusal}
 use Rattle.std.specs.Prelude.{Result, Ok, Err}
 use Rattle.compiler.specs.Rest.{lines_from, Placed}
 use Rattle.lines.specs.Lines.{Lent, CompilesLines}
+use Rattle.answers.specs.declared.Scratch.{Scratch}
+use Rattle.answers.specs.Scratch.{SameRoom}
 
 -- The lines before the book's place are compiled: what is left of the lines, with the draft that the buffers hold, gives what all the lines give.
 pub record Reached (text ls : List ℕ) (next : ℕ) (b : Book) (low high registers : List ℕ) : Type 0 where
@@ -27,14 +30,12 @@ pub record Reached (text ls : List ℕ) (next : ℕ) (b : Book) (low high regist
   pub line : b.line ≤ b.at + 2
 
 -- the lengths of the buffers stay
-pub record Lengths (low₀ high₀ registers₀ stack₀ rows₀ table₀ work₀ code₀ low high registers stack rows table work code : List ℕ) : Type 0 where
+pub record Lengths (low₀ high₀ registers₀ stack₀ : List ℕ) (scratch₀ : Scratch) (code₀ low high registers stack : List ℕ) (scratch : Scratch) (code : List ℕ) : Type 0 where
   pub low≡ : length low ≡ length low₀
   pub high≡ : length high ≡ length high₀
   pub registers≡ : length registers ≡ length registers₀
   pub stack≡ : length stack ≡ length stack₀
-  pub rows≡ : length rows ≡ length rows₀
-  pub table≡ : length table ≡ length table₀
-  pub work≡ : length work ≡ length work₀
+  pub scratch≡ : SameRoom scratch₀ scratch
   pub code≡ : length code ≡ length code₀
 
 -- The book starts as `.*`, without a name.
@@ -49,7 +50,7 @@ reached_start text ls next b low high registers P H S = record {
 }
 
 module _ (text ls : List ℕ) (next : ℕ) (b : Book) (low high registers : List ℕ) (R : Reached text ls next b low high registers) where
-  module _ (low' high' registers' : List ℕ) (r : Result Book Refusal) (C : CompilesLine text ls b low high registers low' high' registers' r) (h : b.at < length text) where
+  module _ (low' high' registers' : List ℕ) (r : Result Book LineRefusal) (C : CompilesLine text ls b low high registers low' high' registers' r) (h : b.at < length text) where
     -- the next line in front
     first : (x : LineResult) → compile_line narrow ls R.draft (line_at text b.at C.end) ≡ x
         → lines_from narrow text ls next ≡ after_line x (λ d. compile_lines narrow ls (lines_of (drop (suc C.end) text)) (suc b.line) d) (λ r. stopped r b.line)
@@ -58,7 +59,7 @@ module _ (text ls : List ℕ) (next : ℕ) (b : Book) (low high registers : List
         R.says ∙ ap (λ l. compile_lines narrow ls l b.line R.draft) (C.ends.lines h)
         ∙ ap (λ x. after_line x (λ d. compile_lines narrow ls (lines_of (drop (suc C.end) text)) (suc b.line) d) (λ r. stopped r b.line)) e
 
-    said : (q : Result Book Refusal) → r ≡ q → LineSays text ls R.draft b C.end low' high' registers' q
+    said : (q : Result Book LineRefusal) → r ≡ q → LineSays text ls R.draft b C.end low' high' registers' q
     said q e = subst (LineSays text ls R.draft b C.end low' high' registers') e (C.says R.draft R.drafted)
 
     -- the next line's place is further on
@@ -76,8 +77,8 @@ module _ (text ls : List ℕ) (next : ℕ) (b : Book) (low high registers : List
           omega (arith, at, g),
         )
 
-    pub lines_off : (n : Refusal) → r ≡ Err n → CompilesLines text ls next registers' (Err n)
-    lines_off n q = let (f, l) = said (Err n) q in record { says = first (off n.number) f ∙ ap (stopped n.number) (sym l) }
+    pub lines_off : (n : LineRefusal) → r ≡ Err n → CompilesLines text ls next registers' (Err n)
+    lines_off n q = let (f, l) = said (Err n) q in record { says = first (off (reason_number n.reason)) f ∙ ap (stopped (reason_number n.reason)) (sym l) }
 
   module _ (h : length text ≤ b.at) where
     at_end : lines_from narrow text ls next ≡ done ls R.draft
@@ -88,8 +89,8 @@ module _ (text ls : List ℕ) (next : ℕ) (b : Book) (low high registers : List
     lines_end = record { says = (R.draft, at_end, R.drafted.peak, R.drafted.stored.registers.book) }
 
 -- the buffers behind the start
-pub lent_begun : {low high registers registers' stack stack' rows table work code : List ℕ} → Lent low high registers stack rows table work code → length registers' ≡ length registers
-    → length stack' ≡ length stack → Lent low high registers' stack' rows table work code
+pub lent_begun : {low high registers registers' stack stack' : List ℕ} {scratch : Scratch} {code : List ℕ} → Lent low high registers stack scratch code → length registers' ≡ length registers
+    → length stack' ≡ length stack → Lent low high registers' stack' scratch code
 lent_begun L e f = record {
   room = record {
     low = L.room.low;
@@ -104,10 +105,10 @@ lent_begun L e f = record {
 }
 
 -- The book and the buffers are ready for the line at the book's place.
-pub going : (text ls : List ℕ) (next : ℕ) (b : Book) (low₀ high₀ registers₀ stack₀ rows₀ table₀ work₀ code₀ low high registers stack rows table work code : List ℕ)
-    → Placed text ls next → Lent low₀ high₀ registers₀ stack₀ rows₀ table₀ work₀ code₀ → Lengths low₀ high₀ registers₀ stack₀ rows₀ table₀ work₀ code₀ low high registers stack rows table work code
-    → Reached text ls next b low high registers × (b.at < length text) → Going text ls b low high registers stack rows table work code
-going text ls next b low₀ high₀ registers₀ stack₀ rows₀ table₀ work₀ code₀ low high registers stack rows table work code P G L (R, h) = record {
+pub going : (text ls : List ℕ) (next : ℕ) (b : Book) (low₀ high₀ registers₀ stack₀ : List ℕ) (scratch₀ : Scratch) (code₀ low high registers stack : List ℕ) (scratch : Scratch) (code : List ℕ)
+    → Placed text ls next → Lent low₀ high₀ registers₀ stack₀ scratch₀ code₀ → Lengths low₀ high₀ registers₀ stack₀ scratch₀ code₀ low high registers stack scratch code
+    → Reached text ls next b low high registers × (b.at < length text) → Going text ls b low high registers stack scratch code
+going text ls next b low₀ high₀ registers₀ stack₀ scratch₀ code₀ low high registers stack scratch code P G L (R, h) = record {
   draft = R.draft;
   drafted = R.drafted;
   letters = (P.some (omega (arith, h)), P.few);
@@ -117,9 +118,9 @@ going text ls next b low₀ high₀ registers₀ stack₀ rows₀ table₀ work�
     high = omega (arith, G.room.high, L.high≡);
     registers = omega (arith, G.room.registers, L.registers≡);
     stack = omega (arith, G.room.stack, L.stack≡);
-    rows = omega (arith, G.room.rows, L.rows≡);
-    table = omega (arith, G.room.table, L.table≡);
-    work = omega (arith, G.room.work, L.work≡);
+    rows = omega (arith, G.room.rows, L.scratch≡.0);
+    table = omega (arith, G.room.table, L.scratch≡.1);
+    work = omega (arith, G.room.work, L.scratch≡.2);
   };
   long = omega (arith, G.long, L.code≡, P.short);
 }

@@ -10,7 +10,7 @@ use native.Mathlib.Omega.{arith}
 use lib.ListN.{length, get_or, set, length-set}
 use lib.Seq.{get_or-set_same, get_or-set_other}
 use lib.Dec.{eqb}
-use Rattle.std.specs.List.{list_any}
+use Rattle.std.specs.List.{list_any, HoldsAt}
 use Rattle.std.proofs.Math.Bool.{or-true, or-false}
 use Rattle.automata.specs.Booleans.{bool_cases, bool_iff}
 use Rattle.automata.specs.Live.{Within, live}
@@ -35,9 +35,8 @@ unset false e = refl
 
 -- ---- the accepting states
 
-pub record FlagsUpto (most : ℕ) (ms : List ℕ) (fs : List Bool) (p : ℕ) : Type 0 where
-  pub long : length fs ≡ most
-  pub flag : (q : ℕ) → q < p → get_or fs q false ≡ eqb (get_or ms q 0) 1
+pub flags_of : (most : ℕ) (ms : List ℕ) (fs : List Bool) → length fs ≡ most → ((p : ℕ) → p < length ms → HoldsAt (λ x. x ≡ eqb 1 (get_or ms p 0)) fs p) → FlagsOf most ms fs
+flags_of most ms fs e f = record { long = e; flag = λ p h. f p h false ∙ eqb_turn 1 (get_or ms p 0) }
 
 -- ---- one state
 

@@ -5,7 +5,7 @@
 
 ghost use Rattle.std.specs.Prelude.{◌≡◌, ℕ, ◌≤◌, ◌<◌, length, get_or, false};
 ghost use Rattle.std.specs.List.{All, list_any, list_all, zip};
-ghost use Rattle.live.specs.LiveSweeps.{right_mark, Visited, Sweep, FlagsOf, LiveExactly, MarksExactly};
+ghost use Rattle.live.specs.LiveSweeps.{right_mark, Visited, Sweep, LiveExactly, MarksExactly};
 
 use moves::{Mark, States};
 
@@ -41,6 +41,8 @@ fn descend(states: States, flags: &mut [bool; 120]) -> bool
 }
 
 // One sweep, the first state first. Whether a state became live.
+// Stays: one loop over an order that is passed in would have to ask of it that it ends, that it gives states alone and that it gives each, and both callers to
+// prove that, which is longer than the second loop.
 fn ascend(states: States, flags: &mut [bool; 120]) -> bool
     ensures { Sweep states.entry.letters states.entry.marks.now states.entry.moves.now flags.old flags.new result }
 {
@@ -51,22 +53,12 @@ fn ascend(states: States, flags: &mut [bool; 120]) -> bool
     changed
 }
 
-// The flags of the accepting states, whose marks byte is 1.
-fn accepting(marks: &[u8], flags: &mut [bool; 120])
-    requires { length marks.now ≤ 120 }
-    ensures { FlagsOf 120 marks.now flags.new }
-{
-    for (p, mark) in marks.iter().enumerate() {
-        flags[p] = *mark == Mark::Accepting as u8;
-    }
-}
-
-// The flags of the live states: as many sweeps as there are states, or fewer when one changes nothing. Most moves lead to later states, so the second
+// The flags of the live states: the accepting ones, and then as many sweeps as there are states, or fewer when one changes nothing. Most moves lead to later states, so the second
 // goes down too.
 fn live(states: States, flags: &mut [bool; 120])
     ensures { LiveExactly states.entry.letters states.entry.marks.now states.entry.moves.now flags.new }
 {
-    accepting(states.marks, flags);
+    states.accepting(flags);
     if !descend(states, flags) {
         return;
     }

@@ -86,6 +86,10 @@ tested_reduced fmt c r a i n m f =
 
 -- ---- test by test
 
+-- the letters of the table are the card's
+pub lettered : {c : List ℕ} {m k n : ℕ} → k ≡ m → Counted narrow c m n → Counted narrow c k n
+lettered e r = rw e r
+
 unset : (b : Bool) → not b ≡ true → b ≡ false
 unset true e = absurd (false≢true e)
 unset false e = refl

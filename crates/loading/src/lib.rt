@@ -5,13 +5,13 @@ mod numbering;
 
 ghost use Rattle.std.specs.Prelude.{◌≡◌, ◌+◌, ◌<◌, ◌≤◌, ◌↔◌, ℕ, IsTrue, length, get_or, MatchResult};
 ghost use Rattle.automata.specs.Format.{narrow};
-ghost use Rattle.card.specs.Alphabet.{alphabet_test};
-ghost use Rattle.card.specs.Load.{load_test};
+ghost use Rattle.card.specs.Layout.{letters_of};
+ghost use Rattle.card.specs.Alphabet.{Alphabet, alphabet_test};
+ghost use Rattle.card.specs.Load.{CardInside, load_test};
 ghost use Rattle.loading.specs.Faults.{fault_number};
 ghost use Rattle.loading.specs.Inside.{InsideExactly};
 
 use fields::Layout;
-use moves::States;
 
 // Each letter is above the one before it.
 fn rising(letters: &[u8]) -> bool
@@ -69,25 +69,13 @@ impl Fault {
     }
 }
 
-// The first of the tests 22 to 26 that stops the card.
-pub fn tested(layout: &Layout) -> Result<(), Fault>
+// The first of the tests 24 to 26 that stops a card whose letters and moves are right.
+fn states_tested(layout: &Layout) -> Result<(), Fault>
+    requires letters { Alphabet (letters_of narrow layout.now.bytes.now) }
+    requires moves { CardInside narrow layout.now.bytes.now }
     ensures { MatchResult result (λ _. load_test narrow layout.now.bytes.now ≡ 0) (λ fault. load_test narrow layout.now.bytes.now ≡ fault_number fault) }
 {
-    let m = layout.counts.letters;
-    let n = layout.counts.states;
-    if !alphabet(layout.letters()) {
-        return Err(Fault::BadAlphabet);
-    }
-    let marks = layout.marks();
-    let moves = layout.moves();
-    if !inside(moves, n) {
-        return Err(Fault::TransitionOutOfRange);
-    }
-    let states = States {
-        marks,
-        moves,
-        letters: m,
-    };
+    let states = layout.states();
     if !numbering::numbered(states) {
         return Err(Fault::NotNumbered);
     }
@@ -98,4 +86,17 @@ pub fn tested(layout: &Layout) -> Result<(), Fault>
         return Err(Fault::EquivalentStates);
     }
     Ok(())
+}
+
+// The first of the tests 22 to 26 that stops the card.
+pub fn tested(layout: &Layout) -> Result<(), Fault>
+    ensures { MatchResult result (λ _. load_test narrow layout.now.bytes.now ≡ 0) (λ fault. load_test narrow layout.now.bytes.now ≡ fault_number fault) }
+{
+    if !alphabet(layout.letters()) {
+        return Err(Fault::BadAlphabet);
+    }
+    if !inside(layout.moves(), layout.counts.states) {
+        return Err(Fault::TransitionOutOfRange);
+    }
+    states_tested(layout)
 }

@@ -3,28 +3,28 @@ use mathlib.Core.Path.{◌≡◌, refl, sym, ap, ◌∙◌}
 use Rattle.std.specs.Prelude.{Some, None}
 use mathlib.Core.Bool.{Bool, true, false}
 use mathlib.Core.Logic.{◌⊎◌, inl, inr}
-use mathlib.Core.List.{List, [], ◌∷◌}
+use mathlib.Core.List.{List, []}
 use Prim.Native.Nat.{ℕ, zero, suc, ◌+◌, ◌*◌, ◌≤◌, ◌<◌}
 use native.Mathlib.Nat.{le_refl, le_trans, mul-le-mul_right}
 use native.Mathlib.Numerals.{add-one}
 use native.Mathlib.Omega.{arith}
-use lib.ListN.{length, get_or, take, drop, set, length-drop, length-set}
-use lib.Seq.{ext_get_or, get_or-set_same, get_or-set_other, take-set-le, drop-set-lt, drop-set-add, take-suc-set}
+use lib.ListN.{length, get_or, take, set, length-set}
+use lib.Seq.{ext_get_or, get_or-set_same, take-suc-set}
 use borrow.Author.Tests.{lt-ltb, le-ltb}
 use Rattle.automata.specs.Automaton.{Automaton}
 use Rattle.automata.specs.Basics.{LtCases, lt_cases, nat_test, find, find_at, get_or_tab}
 use Rattle.automata.specs.Listing.{Extends, add_to, add_to_extends, turn_cases, turn, listing, listed, listing_extends, listing_stays, find_in}
 use Rattle.automata.specs.Machine.{Machine, size, automaton, WellFormed, minimal_numbers}
-use Rattle.automata.specs.Partition.{bit, classes, classes_low, get_d_map}
+use Rattle.automata.specs.Partition.{bit, classes, classes_length, classes_low, get_d_map}
 use Rattle.automata.specs.Rows.{cell_below}
 use Rattle.automata.specs.Smallest.{quotient, tabulated, tabulated_size, tabulated_formed, smallest, smallest_by, smallest_canonical, smallest_words}
 use Rattle.automata.specs.Table.{flag_of, table_machine, ClosedTable, table_size, table_accepting, table_step, table_formed}
 use Rattle.entries.specs.declared.table.Table.{Table}
 use Rattle.entries.specs.Entries.{machine_of}
 use Rattle.entries.proofs.EntryLaws.{machine_size, machine_accepting, machine_formed}
-use Rattle.minimise.specs.Minimised.{Minimised, Fitting}
-use Rattle.minimise.specs.Number.{ordered, Roll, Goes, Rolling, Upto, Rowed, Marked, Classified}
-use Rattle.minimise.proofs.ArriveLaws.{ordered_length, ordered_at}
+use Rattle.minimise.specs.Minimised.{Minimised}
+use Rattle.minimise.specs.Number.{Roll, Goes, Rolling, Upto, Rowed, Marked, Classified}
+use Rattle.numbering.proofs.OrderLaws.{ordered_length, ordered_at}
 use Rattle.minimise.proofs.RowLaws.{goes_on}
 
 -- ---- the smallest machine by a listing that is whole
@@ -103,123 +103,110 @@ module _ (k : ℕ) (M : Machine) (F : WellFormed k M) where
 -- ---- the rows
 
 -- The first i rows are written, and the order is the listing after i turns.
-pub record Arranged (T : Table) (most i m : ℕ) (w s : List ℕ) : Type 0 where
-  pub kept : take T.states w ≡ classes T.columns (machine_of T)
-  pub order : ordered T.states m w ≡ listing nat_test (quotient (machine_of T) (classes T.columns (machine_of T))) T.columns i
-  pub roll : Roll T.states most m w
+pub record Arranged (T : Table) (most i m : ℕ) (numbers order s : List ℕ) : Type 0 where
+  pub listed : take m order ≡ listing nat_test (quotient (machine_of T) (classes T.columns (machine_of T))) T.columns i
+  pub roll : Roll most m numbers order
+  pub long : length numbers ≡ T.states
   pub turns : i ≤ m
   pub goes : (j c : ℕ) → j < i → c < T.columns
-      → Goes (quotient (machine_of T) (classes T.columns (machine_of T))) (ordered T.states m w) (get_or (ordered T.states m w) j 0) c (get_or s (most + (j * T.columns + c)) 0)
+      → Goes (quotient (machine_of T) (classes T.columns (machine_of T))) (take m order) (get_or (take m order) j 0) c (get_or s (most + (j * T.columns + c)) 0)
 
-module _ {T : Table} {most : ℕ} {w s : List ℕ} (C : Classified T most w s) where
+module _ {T : Table} {most : ℕ} {cls numbers order s : List ℕ} (C : Classified T most cls numbers order s) where
   abbrev M : Machine
   M = machine_of T
 
-  abbrev cls : List ℕ
-  cls = classes T.columns (machine_of T)
+  abbrev found_classes : List ℕ
+  found_classes = classes T.columns (machine_of T)
 
   formed : WellFormed T.columns M
   formed = machine_formed T
 
-  pub order_starts : (w₁ w₂ : List ℕ) → w₁ ≡ set w (T.states + T.states) 0 → w₂ ≡ set w₁ T.states 0 → Arranged T most 0 1 w₂ s
+  pub order_starts : Arranged T most 0 1 (set numbers 0 0) (set order 0 0) s
   unfolding listing
-  order_starts w₁ w₂ e₁ e₂ = rw (e₂, e₁) record {
-    kept = take-set-le T.states W₁ T.states 0 (le_refl T.states) ∙ take-set-le T.states w (T.states + T.states) 0 (omega arith) ∙ C.found;
-    order = order;
+  order_starts = record {
+    listed = take-suc-set order 0 0 room;
     roll = record {
-      room = omega (arith, C.fits.order, length-set W₁ T.states 0, length-set w (T.states + T.states) 0);
-      few = C.fits.few;
-      bytes = C.fits.bytes;
-      within = C.fits.some;
-      below = λ i h. let z : T.states + T.states + i ≡ T.states + T.states = omega arith in rw (z, first) some;
-      back = λ i h. let z : T.states + T.states + i ≡ T.states + T.states = omega arith in let y : T.states + 0 ≡ T.states = omega arith in rw (z, first, y) (get_or-set_same W₁ T.states 0 0 (omega (arith, room₁)) ∙ (omega arith));
+      room = omega (arith, C.room, length-set order 0 0);
+      few = omega (arith, C.few, C.numbers_long, length-set numbers 0 0);
+      bytes = C.bytes;
+      within = C.some;
+      below = λ i h. let z : i ≡ 0 = omega arith in rw (z, first) (omega (arith, T.closed.some, C.numbers_long, length-set numbers 0 0));
+      back = λ i h. let z : i ≡ 0 = omega arith in rw (z, first) (get_or-set_same numbers 0 0 0 (omega (arith, T.closed.some, C.numbers_long)));
     };
+    long = length-set numbers 0 0 ∙ C.numbers_long;
     turns = omega arith;
     goes = λ j c h. absurd (omega arith);
   }
     where
-      W₁ : List ℕ
-      W₁ = set w (T.states + T.states) 0
+      room : 0 < length order
+      room = omega (arith, C.room, C.some)
 
-      W : List ℕ
-      W = set W₁ T.states 0
+      first : get_or (set order 0 0) 0 0 ≡ 0
+      first = get_or-set_same order 0 0 0 room
 
-      some : 0 < T.states
-      some = T.closed.some
-
-      room₁ : T.states + T.states + most ≤ length W₁
-      room₁ = omega (arith, C.fits.order, length-set w (T.states + T.states) 0)
-
-      first : get_or W (T.states + T.states) 0 ≡ 0
-      first = get_or-set_other W₁ T.states (T.states + T.states) 0 0 (omega (arith, some)) ∙ get_or-set_same w (T.states + T.states) 0 0 (omega (arith, C.fits.order, C.fits.some))
-
-      order : ordered T.states 1 W ≡ 0 ∷ []
-      order =
-          let z : T.states + T.states ≡ T.states + T.states + 0 = omega arith in
-          ap (take 1) (drop-set-lt (T.states + T.states) W₁ T.states 0 (omega (arith, some)) ∙ ap (λ x. drop (T.states + T.states) (set w x 0)) z ∙ drop-set-add (T.states + T.states) w 0 0)
-          ∙ take-suc-set (drop (T.states + T.states) w) 0 0 (omega (arith, length-drop (T.states + T.states) w, C.fits.order, C.fits.some))
-
-  module _ (i m : ℕ) (v u : List ℕ) (A : Arranged T most i m v u) (len : length u ≡ length s) where
-    pub order_rolling : i < m → Rolling T most i m v u
+  module _ (i m : ℕ) (v o u : List ℕ) (A : Arranged T most i m v o u) (len : length u ≡ length s) where
+    pub order_rolling : i < m → Rolling T most i m cls v o u
     order_rolling h = record {
       roll = A.roll;
-      inside = λ q b. rw A.kept (le_trans (classes_low' q b) b);
+      classes_long = ap length C.found ∙ classes_length T.columns M formed ∙ machine_size T;
+      numbers_long = A.long;
+      inside = λ q b. rw C.found (low q b);
       row = h;
-      slot = rw len C.fits.slot;
+      slot = rw len C.slot;
     }
       where
-        classes_low' : (q : ℕ) → q < T.states → suc (get_or cls q zero) ≤ suc q
-        classes_low' q b = omega (arith, classes_low T.columns M formed q (rw (machine_size T) b))
+        low : (q : ℕ) → q < T.states → get_or found_classes q zero < T.states
+        low q b = omega (arith, classes_low T.columns M formed q (rw (machine_size T) b))
 
     -- the next turn of the listing
-    listing_next : i < m → listing nat_test (quotient M cls) T.columns (suc i) ≡ add_to nat_test (quotient M cls) T.columns (ordered T.states m v) (get_or (ordered T.states m v) i 0)
+    listing_next : i < m → listing nat_test (quotient M found_classes) T.columns (suc i) ≡ add_to nat_test (quotient M found_classes) T.columns (take m o) (get_or (take m o) i 0)
     unfolding listing
-    listing_next h = go (turn_cases nat_test (quotient M cls) T.columns i (listing nat_test (quotient M cls) T.columns i))
+    listing_next h = go (turn_cases nat_test (quotient M found_classes) T.columns i (listing nat_test (quotient M found_classes) T.columns i))
       where
         l : List ℕ
-        l = listing nat_test (quotient M cls) T.columns i
+        l = listing nat_test (quotient M found_classes) T.columns i
 
-        go : ((i < length l) × (turn nat_test (quotient M cls) T.columns i l ≡ add_to nat_test (quotient M cls) T.columns l (get_or l i zero))) ⊎ ((length l ≤ i) × (turn nat_test (quotient M cls) T.columns i l ≡ l))
-            → turn nat_test (quotient M cls) T.columns i l ≡ add_to nat_test (quotient M cls) T.columns (ordered T.states m v) (get_or (ordered T.states m v) i 0)
-        go (inl x) = rw A.order x.1
-        go (inr x) = absurd (omega (arith, x.0, ordered_length A.roll, ap length A.order))
+        go : ((i < length l) × (turn nat_test (quotient M found_classes) T.columns i l ≡ add_to nat_test (quotient M found_classes) T.columns l (get_or l i zero))) ⊎ ((length l ≤ i) × (turn nat_test (quotient M found_classes) T.columns i l ≡ l))
+            → turn nat_test (quotient M found_classes) T.columns i l ≡ add_to nat_test (quotient M found_classes) T.columns (take m o) (get_or (take m o) i 0)
+        go (inl x) = rw A.listed x.1
+        go (inr x) = absurd (omega (arith, x.0, ordered_length A.roll, ap length A.listed))
 
-    pub order_full : (v' u' : List ℕ) → i < m → Rowed T most i m v u v' u' None → most < size (smallest T.columns M)
-    order_full v' u' h R = smallest_more T.columns M formed (suc i) most (rw (listing_next h, ← A.kept) R)
+    pub order_full : (v' o' u' : List ℕ) → i < m → Rowed T most i m cls o u v' o' u' None → most < size (smallest T.columns M)
+    order_full v' o' u' h R = smallest_more T.columns M formed (suc i) most (rw (listing_next h, ← C.found) R)
 
-    module _ (m' : ℕ) (v' u' : List ℕ) (h : i < m) (R : Rowed T most i m v u v' u' (Some m')) where
-      upto : Upto (quotient M cls) T.states T.columns most i m v u T.columns m' v' u'
-      upto = rw A.kept at R
+    module _ (m' : ℕ) (v' o' u' : List ℕ) (h : i < m) (len' : length v' ≡ length v) (R : Rowed T most i m cls o u v' o' u' (Some m')) where
+      upto : Upto (quotient M found_classes) T.columns most i m o u T.columns m' v' o' u'
+      upto = rw C.found at R
 
-      pub order_turns : Arranged T most (i + 1) m' v' u'
+      pub order_turns : Arranged T most (i + 1) m' v' o' u'
       order_turns = rw add-one record {
-        kept = upto.kept ∙ A.kept;
-        order = upto.order ∙ sym (listing_next h);
+        listed = upto.listed ∙ sym (listing_next h);
         roll = upto.roll;
+        long = len' ∙ A.long;
         turns = omega (arith, upto.more);
         goes = λ j c b y. goes j c y (lt_cases j i) (omega arith);
       }
         where
-          grown : Extends 0 (ordered T.states m v) (ordered T.states m' v')
-          grown = rw upto.order (add_to_extends nat_test (quotient M cls) T.columns (ordered T.states m v) (get_or (ordered T.states m v) i 0))
+          grown : Extends 0 (take m o) (take m' o')
+          grown = rw upto.listed (add_to_extends nat_test (quotient M found_classes) T.columns (take m o) (get_or (take m o) i 0))
 
-          same : (j : ℕ) → j < m → get_or (ordered T.states m' v') j 0 ≡ get_or (ordered T.states m v) j 0
+          same : (j : ℕ) → j < m → get_or (take m' o') j 0 ≡ get_or (take m o) j 0
           same j b = grown.keeps j (rw (ordered_length A.roll) b)
 
-          goes : (j c : ℕ) → c < T.columns → LtCases j i → j ≤ i → Goes (quotient M cls) (ordered T.states m' v') (get_or (ordered T.states m' v') j 0) c (get_or u' (most + (j * T.columns + c)) 0)
+          goes : (j c : ℕ) → c < T.columns → LtCases j i → j ≤ i → Goes (quotient M found_classes) (take m' o') (get_or (take m' o') j 0) c (get_or u' (most + (j * T.columns + c)) 0)
           goes j c b (inl x) y =
               rw (same j (omega (arith, x.0)), upto.cells (j * T.columns + c) (cell_below i T.columns j c x.0 b))
-              (goes_on (quotient M cls) (ordered T.states m v) (ordered T.states m' v') (get_or (ordered T.states m v) j 0) c (get_or u (most + (j * T.columns + c)) 0) grown (A.goes j c x.0 b))
+              (goes_on (quotient M found_classes) (take m o) (take m' o') (get_or (take m o) j 0) c (get_or u (most + (j * T.columns + c)) 0) grown (A.goes j c x.0 b))
           goes j c b (inr x) y = let z : j ≡ i = omega arith in rw (z, same i h) (upto.goes c b)
 
     -- ---- the end
 
-    module _ (u' : List ℕ) (done : i ≡ m) (K : Marked T m v u u') (len' : length u' ≡ length u) where
+    module _ (u' : List ℕ) (done : i ≡ m) (K : Marked T m o u u') (len' : length u' ≡ length u) where
       abbrev final : List ℕ
-      final = listing nat_test (quotient M cls) T.columns m
+      final = listing nat_test (quotient M found_classes) T.columns m
 
-      list : ordered T.states m v ≡ final
-      list = A.order ∙ ap (listing nat_test (quotient M cls) T.columns) done
+      list : take m o ≡ final
+      list = A.listed ∙ ap (listing nat_test (quotient M found_classes) T.columns) done
 
       whole : length final ≡ m
       whole = ap length (sym list) ∙ ordered_length A.roll
@@ -227,14 +214,14 @@ module _ {T : Table} {most : ℕ} {w s : List ℕ} (C : Classified T most w s) w
       cell : (p c : ℕ) → get_or u' (most + (p * T.columns + c)) 0 ≡ get_or u (most + (p * T.columns + c)) 0
       cell p c = K.past (most + (p * T.columns + c)) (omega (arith, A.roll.within))
 
-      goes : (p c : ℕ) → p < m → c < T.columns → Goes (quotient M cls) final (get_or final p 0) c (get_or u' (most + (p * T.columns + c)) 0)
+      goes : (p c : ℕ) → p < m → c < T.columns → Goes (quotient M found_classes) final (get_or final p 0) c (get_or u' (most + (p * T.columns + c)) 0)
       goes p c h b = rw (cell p c, ← list) (A.goes p c (rw done h) b)
 
       closed : ClosedTable most m T.columns u'
       closed = record {
-        some = rw whole at (listed nat_test (quotient M cls) T.columns m).first.0;
+        some = rw whole at (listed nat_test (quotient M found_classes) T.columns m).first.0;
         flags = A.roll.within;
-        long = omega (arith, C.fits.slot, len, len', mul-le-mul_right {m = m} {n = most} T.columns A.roll.within);
+        long = omega (arith, C.slot, len, len', mul-le-mul_right {m = m} {n = most} T.columns A.roll.within);
         inside = λ p c h b. rw whole at (goes p c h b).inside;
       }
 
@@ -244,8 +231,8 @@ module _ {T : Table} {most : ℕ} {w s : List ℕ} (C : Classified T most w s) w
 
       flags : (p : ℕ) → p < m → flag_of (get_or u' p 0) ≡ (automaton M).accepting (get_or final p 0)
       flags p h =
-          ap flag_of (K.flags p h) ∙ flag_bit_lem (flag_of (get_or T.cells.now (get_or v (T.states + T.states + p) 0) 0))
-          ∙ sym (machine_accepting T (get_or v (T.states + T.states + p) 0) (A.roll.below p h))
+          ap flag_of (K.flags p h) ∙ flag_bit_lem (flag_of (get_or T.cells.now (get_or o p 0) 0))
+          ∙ sym (machine_accepting T (get_or o p 0) (rw A.long at A.roll.below p h))
           ∙ ap (automaton M).accepting (sym (ordered_at A.roll p h) ∙ ap (λ l. get_or l p 0) list)
 
       found : table_machine most m T.columns u' ≡ smallest T.columns M
@@ -267,14 +254,7 @@ module _ {T : Table} {most : ℕ} {w s : List ℕ} (C : Classified T most w s) w
           bits : (p : ℕ) → p < m → get_or u' p 0 ≡ bit ((automaton (smallest T.columns M)).accepting p)
           bits p h =
               K.flags p h
-              ∙ ap bit (sym (flag_bit_lem (flag_of (get_or T.cells.now (get_or v (T.states + T.states + p) 0) 0))) ∙ ap flag_of (sym (K.flags p h)) ∙ sym (table_accepting most m T.columns u' closed p h) ∙ ap (λ N. (automaton N).accepting p) found)
+              ∙ ap bit (sym (flag_bit_lem (flag_of (get_or T.cells.now (get_or o p 0) 0))) ∙ ap flag_of (sym (K.flags p h)) ∙ sym (table_accepting most m T.columns u' closed p h) ∙ ap (λ N. (automaton N).accepting p) found)
 
 pub too_many : (k most : ℕ) (M : Machine) (s : List ℕ) → most < size (smallest k M) → Minimised k most M s None
 too_many k most M s h = record { answer = rw (lt-ltb most (size (smallest k M)) h); holds = λ b. absurd (omega arith) }
-
-pub classified : {T : Table} {most : ℕ} {w s : List ℕ} (w' : List ℕ) → Fitting T most w s → length w' ≡ length w → take T.states w' ≡ classes T.columns (machine_of T)
-    → Classified T most w' s
-classified w' F len e = record {
-  fits = record { few = F.few; some = F.some; bytes = F.bytes; arrays = rw len F.arrays; order = rw len F.order; slot = F.slot };
-  found = e;
-}

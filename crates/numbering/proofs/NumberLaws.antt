@@ -2,17 +2,18 @@
 use mathlib.Core.Path.{◌≡◌, refl, sym, ap, ◌∙◌}
 use mathlib.Core.Logic.{◌⊎◌, inl, inr}
 use mathlib.Core.List.{List}
-use Prim.Native.Nat.{ℕ, zero, suc, ◌+◌, ◌*◌, ◌≤◌, ◌<◌}
+use Prim.Native.Nat.{ℕ, zero, suc, ◌+◌, ◌-◌, ◌*◌, ◌≤◌, ◌<◌}
 use native.Mathlib.Nat.{suc-mul, mul-le-mul_right}
 use native.Mathlib.Omega.{arith}
 use native.Mathlib.Numerals.{add-one}
-use lib.ListN.{length, get_or, take, replicate}
+use lib.ListN.{length, get_or, take, drop, replicate, length-drop}
+use lib.Seq.{get_or-take, get_or-drop, length-take-le}
 use Rattle.automata.specs.Automaton.{Automaton, over_more}
 use Rattle.automata.specs.Basics.{nat_test}
 use Rattle.automata.specs.Listing.{add_to, add_to_extends, turn, turn_cases, listing, listed, listing_stays, listing_bound}
 use Rattle.automata.specs.Machine.{Machine, size, automaton, WellFormed, run_inside}
 use Rattle.automata.specs.Table.{ClosedTable, table_size, table_step, table_formed}
-use Rattle.numbering.specs.Arrival.{kept_machine, Roll, Row, Rowed, Arranged}
+use Rattle.numbering.specs.Arrival.{kept_machine, row_place, LetterRow, Roll, Row, Rowed, Arranged}
 use Rattle.numbering.proofs.ArrivalLaws.{order_length, order_at}
 
 -- After i turns `count` states have numbers.
@@ -55,18 +56,29 @@ module _ (n m : ℕ) (t : List ℕ) (C : ClosedTable 120 n (suc m) t) where
       (λ s r. rw r.2 at (run_inside (suc m) M formed zero r.0 formed.some (over_more m r.0 r.1))) (λ s t _ _ e. e) j)
 
   -- the row of a state lies in the table, and leads to states
-  pub row_of : (s : ℕ) → s < n → Row 120 (120 + s * (m + 1)) m t
-  row_of s h = rw (add-one m) record {
+  pub row_of : (s : ℕ) → s < n → Row 120 (row_place m s) m t
+  row_of s h = record {
     room = omega (arith, C.long, suc-mul s (suc m), mul-le-mul_right {m = suc s} {n = n} (suc m) h);
-    inside = λ c b.
-        let z : 120 + s * suc m + c ≡ 120 + (s * suc m + c) = omega arith in
-        rw z (omega (arith, C.inside s c h (omega arith), C.flags));
+    inside = λ c b. omega (arith, inside s c h b, C.flags);
   }
+    where
+      inside : (s c : ℕ) → s < n → c < m → get_or t (row_place m s + c) 0 < n
+      inside s c h b = let z : 120 + s * suc m + c ≡ 120 + (s * suc m + c) = omega arith in rw z (C.inside s c h (omega arith))
 
-  pub row_step : (s : ℕ) → s < n → (c : ℕ) → c < m → A.step s c ≡ get_or t (120 + s * (m + 1) + c) 0
-  row_step s h c b =
-      let z : 120 + s * suc m + c ≡ 120 + (s * suc m + c) = omega arith in
-      rw (add-one m, z) (table_step 120 n (suc m) t C s c h (omega arith))
+  pub row_step : (s : ℕ) → s < n → (c : ℕ) → c < m → A.step s c ≡ get_or t (row_place m s + c) 0
+  row_step s h c b = let z : 120 + s * suc m + c ≡ 120 + (s * suc m + c) = omega arith in rw z (table_step 120 n (suc m) t C s c h (omega arith))
+
+  pub letter_row : (s : ℕ) → s < n → LetterRow n m t s (take (120 + s * (m + 1) + m - (120 + s * (m + 1))) (drop (120 + s * (m + 1)) t))
+  letter_row s h = let z : 120 + s * (m + 1) + m - (120 + s * (m + 1)) ≡ m = omega arith in rw (z, add-one m) record { long = long; entry = entry; inside = λ c b. inside c (rw long at b) }
+    where
+      long : length (take m (drop (row_place m s) t)) ≡ m
+      long = length-take-le m (drop (row_place m s) t) (omega (arith, length-drop (row_place m s) t, (row_of s h).room))
+
+      entry : (c : ℕ) → c < m → get_or (take m (drop (row_place m s) t)) c 0 ≡ get_or t (row_place m s + c) 0
+      entry c b = get_or-take m (drop (row_place m s) t) c 0 b ∙ get_or-drop (row_place m s) t c 0
+
+      inside : (c : ℕ) → c < m → get_or (take m (drop (row_place m s) t)) c 0 < n
+      inside c b = let z : 120 + s * suc m + c ≡ 120 + (s * suc m + c) = omega arith in rw (entry c b, z) (C.inside s c h (omega arith))
 
   module _ (o u : List ℕ) (i count : ℕ) (T : Turns n m t o u i count) where
     long : length (listing nat_test A m i) ≡ count
@@ -79,7 +91,7 @@ module _ (n m : ℕ) (t : List ℕ) (C : ClosedTable 120 n (suc m) t) where
       pub turn_state : s < n
       turn_state = rw state at (listing_below i i (rw long h))
 
-      pub turns_next : (o' u' : List ℕ) (r : ℕ) → Rowed 120 (120 + s * (m + 1)) m count t o u o' u' r → Turns n m t o' u' (i + 1) r
+      pub turns_next : (o' u' : List ℕ) (r : ℕ) → Rowed 120 (row_place m s) m count t o u o' u' r → Turns n m t o' u' (i + 1) r
       unfolding listing
       turns_next o' u' r W = rw (add-one i) record { roll = W.roll; turns = omega (arith, more); done = list ∙ sym (go (turn_cases nat_test A m i L)) }
         where

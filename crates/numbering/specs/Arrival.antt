@@ -1,6 +1,6 @@
 -- Numbering the states that letters reach, by first arrival, as code keeps it in two arrays: the states in the order of their numbers, and for each state its
 -- number, which counts only where the state stands in the order at that number.
-use Rattle.std.specs.Prelude.{◌≡◌, List, ℕ, suc, ◌+◌, ◌≤◌, ◌<◌, length, get_or, take}
+use Rattle.std.specs.Prelude.{◌≡◌, List, ℕ, suc, ◌+◌, ◌*◌, ◌≤◌, ◌<◌, length, get_or, take}
 use Rattle.automata.specs.Automaton.{Automaton}
 use Rattle.automata.specs.Basics.{nat_test}
 use Rattle.automata.specs.Listing.{add, add_to, listing}
@@ -10,6 +10,16 @@ use Rattle.automata.specs.Table.{table_machine, ClosedTable}
 -- The machine of n states over m letters and the mark that a table of bytes holds, its moves from place 120 on.
 abbrev pub kept_machine : ℕ → ℕ → List ℕ → Machine
 kept_machine n m t = table_machine 120 n (suc m) t
+
+-- Where the moves of state s begin, of a machine over m letters and the mark.
+abbrev pub row_place : ℕ → ℕ → ℕ
+row_place m s = 120 + s * suc m
+
+-- Where the m letters lead from state s of n, in rising order.
+pub record LetterRow (n m : ℕ) (t : List ℕ) (s : ℕ) (row : List ℕ) : Type 0 where
+  pub long : length row ≡ m
+  pub entry : (c : ℕ) → c < m → get_or row c 0 ≡ get_or t (row_place m s + c) 0
+  pub inside : (c : ℕ) → c < length row → get_or row c 0 < n
 
 -- Of at most so many states the first `count` of the order have numbers, each its place.
 pub record Roll (most count : ℕ) (order number : List ℕ) : Type 0 where

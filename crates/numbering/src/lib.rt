@@ -2,9 +2,14 @@
 // Parts for the card writer: they have requires, and are no entries.
 #![tactic(auto)]
 
-ghost use Rattle.std.specs.Prelude.{◌≡◌, suc, ◌<◌, replicate};
-ghost use Rattle.automata.specs.Table.{ClosedTable};
-ghost use Rattle.numbering.specs.Arrival.{Roll, Arrived, Row, Rowed, Arranged};
+pub mod kept;
+pub mod order;
+
+ghost use Rattle.std.specs.Prelude.{◌≡◌, ◌<◌, replicate};
+ghost use Rattle.numbering.specs.Arrival.{Roll, Arrived, Rowed, Ordered, Arranged, row_place};
+
+use kept::KeptMachine;
+use order::arrive;
 
 // The states that have numbers: `count` of them, in the order of their numbers, and for each state its number, which counts only where the state stands in the
 // order at that number.
@@ -33,38 +38,46 @@ impl Numbering {
         requires { s < 120 }
         ensures { Arrived 120 self.old.count s self.old.order self.old.number self.new.order self.new.number self.new.count }
     {
-        let x = self.number[s] as usize;
-        if x < self.count && self.order[x] as usize == s {
-            return;
+        if let Some(x) = arrive(&mut self.number, &mut self.order, 120, self.count, s) {
+            self.count = self.count.max(x + 1);
         }
-        self.order[self.count] = s as u8;
-        self.number[s] = self.count as u8;
-        self.count += 1;
     }
 
-    // What the m moves from the place `at` lead to takes numbers, in the order of the letters.
-    fn row(&mut self, slot: &[u8], at: usize, m: usize)
-        requires { Row 120 at m slot.now }
-        ensures { Rowed 120 at m self.old.count slot.now self.old.order self.old.number self.new.order self.new.number self.new.count }
+    // What letters lead to from state s takes numbers, in the order of the letters.
+    fn row(&mut self, machine: &KeptMachine, s: usize)
+        requires { s < machine.now.states }
+        ensures { Rowed 120 (row_place machine.now.letters s) machine.now.letters self.old.count machine.now.bytes.now self.old.order self.old.number self.new.order self.new.number self.new.count }
     {
-        for state in &slot[at..at + m] {
+        for state in machine.row(s) {
             self.arrive(*state as usize);
         }
     }
 }
 
+// A machine, and its states that letters reach, all numbered.
+#[derive(Drop)]
+pub struct Reached<'a> {
+    pub machine: KeptMachine<'a>,
+    pub numbering: Numbering,
+    pub ghost ordered: { Ordered machine.states machine.letters machine.bytes.now numbering.order numbering.count },
+}
+
 // All that letters reach from state 0 takes numbers.
-pub fn number(slot: &[u8], n: usize, m: usize) -> Numbering
-    requires { ClosedTable 120 n (suc m) slot.now }
-    ensures { Arranged n m slot.now result.order result.number result.count }
+pub fn number<'a>(machine: &KeptMachine<'a>) -> Reached<'a>
+    ensures same { result.machine ≡ machine.now }
+    ensures arranged { Arranged machine.now.states machine.now.letters machine.now.bytes.now result.numbering.order result.numbering.number result.numbering.count }
 {
     let mut numbering = Numbering::new();
     let mut i = 0;
     // Stays: a queue, its end moves while it is read.
+    // Stays: minimise's queue writes each row as it goes and may end early: one loop for both would be lent a row as a closure over lists, which is longer.
     while i < numbering.count {
         let s = numbering.order[i] as usize;
-        numbering.row(slot, 120 + s * (m + 1), m);
+        numbering.row(machine, s);
         i += 1;
     }
-    numbering
+    Reached {
+        machine: *machine,
+        numbering,
+    }
 }

@@ -3,7 +3,7 @@
 
 ghost use Rattle.std.specs.Prelude.{◌≡◌, ◌∷◌, []};
 ghost use Rattle.card.specs.Answer.{load_numbers, step_numbers, reply_numbers};
-ghost use Rattle.board.specs.Answers.{loading, stepping, reply_of};
+ghost use Rattle.board.specs.Answers.{counting, stepping, reply_of};
 ghost use Rattle.forbidden.specs.Reading.{answer_of};
 ghost use Rattle.counting.specs.Reading.{answer_of as census_of};
 ghost use Rattle.plans.specs.Many.{many_of};
@@ -11,9 +11,11 @@ ghost use Rattle.compiler.specs.Reading.{reading};
 ghost use Rattle.numbers.specs.Handed.{handed, numbers, step_handed, answer_numbers, shortest_numbers, census_numbers};
 
 use board::{Refusal, StepRefusal, Stepped};
+use compiler::Compiled;
+use fields::Counts;
 use forbidden::Stretch;
 use loading::Fault;
-use run::{Card, Verdict};
+use run::Verdict;
 
 // The number handed back, and three numbers in `out`.
 fn put(out: &mut [u64; 3], number: u64, first: u64, second: u64, third: u64) -> u64
@@ -24,14 +26,11 @@ fn put(out: &mut [u64; 3], number: u64, first: u64, second: u64, third: u64) -> 
 }
 
 // Loading: 0, and letters, states, 0; or 21 to 26.
-pub fn loaded(answer: Result<Card<'_>, Fault>, out: &mut [u64; 3]) -> u64
-    ensures { handed result out.new ≡ numbers (load_numbers (loading answer.entry)) }
+pub fn loaded(answer: Result<Counts, Fault>, out: &mut [u64; 3]) -> u64
+    ensures { handed result out.new ≡ numbers (load_numbers (counting answer)) }
 {
     match answer {
-        Ok(card) => {
-            let counts = card.layout.counts;
-            put(out, 0, counts.letters as u64, counts.states as u64, 0)
-        }
+        Ok(counts) => put(out, 0, counts.letters as u64, counts.states as u64, 0),
         Err(fault) => put(out, fault.number() as u64, 0, 0, 0),
     }
 }
@@ -41,8 +40,9 @@ pub fn stepped(answer: Result<Stepped, StepRefusal>, out: &mut [u64; 3]) -> u64
     ensures { handed result out.new ≡ step_handed (step_numbers (stepping answer)) }
 {
     match answer {
-        Ok(Stepped::Moved { next, mark }) => put(out, 0, next as u64, mark as u64, 0),
         Ok(Stepped::Owing { next, letters }) => put(out, 0, next as u64, 0, letters as u64),
+        Ok(Stepped::Accepting { next }) => put(out, 0, next as u64, 1, 0),
+        Ok(Stepped::Dead { next }) => put(out, 0, next as u64, 2, 0),
         Err(refusal) => put(out, refusal.number() as u64, 0, 0, 0),
     }
 }
@@ -93,11 +93,11 @@ pub fn counted(answer: Result<plans::Judged, Fault>, out: &mut [u64; 3]) -> u64
 }
 
 // Compiling: 0, and 0, the card's length, the peak; or the number of a refusal, and its line, 0, 0.
-pub fn compiled(answer: compiler::Compiled, out: &mut [u64; 3]) -> u64
+pub fn compiled(answer: Result<Compiled, compiler::Refusal>, out: &mut [u64; 3]) -> u64
     ensures { handed result out.new ≡ answer_numbers (reading answer) }
 {
     match answer {
-        compiler::Compiled::Card(length, peak) => put(out, 0, 0, length as u64, peak as u64),
-        compiler::Compiled::Refused(number, line) => put(out, number as u64, line as u64, 0, 0),
+        Ok(compiled) => put(out, 0, 0, compiled.length as u64, compiled.peak as u64),
+        Err(refusal) => put(out, refusal.number() as u64, refusal.line() as u64, 0, 0),
     }
 }

@@ -13,3 +13,10 @@ pub struct Layout {
     pub limits: Limits,
     pub size: usize,
 }
+
+// The slots of the names, A to M and N to Z, as they are read. Both may be one buffer.
+#[derive(Clone, Copy)]
+pub struct Names<'a> {
+    pub low: &'a [u8],
+    pub high: &'a [u8],
+}

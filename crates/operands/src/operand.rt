@@ -1,22 +1,11 @@
 // An operand brought into a slot of the stack.
-ghost use Rattle.std.specs.Prelude.{◌≡◌, suc, length};
-ghost use Rattle.language.specs.Evaluate.{column};
+ghost use Rattle.std.specs.Prelude.{suc};
 ghost use Rattle.slots.specs.Slot.{Holds};
 ghost use Rattle.codes.specs.Codes.{given_of};
 ghost use Rattle.operands.specs.Operand.{Writable, Bringing, Brought};
 
-use crate::{Layout, copies};
+use crate::{Layout, Names, copies};
 use codes::{Given, Source};
-
-// The place of a letter in line 1; the number of the letters where it has none.
-fn column_of(letters: &[u8], b: u8) -> usize
-    ensures { result ≡ column letters.now b }
-{
-    letters
-        .iter()
-        .position(|x| *x == b)
-        .unwrap_or(letters.len())
-}
 
 // A given machine, written into a slot.
 fn given(given: Given, most: usize, m: usize, slot: &mut [u8])
@@ -36,14 +25,13 @@ pub fn bring(
     source: Source,
     l: Layout,
     letters: &[u8],
-    first: &[u8],
-    second: &[u8],
+    names: &Names,
     registers: &[u8],
     stack: &mut [u8],
     i: usize,
 )
-    requires { Bringing l letters.now first.now second.now registers.now stack.old i source }
-    ensures { Brought l letters.now first.now second.now registers.now stack.old stack.new i source }
+    requires { Bringing l letters.now names.now.low.now names.now.high.now registers.now stack.old i source }
+    ensures { Brought l letters.now names.now.low.now names.now.high.now registers.now stack.old stack.new i source }
 {
     let size = l.size;
     let most = l.limits.states;
@@ -53,14 +41,14 @@ pub fn bring(
     let k = m + 1;
     match source {
         Source::Letter(b) => {
-            let c = column_of(letters, b);
+            let c = octets::place(letters, b);
             slots::given::letter(&mut stack[at..end], most, m, c);
         }
         Source::Name(b) => {
             if b <= 77 {
-                copies::copy(first, (b - 65) as usize * size, stack, at, most, k);
+                copies::copy(names.low, (b - 65) as usize * size, stack, at, most, k);
             } else {
-                copies::copy(second, (b - 78) as usize * size, stack, at, most, k);
+                copies::copy(names.high, (b - 78) as usize * size, stack, at, most, k);
             }
         }
         Source::Given(source) => {

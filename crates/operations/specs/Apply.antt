@@ -14,6 +14,8 @@ use Rattle.slots.specs.Aside.{Aside}
 use Rattle.answers.specs.Operate.{operate}
 use Rattle.answers.specs.Stage.{Ready, StageDone}
 use Rattle.answers.specs.declared.Made.{Made as Stage}
+use Rattle.answers.specs.declared.Scratch.{Scratch}
+use Rattle.answers.specs.Scratch.{SameRoom, same_room}
 use Rattle.answers.specs.declared.TooMany.{TooMany}
 use Rattle.answers.specs.Refusal.{refusal_of}
 use Rattle.operands.specs.Stack.{needs, slot_at, Below, fills, slot_same, slot_below}
@@ -43,42 +45,41 @@ abbrev pub tallest : ℕ
 tallest = 19
 
 -- The lent buffers: room for the stack, for the rows and their table, and for two operands and in their place the classes.
-pub record Lent (l : Layout) (m : ℕ) (stack rows table work : List ℕ) : Type 0 where
+pub record Lent (l : Layout) (m : ℕ) (stack : List ℕ) (scratch : Scratch) : Type 0 where
   pub states : (3 ≤ l.limits.states) × (l.limits.states ≤ 256)
   pub sets : (1 ≤ l.limits.sets) × (l.limits.sets < 65536)
   pub slot : needs l.limits.states (suc m) ≤ l.size
   pub stack_long : tallest * l.size ≤ length stack
-  pub rows_long : l.limits.sets * (l.limits.states + 2) ≤ length rows
-  pub table_long : l.limits.sets + l.limits.sets * suc m ≤ length table
-  pub work_long : (l.limits.states + l.limits.states * suc m) + (l.limits.states + l.limits.states * suc m) ≤ length work
-  pub classes_long : (l.limits.sets + (l.limits.sets + l.limits.sets) ≤ length work) × (l.limits.sets + l.limits.sets + l.limits.states ≤ length work)
+  pub rows_long : l.limits.sets * (l.limits.states + 2) ≤ length scratch.rows.now
+  pub table_long : l.limits.sets + l.limits.sets * suc m ≤ length scratch.table.now
+  pub work_long : (l.limits.states + l.limits.states * suc m) + (l.limits.states + l.limits.states * suc m) ≤ length scratch.work.now
+  pub classes_long : (l.limits.sets + (l.limits.sets + l.limits.sets) ≤ length scratch.work.now) × (l.limits.sets + l.limits.sets + l.limits.states ≤ length scratch.work.now)
 
 -- buffers of the same lengths
-pub lent_kept : {l : Layout} {m : ℕ} {stack rows table work stack' rows' table' work' : List ℕ} → Lent l m stack rows table work
-    → length stack' ≡ length stack → length rows' ≡ length rows → length table' ≡ length table → length work' ≡ length work → Lent l m stack' rows' table' work'
-lent_kept L a b c d = record {
+pub lent_kept : {l : Layout} {m : ℕ} {stack stack' : List ℕ} {scratch scratch' : Scratch} → Lent l m stack scratch → length stack' ≡ length stack → SameRoom scratch scratch' → Lent l m stack' scratch'
+lent_kept L a k = record {
   states = L.states;
   sets = L.sets;
   slot = L.slot;
   stack_long = rw a L.stack_long;
-  rows_long = rw b L.rows_long;
-  table_long = rw c L.table_long;
-  work_long = rw d L.work_long;
-  classes_long = rw d L.classes_long;
+  rows_long = rw k.0 L.rows_long;
+  table_long = rw k.1 L.table_long;
+  work_long = rw k.2 L.work_long;
+  classes_long = rw k.2 L.classes_long;
 }
 
 -- a slot of the stack ends in it
-pub slot_room : {l : Layout} {m : ℕ} {stack rows table work : List ℕ} → Lent l m stack rows table work → (i : ℕ) → i < tallest → i * l.size + l.size ≤ length stack
+pub slot_room : {l : Layout} {m : ℕ} {stack : List ℕ} {scratch : Scratch} → Lent l m stack scratch → (i : ℕ) → i < tallest → i * l.size + l.size ≤ length stack
 slot_room {l} L i h = omega (arith, L.stack_long, mul-le-mul_right {m = suc i} {n = tallest} l.size h, suc-mul i l.size)
 
 -- the columns are counted
-pub lent_columns : {l : Layout} {m : ℕ} {stack rows table work : List ℕ} → Lent l m stack rows table work → m + 1 ≤ length stack
+pub lent_columns : {l : Layout} {m : ℕ} {stack : List ℕ} {scratch : Scratch} → Lent l m stack scratch → m + 1 ≤ length stack
 lent_columns {l} {m} L =
     omega (arith, slot_room L 0 (omega arith), L.slot, L.states.0, mul-le-mul_right {m = 1} {n = l.limits.states} (suc m) (omega (arith, L.states.0)), suc-mul 0 (suc m), zero-mul (suc m), zero-mul l.size)
 
 -- An operation on the machines of two slots of the stack.
-pub record Applying (l : Layout) (m left right : ℕ) (stack rows table work : List ℕ) : Type 0 where
-  pub lent : Lent l m stack rows table work
+pub record Applying (l : Layout) (m left right : ℕ) (stack : List ℕ) (scratch : Scratch) : Type 0 where
+  pub lent : Lent l m stack scratch
   pub low : left < tallest
   pub high : right < tallest
   pub left_slot : Slot l.limits.states (suc m) (drop (left * l.size) stack)
@@ -96,9 +97,9 @@ pub record Makes (l : Layout) (m left : ℕ) (s t : List ℕ) (r : Result ℕ To
 
 -- ---- one operation
 
-pub apply_ready : {l : Layout} {m left right : ℕ} {stack rows table work : List ℕ} → Applying l m left right stack rows table work
-    → Ready m l.limits (left * l.size) (right * l.size) stack work rows table
-apply_ready {l} {m} {left} {right} {stack} {rows} {table} {work} A = record {
+pub apply_ready : {l : Layout} {m left right : ℕ} {stack : List ℕ} {scratch : Scratch} → Applying l m left right stack scratch
+    → Ready m l.limits (left * l.size) (right * l.size) stack scratch.work.now scratch.rows.now scratch.table.now
+apply_ready {l} {m} {left} {right} {stack} {scratch} A = record {
   left_slot = A.left_slot;
   right_slot = A.right_slot;
   states = (omega (arith, A.lent.states.0), A.lent.states.1);
@@ -128,21 +129,21 @@ module _ (op : Code) (l : Layout) (m left right : ℕ) (s t : List ℕ) where
 -- ---- the top moved up
 
 -- A slot of the stack with room for one more.
-pub record Doubling (l : Layout) (m top : ℕ) (stack rows table work : List ℕ) : Type 0 where
-  pub lent : Lent l m stack rows table work
+pub record Doubling (l : Layout) (m top : ℕ) (stack : List ℕ) (scratch : Scratch) : Type 0 where
+  pub lent : Lent l m stack scratch
   pub low : top + 1 < tallest
   pub slot : Slot l.limits.states (suc m) (drop (top * l.size) stack)
 
-pub record Besides (l : Layout) (ls first second registers : List ℕ) (x : Source) (top : ℕ) (stack rows table work : List ℕ) : Type 0 where
-  pub doubling : Doubling l (length ls) top stack rows table work
+pub record Besides (l : Layout) (ls first second registers : List ℕ) (x : Source) (top : ℕ) (stack : List ℕ) (scratch : Scratch) : Type 0 where
+  pub doubling : Doubling l (length ls) top stack scratch
   pub shelves : Shelves l (length ls) first second registers
   pub ready : OperandReady l (suc (length ls)) first second registers x
 
-pub double_room : {l : Layout} {m top : ℕ} {stack rows table work : List ℕ} → Doubling l m top stack rows table work → top * l.size + l.size + l.size ≤ length stack
+pub double_room : {l : Layout} {m top : ℕ} {stack : List ℕ} {scratch : Scratch} → Doubling l m top stack scratch → top * l.size + l.size + l.size ≤ length stack
 double_room {l} {m} {top} D = omega (arith, D.lent.stack_long, mul-le-mul_right {m = suc (suc top)} {n = tallest} l.size (omega (arith, D.low)), suc-mul top l.size, suc-mul (suc top) l.size)
 
 -- what raising the top asks
-pub raise_asks : {l : Layout} {m top : ℕ} {stack rows table work : List ℕ} → Doubling l m top stack rows table work
+pub raise_asks : {l : Layout} {m top : ℕ} {stack : List ℕ} {scratch : Scratch} → Doubling l m top stack scratch
     → Slot l.limits.states (m + 1) (drop (top * l.size) stack) × ((needs l.limits.states (m + 1) ≤ l.size) × (top * l.size + l.size + l.size ≤ length stack))
 raise_asks {l} {m} {top} D = rw (add-one m) (D.slot, (D.lent.slot, double_room D))
 
@@ -154,7 +155,7 @@ pub record Raised (l : Layout) (m top : ℕ) (s t : List ℕ) : Type 0 where
 next_place_lem : (top size : ℕ) → top * size + size ≡ (top + 1) * size
 next_place_lem top size = rw (add-one top) (omega (arith, suc-mul top size))
 
-pub raised : {l : Layout} {m top : ℕ} {s rows table work : List ℕ} → Doubling l m top s rows table work → (t : List ℕ)
+pub raised : {l : Layout} {m top : ℕ} {s : List ℕ} {scratch : Scratch} → Doubling l m top s scratch → (t : List ℕ)
     → Written s t (top * l.size + l.size) (fills l.limits.states (m + 1) (drop (top * l.size) s)) (λ i. get_or s (top * l.size + i) 0) → Raised l m top s t
 raised {l} {m} {top} {s} D t W = record {
   holds = subst (λ p. Holds l.limits.states (suc m) (drop p t) (slot_at l.limits.states (suc m) l.size s top)) (next_place_lem top l.size)
@@ -170,17 +171,17 @@ pub slot_aside : (l : Layout) (m i : ℕ) (s t : List ℕ) → needs l.limits.st
 slot_aside l m i s t h g A S =
     slot_same s t ((i + 1) * l.size) ((i + 1) * l.size) S (omega (arith, A.long)) (λ j v. A.same ((i + 1) * l.size + j) (inr (omega (arith, next_place_lem i l.size))))
 
-module _ {l : Layout} {ls first second registers : List ℕ} {x : Source} {top : ℕ} {s rows table work : List ℕ} (B : Besides l ls first second registers x top s rows table work) where
+module _ {l : Layout} {ls first second registers : List ℕ} {x : Source} {top : ℕ} {s : List ℕ} {scratch : Scratch} (B : Besides l ls first second registers x top s scratch) where
   pub beside_bring : {t : List ℕ} → Raised l (length ls) top s t → Bringing l ls first second registers t top x
   beside_bring R = record { shelves = B.shelves; room = omega (arith, double_room B.doubling, R.below.long); ready = B.ready }
 
   up_room : (top + 1) * l.size + l.size ≤ length s
   up_room = omega (arith, double_room B.doubling, next_place_lem top l.size)
 
-  pub beside_apply : {t u rows' table' work' : List ℕ} → Raised l (length ls) top s t → Brought l ls first second registers t u top x
-      → length rows' ≡ length rows → length table' ≡ length table → length work' ≡ length work → Applying l (length ls) top (top + 1) u rows' table' work'
-  beside_apply {t} {u} R P a b c = record {
-    lent = lent_kept B.doubling.lent (P.aside.long ∙ R.below.long) a b c;
+  pub beside_apply : {t u : List ℕ} {scratch' : Scratch} → Raised l (length ls) top s t → Brought l ls first second registers t u top x
+      → SameRoom scratch scratch' → Applying l (length ls) top (top + 1) u scratch'
+  beside_apply {t} {u} R P k = record {
+    lent = lent_kept B.doubling.lent (P.aside.long ∙ R.below.long) k;
     low = omega (arith, B.doubling.low);
     high = B.doubling.low;
     left_slot = P.holds.slot;
@@ -213,9 +214,9 @@ pub record Starred (l : Layout) (m top : ℕ) (s t : List ℕ) (r : Result ℕ T
   pub star : MadeBy l m (top + 1) t r (star_stage (format_of l) (suc m) (slot_at l.limits.states (suc m) l.size s top))
   pub below : Below (top * l.size) s t
 
-module _ {l : Layout} {m top : ℕ} {s rows table work : List ℕ} (D : Doubling l m top s rows table work) where
-  pub star_asks : {t : List ℕ} → Raised l m top s t → Applying l m (top + 1) (top + 1) t rows table work
-  star_asks R = record { lent = lent_kept D.lent R.below.long refl refl refl; low = D.low; high = D.low; left_slot = R.holds.slot; right_slot = R.holds.slot }
+module _ {l : Layout} {m top : ℕ} {s : List ℕ} {scratch : Scratch} (D : Doubling l m top s scratch) where
+  pub star_asks : {t : List ℕ} → Raised l m top s t → Applying l m (top + 1) (top + 1) t scratch
+  star_asks R = record { lent = lent_kept D.lent R.below.long (same_room scratch); low = D.low; high = D.low; left_slot = R.holds.slot; right_slot = R.holds.slot }
 
   two : {t : List ℕ} → Raised l m top s t → (top + 1) * l.size ≤ length t
   two R = omega (arith, double_room D, next_place_lem top l.size, R.below.long)
@@ -247,9 +248,9 @@ module _ {l : Layout} {m top : ℕ} {s rows table work : List ℕ} (D : Doubling
     plus_refused e i = record { answer = ap (λ X. then_made X λ B. concat_stage (format_of l) (suc m) A B) (star_is (Err e) i); below = S.below }
 
     module _ (n : ℕ) (e : r ≡ Ok n) where
-      pub plus_second : {rows' table' work' : List ℕ} → length rows' ≡ length rows → length table' ≡ length table → length work' ≡ length work → Applying l m top (top + 1) u rows' table' work'
-      plus_second a b c = record {
-        lent = lent_kept D.lent S.below.long a b c;
+      pub plus_second : {scratch' : Scratch} → SameRoom scratch scratch' → Applying l m top (top + 1) u scratch'
+      plus_second k = record {
+        lent = lent_kept D.lent S.below.long k;
         low = omega (arith, D.low);
         high = D.low;
         left_slot = S.under.slot;

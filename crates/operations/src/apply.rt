@@ -4,13 +4,14 @@ ghost use Rattle.std.specs.Prelude.{suc, length};
 ghost use Rattle.automata.specs.Stages.{star_stage, concat_stage};
 ghost use Rattle.sets.specs.Operations.{operation_of};
 ghost use Rattle.answers.specs.Operate.{operate};
+ghost use Rattle.answers.specs.Scratch.{SameRoom};
 ghost use Rattle.operands.specs.Stack.{slot_at};
 ghost use Rattle.operands.specs.Operand.{operand_in};
 ghost use Rattle.operations.specs.Apply.{format_of, Applying, Makes, Doubling, Besides, Starred};
 
-use answers::TooMany;
+use answers::{Scratch, TooMany};
 use codes::Source;
-use operands::{Layout, copies, operand};
+use operands::{Layout, Names, copies, operand};
 use sets::Operation;
 use stages::stage;
 
@@ -22,25 +23,14 @@ pub fn apply(
     left: usize,
     right: usize,
     stack: &mut [u8],
-    rows: &mut [u8],
-    table: &mut [u16],
-    work: &mut [u16],
+    scratch: &mut Scratch,
 ) -> Result<usize, TooMany>
-    requires { Applying l m left right stack.old rows.old table.old work.old }
-    ensures { Makes l m left stack.old stack.new result (operate (format_of l) m (operation_of op) (slot_at l.limits.states (suc m) l.size stack.old left) (slot_at l.limits.states (suc m) l.size stack.old right)) }
+    requires { Applying l m left right stack.old scratch.old }
+    ensures made { Makes l m left stack.old stack.new result (operate (format_of l) m (operation_of op) (slot_at l.limits.states (suc m) l.size stack.old left) (slot_at l.limits.states (suc m) l.size stack.old right)) }
+    ensures room { SameRoom scratch.old scratch.new }
 {
     let size = l.size;
-    let made = stage::stage(
-        op,
-        m,
-        l.limits,
-        stack,
-        left * size,
-        right * size,
-        work,
-        rows,
-        table,
-    )?;
+    let made = stage::stage(op, m, l.limits, stack, left * size, right * size, scratch)?;
     Ok(made.sets)
 }
 
@@ -50,22 +40,21 @@ pub fn beside(
     source: Source,
     l: Layout,
     letters: &[u8],
-    first: &[u8],
-    second: &[u8],
+    names: &Names,
     registers: &[u8],
     top: usize,
     stack: &mut [u8],
-    rows: &mut [u8],
-    table: &mut [u16],
-    work: &mut [u16],
+    scratch: &mut Scratch,
 ) -> Result<usize, TooMany>
-    requires { Besides l letters.now first.now second.now registers.now source top stack.old rows.old table.old work.old }
-    ensures { Makes l (length letters.now) top stack.old stack.new result (operate (format_of l) (length letters.now) (operation_of op) (operand_in l letters.now first.now second.now registers.now source) (slot_at l.limits.states (suc (length letters.now)) l.size stack.old top)) }
+    requires { Besides l letters.now names.now.low.now names.now.high.now registers.now source top stack.old scratch.old }
+    ensures made { Makes l (length letters.now) top stack.old stack.new result (operate (format_of l) (length letters.now) (operation_of op) (operand_in l letters.now names.now.low.now names.now.high.now registers.now source) (slot_at l.limits.states (suc (length letters.now)) l.size stack.old top)) }
+    ensures room { SameRoom scratch.old scratch.new }
 {
     let size = l.size;
-    copies::raise(stack, top * size, size, l.limits.states, letters.len() + 1);
-    operand::bring(source, l, letters, first, second, registers, stack, top);
-    apply(op, letters.len(), l, top, top + 1, stack, rows, table, work)
+    let m = letters.len();
+    copies::raise(stack, top * size, size, l.limits.states, m + 1);
+    operand::bring(source, l, letters, names, registers, stack, top);
+    apply(op, m, l, top, top + 1, stack, scratch)
 }
 
 // A stays, and `A*` stands above it.
@@ -74,26 +63,15 @@ fn star_above(
     l: Layout,
     top: usize,
     stack: &mut [u8],
-    rows: &mut [u8],
-    table: &mut [u16],
-    work: &mut [u16],
+    scratch: &mut Scratch,
 ) -> Result<usize, TooMany>
-    requires { Doubling l m top stack.old rows.old table.old work.old }
-    ensures { Starred l m top stack.old stack.new result }
+    requires { Doubling l m top stack.old scratch.old }
+    ensures made { Starred l m top stack.old stack.new result }
+    ensures room { SameRoom scratch.old scratch.new }
 {
     let size = l.size;
     copies::raise(stack, top * size, size, l.limits.states, m + 1);
-    apply(
-        Operation::Star,
-        m,
-        l,
-        top + 1,
-        top + 1,
-        stack,
-        rows,
-        table,
-        work,
-    )
+    apply(Operation::Star, m, l, top + 1, top + 1, stack, scratch)
 }
 
 // `A+`: `A*` beside A, and A joined with it.
@@ -102,24 +80,13 @@ pub fn plus(
     l: Layout,
     top: usize,
     stack: &mut [u8],
-    rows: &mut [u8],
-    table: &mut [u16],
-    work: &mut [u16],
+    scratch: &mut Scratch,
 ) -> Result<usize, TooMany>
-    requires { Doubling l m top stack.old rows.old table.old work.old }
-    ensures { Makes l m top stack.old stack.new result (then_made (star_stage (format_of l) (suc m) (slot_at l.limits.states (suc m) l.size stack.old top)) λ B. concat_stage (format_of l) (suc m) (slot_at l.limits.states (suc m) l.size stack.old top) B) }
+    requires { Doubling l m top stack.old scratch.old }
+    ensures made { Makes l m top stack.old stack.new result (then_made (star_stage (format_of l) (suc m) (slot_at l.limits.states (suc m) l.size stack.old top)) λ B. concat_stage (format_of l) (suc m) (slot_at l.limits.states (suc m) l.size stack.old top) B) }
+    ensures room { SameRoom scratch.old scratch.new }
 {
-    let starred = star_above(m, l, top, stack, rows, table, work)?;
-    let joined = apply(
-        Operation::Join,
-        m,
-        l,
-        top,
-        top + 1,
-        stack,
-        rows,
-        table,
-        work,
-    )?;
+    let starred = star_above(m, l, top, stack, scratch)?;
+    let joined = apply(Operation::Join, m, l, top, top + 1, stack, scratch)?;
     Ok(starred.max(joined))
 }

@@ -6,7 +6,7 @@ ghost use Rattle.packing.specs.Keep.{Keepable, KeptAt};
 
 use entries::table::Table;
 use minimise::smallest;
-use rows::number;
+use octets::number;
 
 // Keeps the smallest machine of the table in the slot that begins at a place: how many states it has. None where they are more than `most`. Nothing outside the
 // slot is changed.

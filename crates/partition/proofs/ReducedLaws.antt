@@ -61,12 +61,12 @@ module _ (m : ℕ) (ms bs : List ℕ) (t : Table 120 m ms bs) where
         omega (arith, u.named.low q (omega arith))
 
     -- there are no fewer classes
-    pub refined_grows : (n : ℕ) (ns : List ℕ) (r : ℕ) → n ≡ length ms → Refined m bs n c cs ns r → k ≤ r
-    refined_grows n ns r e s₀ = let s : Refined m bs (length ms) c cs ns r = rw e at s₀ in omega (arith, u.count, s.count, owned_mono cs ns (length ms) (refined_keeps ns r s))
+    pub refined_grows : (ns : List ℕ) (r : ℕ) → Refined m bs (length ms) c cs ns r → k ≤ r
+    refined_grows ns r s = omega (arith, u.count, s.count, owned_mono cs ns (length ms) (refined_keeps ns r s))
 
     -- one column more, which splits no class,
-    pub classes_next : (n : ℕ) (ns : List ℕ) (r : ℕ) → n ≡ length ms → c < m → Refined m bs n c cs ns r → ClassesUpto m ms bs ns r before (c + 1)
-    classes_next n ns r e h s₀ = record {
+    pub classes_next : (ns : List ℕ) (r : ℕ) → c < m → Refined m bs (length ms) c cs ns r → ClassesUpto m ms bs ns r before (c + 1)
+    classes_next ns r h s = record {
       long = s.long;
       named = s.named;
       count = s.count;
@@ -78,14 +78,11 @@ module _ (m : ℕ) (ms bs : List ℕ) (t : Table 120 m ms bs) where
       quiet = λ x p q i a b v y. still x p q i a b v y (lt_cases i c);
     }
       where
-        s : Refined m bs (length ms) c cs ns r
-        s = rw e at s₀
-
         keeps : (p : ℕ) → p < length ms → get_or cs p 0 ≡ p → get_or ns p 0 ≡ p
         keeps = refined_keeps ns r s
 
         grows : k ≤ r
-        grows = refined_grows n ns r e s₀
+        grows = refined_grows ns r s
 
         -- where there are no more classes, they are the same
         same : r ≡ before → (p : ℕ) → p < length ms → get_or ns p 0 ≡ get_or cs p 0
@@ -103,8 +100,8 @@ module _ (m : ℕ) (ms bs : List ℕ) (t : Table 120 m ms bs) where
             rw j (same x (get_or bs (p * m + c) 0) (move_inside _ _ _ _ t p c a h) ∙ (s.parts p q a b y).1 ∙ sym (same x (get_or bs (q * m + c) 0) (move_inside _ _ _ _ t q c b h)))
 
     -- or it does, and the same column comes again.
-    pub classes_stay : (n : ℕ) (ns : List ℕ) (r : ℕ) → n ≡ length ms → c < m → Refined m bs n c cs ns r → ClassesUpto m ms bs ns r before c
-    classes_stay n ns r e h s = let u' = classes_next n ns r e h s in
+    pub classes_stay : (ns : List ℕ) (r : ℕ) → c < m → Refined m bs (length ms) c cs ns r → ClassesUpto m ms bs ns r before c
+    classes_stay ns r h s = let u' = classes_next ns r h s in
         record { long = u'.long; named = u'.named; count = u'.count; more = u'.more; accept = u'.accept; coarse = u'.coarse; quiet = λ x p q i a b v. u'.quiet x p q i a b (omega arith) }
 
     -- a new pass

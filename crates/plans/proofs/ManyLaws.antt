@@ -1,19 +1,18 @@
 -- Plan after plan: what was judged so far, one plan more, and the end.
 use mathlib.Core.Path.{◌≡◌, refl, sym, ap, ◌∙◌}
-use mathlib.Core.List.{List, [], ◌∷◌, ◌++◌}
+use mathlib.Core.List.{List, [], ◌∷◌, ◌++◌, append_assoc}
 use Prim.Native.Nat.{ℕ, zero, suc, ◌+◌, ◌-◌, ◌*◌, ◌≤◌, ◌<◌}
 use native.Mathlib.Numerals.{add-one}
 use native.Mathlib.Omega.{arith}
 use mir.Syntax.{w64}
 use mir.Val.{Fits}
-use lib.ListN.{length, take, drop, set, length-append, length-take, length-drop, drop_of_length-le}
+use borrow.Rule.Slice.PartMut.{put_mid}
+use lib.ListN.{length, take, drop, length-append, length-drop, drop_of_length-le}
 use lib.Seq.{sets, sets-eq, take_at, drop_at, drop-drop, length-take-le}
 use Rattle.automata.specs.Format.{narrow}
 use Rattle.card.specs.Load.{load_test}
-use Rattle.card.specs.Verdict.{Verdict}
-use Rattle.card.specs.Reply.{Reply}
 use Rattle.card.specs.Judge.{judge}
-use Rattle.card.specs.Answer.{reply_numbers, rejected, load}
+use Rattle.card.specs.Answer.{Numbers, reply_numbers, rejected, load}
 use Rattle.std.specs.Prelude.{Result, Ok, Err}
 use Rattle.loading.specs.declared.Fault.{Fault}
 use Rattle.loading.specs.Faults.{fault_number}
@@ -49,16 +48,8 @@ replies_length c (p ∷ ps) = omega (arith, replies_length c ps)
 
 -- ---- numbers in their place
 
-pub three_sets : (l : List ℕ) (at x y z : ℕ) → set (set (set l at x) (at + 1) y) (at + 2) z ≡ sets l at (x ∷ y ∷ z ∷ [])
-three_sets l at x y z = let p : at + 1 ≡ suc at = omega arith in let q : at + 2 ≡ suc (suc at) = omega arith in rw (p, q)
-
--- the answer a is read as r
-pub sets_as : (old new : List ℕ) (at : ℕ) (a : Result Verdict' UnknownLetter) (r : Reply Verdict) → new ≡ sets old at (three (reply_numbers r)) → r ≡ reply_of a → new ≡ sets old at (three (reply_numbers (reply_of a)))
-sets_as old new at a r p e = p ∙ ap (λ x. sets old at (three (reply_numbers x))) e
-
--- a line is no longer than the whole
-pub line_small : (s : List ℕ) (from e : ℕ) → length (line_of s from e) ≤ length s
-line_small s from e = omega (arith, length-take (e - from) (drop from s), length-drop from s)
+pub three_put : (l ys : List ℕ) (at k : ℕ) (n : Numbers) → ys ≡ three n → k ≡ 3 → at + 3 ≤ length l → put_mid at k l ys ≡ sets l at (three n)
+three_put l ys at k n e f h = rw (e, f, drop-drop 3 at l) (sym (sets-eq (three n) l at h ∙ append_assoc (take at l) (three n) (drop (at + 3) l)))
 
 -- less of the text is left behind a plan's line end, and behind the last plan
 pub line_less : (l a e : ℕ) → a ≤ e → e < l → l - (e + 1) < l - a

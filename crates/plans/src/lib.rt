@@ -2,20 +2,18 @@
 // once.
 #![tactic(auto)]
 
-ghost use Rattle.std.specs.Prelude.{Ok, ◌≡◌, ◌∷◌, [], ◌+◌, ◌≤◌, length};
+ghost use Rattle.std.specs.Prelude.{Ok, ◌≡◌, ◌+◌, ◌≤◌, length};
 ghost use Rattle.std.proofs.lemmas.List.Edits.{sets};
 ghost use Rattle.automata.specs.Format.{narrow};
-ghost use Rattle.card.specs.Layout.{letters_of};
 ghost use Rattle.card.specs.Answer.{reply_numbers};
-ghost use Rattle.card.specs.Judge.{judge};
+ghost use Rattle.card.specs.Judge.{judge as judge_of};
 ghost use Rattle.run.specs.Reading.{reply_of};
-ghost use Rattle.run.specs.Cards.{bytes_of, states_in};
-ghost use Rattle.run.specs.Walk.{ColumnTable, OwedTable};
-ghost use Rattle.plans.specs.Plans.{LineEnd, line_of};
+ghost use Rattle.run.specs.Cards.{bytes_of};
+ghost use Rattle.plans.specs.Plans.{LineEnd};
 ghost use Rattle.plans.specs.Many.{three, JudgesLines};
 
 use loading::Fault;
-use run::{Card, UnknownLetter, Verdict};
+use run::{Judge, UnknownLetter, Verdict};
 
 // "A line ends with byte 0x0A"
 const LINE_END: u8 = 10;
@@ -32,74 +30,46 @@ pub fn line_end(bytes: &[u8], from: usize) -> usize
     requires { from ≤ length bytes.now }
     ensures { LineEnd bytes.now from result }
 {
-    for i in from..bytes.len() {
-        if bytes[i] == LINE_END {
-            return i;
-        }
-    }
-    bytes.len()
+    octets::place_from(bytes, from, LINE_END)
 }
 
-// Three numbers, from the place `at` on.
-fn put(replies: &mut [u64], at: usize, number: u64, first: u64, second: u64)
-    requires { at + 3 ≤ length replies.old }
-    ensures { replies.new ≡ sets replies.old at (number ∷ first ∷ second ∷ []) }
+// An answer's three numbers.
+fn numbers(answer: Result<Verdict, UnknownLetter>) -> [u64; 3]
+    ensures { result ≡ three (reply_numbers (reply_of answer)) }
 {
-    replies[at] = number;
-    replies[at + 1] = first;
-    replies[at + 2] = second;
+    match answer {
+        Ok(Verdict::Allowed) => [0, 1, 0],
+        Ok(Verdict::Unfinished(owed)) => [0, 0, owed as u64],
+        Ok(Verdict::Hopeless(k)) => [0, 2, k as u64],
+        Err(letter) => [UnknownLetter::NUMBER as u64, 0, letter.before as u64],
+    }
 }
 
-// An answer's three numbers, from the place `at` on.
-fn put_answer(replies: &mut [u64], at: usize, answer: Result<Verdict, UnknownLetter>)
+// An answer's numbers, from the place `at` on.
+fn put(replies: &mut [u64], at: usize, answer: Result<Verdict, UnknownLetter>)
     requires { at + 3 ≤ length replies.old }
     ensures { replies.new ≡ sets replies.old at (three (reply_numbers (reply_of answer))) }
 {
-    match answer {
-        Ok(Verdict::Allowed) => put(replies, at, 0, 1, 0),
-        Ok(Verdict::Unfinished(owed)) => put(replies, at, 0, 0, owed as u64),
-        Ok(Verdict::Hopeless(k)) => put(replies, at, 0, 2, k as u64),
-        Err(letter) => put(
-            replies,
-            at,
-            UnknownLetter::NUMBER as u64,
-            0,
-            letter.before as u64,
-        ),
-    }
+    replies[at..at + 3].copy_from_slice(&numbers(answer));
 }
 
-// The answer to the plan that begins at `from` and ends at `end`.
-fn judge_line(
-    card: &Card,
-    table: &[u8; 256],
-    owed: &[u16; 120],
-    plans: &[u8],
-    from: usize,
-    end: usize,
-) -> Result<Verdict, UnknownLetter>
-    requires { ColumnTable (letters_of narrow (bytes_of card.now)) table.now × (from ≤ end) × (end ≤ length plans.now) × OwedTable (bytes_of card.now) (states_in card.now) owed.now }
-    ensures { reply_of result ≡ judge narrow (bytes_of card.now) (line_of plans.now from end) }
+// The answer to a plan.
+fn judge_line(judge: &Judge, plan: &[u8]) -> Result<Verdict, UnknownLetter>
+    ensures { reply_of result ≡ judge_of narrow (bytes_of judge.now.walker.card) plan.now }
 {
-    let start = run::start(card);
-    let last = run::piece_by(card, table, start, &plans[from..end]);
-    run::reply_by(card, owed, last)
+    let start = run::start(&judge.walker.card);
+    let last = judge.walker.piece(start, plan);
+    judge.reply(last)
 }
 
 // The plans on a card that was tested.
-fn judge_each(
-    card: &Card,
-    table: &[u8; 256],
-    owed: &[u16; 120],
-    plans: &[u8],
-    replies: &mut [u64],
-) -> Judged
-    requires { ColumnTable (letters_of narrow (bytes_of card.now)) table.now × OwedTable (bytes_of card.now) (states_in card.now) owed.now }
-    ensures { JudgesLines (bytes_of card.now) plans.now replies.old replies.new (Ok result) }
+fn judge_each(judge: &Judge, plans: &[u8], replies: &mut [u64]) -> Judged
+    ensures { JudgesLines (bytes_of judge.now.walker.card) plans.now replies.old replies.new (Ok result) }
 {
     let mut count = 0;
     let mut at = 0;
     let mut from = 0;
+    // Stays: no index is counted; a turn takes a line, as long as there is room for its numbers, so that a range over the bytes would be no plainer.
     while from < plans.len() {
         let room = replies.len() - at;
         if room < 3 {
@@ -109,7 +79,7 @@ fn judge_each(
             };
         }
         let end = line_end(plans, from);
-        put_answer(replies, at, judge_line(card, table, owed, plans, from, end));
+        put(replies, at, judge_line(judge, &plans[from..end]));
         count += 1;
         at += 3;
         from = end;
@@ -128,7 +98,5 @@ pub fn judge_lines(bytes: &[u8], plans: &[u8], replies: &mut [u64]) -> Result<Ju
     ensures { JudgesLines bytes.now plans.now replies.old replies.new result }
 {
     let card = board::load(bytes)?;
-    let table = run::table(&card);
-    let owed = run::owed::owed_table(&card);
-    Ok(judge_each(&card, &table, &owed, plans, replies))
+    Ok(judge_each(&Judge::of(&card), plans, replies))
 }

@@ -35,12 +35,18 @@ fn board(rt: &impl Print, answer: Result<OnCard, Fault>) -> io::Result<()> {
     }
 }
 
-pub fn delivered(rt: &impl Print, answer: Delivered) -> io::Result<()> {
+pub fn delivered(rt: &impl Print, answer: Result<Delivered, compiler::Refusal>) -> io::Result<()> {
     match answer {
-        Delivered::Card(length, peak, answered) => {
+        Ok(delivered) => {
+            let length = delivered.compiled.length;
+            let peak = delivered.compiled.peak;
             print!(rt; "length {length} peak {peak}")?;
-            board(rt, answered)
+            board(rt, delivered.board)
         }
-        Delivered::Refused(number, line) => println!(rt; "refused {number} line {line}"),
+        Err(refusal) => {
+            let number = refusal.number();
+            let line = refusal.line();
+            println!(rt; "refused {number} line {line}")
+        }
     }
 }

@@ -2,7 +2,7 @@
 use Rattle.std.specs.Prelude.{◌≡◌, [], Result, Ok, Err, ℕ, suc, max}
 use Rattle.std.proofs.Common.{sym, subst}
 use Rattle.reader.specs.Names.{Holds, More}
-use Rattle.book.specs.Refusals.{refusal_number}
+use Rattle.reader.specs.declared.names.Names.{Names}
 use Rattle.book.specs.declared.refusal.Refusal as refused
 use Rattle.forms.specs.declared.Code.{Code}
 use Rattle.forms.specs.declared.Code.TheVariants.{Define, Rule}
@@ -11,7 +11,8 @@ use Rattle.kept.specs.declared.Place.{Place}
 use Rattle.kept.specs.declared.Place.TheVariants as place
 use Rattle.progress.specs.declared.Book.{Book}
 use Rattle.progress.specs.declared.Read.{Read}
-use Rattle.compiler.specs.declared.Refusal.{Refusal}
+use Rattle.compiler.specs.declared.LineRefusal.{LineRefusal}
+use Rattle.compiler.specs.declared.Reason.TheVariants.{NotRead}
 
 -- The book behind line 1.
 pub record Starts (next : ℕ) (r : Book) : Type 0 where
@@ -33,6 +34,19 @@ pub record Ruled (b : Book) (next p : ℕ) (r : Book) : Type 0 where
   pub names : r.names ≡ b.names
   pub peak : r.peak ≡ max b.peak p
 
+-- behind a line, with the names behind it
+pub record Follows (b : Book) (more : Names) (next p : ℕ) (r : Book) : Type 0 where
+  pub at : r.at ≡ next
+  pub line : r.line ≡ suc b.line
+  pub names : r.names ≡ more
+  pub peak : r.peak ≡ max b.peak p
+
+pub defined : {b : Book} {x next p : ℕ} {r : Book} {names : Names} → More b.names x names → Follows b names next p r → Defined b x next p r
+defined {b} {x} M F = record { at = F.at; line = F.line; names = subst (More b.names x) (sym F.names) M; peak = F.peak }
+
+pub ruled : {b : Book} {next p : ℕ} {r : Book} → Follows b b.names next p r → Ruled b next p r
+ruled F = record { at = F.at; line = F.line; names = F.names; peak = F.peak }
+
 abbrev pub Behind : Place → Book → ℕ → ℕ → Book → Type 0
 Behind (place.Name x) b next p r = Defined b x next p r
 Behind place.Book b next p r = Ruled b next p r
@@ -46,6 +60,6 @@ abbrev pub tell_code : Code → ℕ → Read
 tell_code (Define x len) next = record { place = place.Name x; len = len; next = next }
 tell_code (Rule len) next = record { place = place.Book; len = len; next = next }
 
-abbrev pub tell_of : Result Line refused.Refusal → ℕ → Result Read Refusal
+abbrev pub tell_of : Result Line refused.Refusal → ℕ → Result Read LineRefusal
 tell_of (Ok n) line = Ok (tell_code n.code n.next)
-tell_of (Err r) line = Err (record { number = refusal_number r; line = line })
+tell_of (Err r) line = Err (record { reason = NotRead r; line = line })

@@ -3,14 +3,13 @@
 
 #![tactic(auto)]
 
-ghost use Rattle.std.specs.Prelude.{◌≡◌, true};
+ghost use Rattle.std.specs.Prelude.{◌≡◌};
 ghost use Prim.Native.Nat.{◌<◌};
-ghost use Rattle.book.specs.Kind.{is_name};
 ghost use Rattle.kept.specs.Stored.{Right};
-ghost use Rattle.progress.specs.Progress.{Defined, Ruled, Behind, Starts, tell_of};
+ghost use Rattle.progress.specs.Progress.{Follows, Behind, Starts, tell_of};
 
 use book::refusal;
-use compiler::Refusal;
+use compiler::{LineRefusal, Reason};
 use forms::Code;
 use kept::Place;
 use reader::line::Line;
@@ -37,30 +36,15 @@ impl Book {
         }
     }
 
-    // The book behind a definition, whose stages made at most so many sets.
-    fn with_name(self, name: u8, next: usize, peak: usize) -> Self
-        requires name_value { is_name name ≡ true }
-        requires line_bound { self.line < 65536 }
-        ensures { Defined self name next peak result }
-    {
-        let names = self.names;
-        Book {
-            at: next,
-            line: self.line + 1,
-            names: names.with(name),
-            peak: self.peak.max(peak),
-        }
-    }
-
-    // The book behind a rule.
-    fn with_rule(self, next: usize, peak: usize) -> Self
+    // The book behind a line, with the names behind it, and whose stages made at most so many sets.
+    fn next_line(self, names: Names, next: usize, peak: usize) -> Self
         requires { self.line < 65536 }
-        ensures { Ruled self next peak result }
+        ensures { Follows self names next peak result }
     {
         Book {
             at: next,
             line: self.line + 1,
-            names: self.names,
+            names,
             peak: self.peak.max(peak),
         }
     }
@@ -70,9 +54,10 @@ impl Book {
         requires { Right place × (self.line < 65536) }
         ensures { Behind place self next peak result }
     {
+        let names = self.names;
         match place {
-            Place::Name(name) => self.with_name(name, next, peak),
-            Place::Book => self.with_rule(next, peak),
+            Place::Name(name) => self.next_line(names.with(name), next, peak),
+            Place::Book => self.next_line(names, next, peak),
         }
     }
 }
@@ -86,7 +71,7 @@ pub struct Read {
 }
 
 // What the reader says of the line of a number.
-pub fn tell(answer: Result<Line, refusal::Refusal>, line: usize) -> Result<Read, Refusal>
+pub fn tell(answer: Result<Line, refusal::Refusal>, line: usize) -> Result<Read, LineRefusal>
     ensures { result ≡ tell_of answer line }
 {
     match answer {
@@ -102,8 +87,8 @@ pub fn tell(answer: Result<Line, refusal::Refusal>, line: usize) -> Result<Read,
                 next: read.next,
             }),
         },
-        Err(refusal) => Err(Refusal {
-            number: refusal.number(),
+        Err(refusal) => Err(LineRefusal {
+            reason: Reason::NotRead(refusal),
             line,
         }),
     }

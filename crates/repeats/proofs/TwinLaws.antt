@@ -1,5 +1,5 @@
 -- Columns that lead the states of a row to the same places lead the row to the same row.
-use mathlib.Core.Path.{◌≡◌, refl, sym, ap, ap₂, ◌∙◌}
+use mathlib.Core.Path.{◌≡◌, refl, ap, ap₂, ◌∙◌}
 use mathlib.Core.Bool.{Bool, true, false, ◌&&◌, ◌||◌}
 use Rattle.std.specs.Prelude.{Option, Some, None, IfSome}
 use mathlib.Core.List.{List}
@@ -14,13 +14,12 @@ use Rattle.automata.specs.Basics.{LtCases, lt_cases}
 use borrow.Author.Tests.{eq-eqb, ne_eqb}
 use Rattle.automata.specs.Automaton.{Automaton}
 use Rattle.automata.specs.Decide.{any_below}
-use Rattle.automata.specs.Table.{table_step}
 use Rattle.rows.specs.Rows.{number_at, number_bytes, flag_at, pair_row}
 use Rattle.flags.specs.Flags.{flag_row, leads_to}
 use Rattle.flags.proofs.FlagLaws.{flags_row, row_flags, flags_same, any_ext}
-use Rattle.sets.specs.Fits.{left_of, right_of, rows_for, RowFits, Fits}
+use Rattle.sets.specs.Fits.{left_of, right_of, rows_for, RowFits}
 use Rattle.sets.specs.Operations.{ends, marks, Operation, pairing, concatenation, star, erase, operation_of, rows_of, pair_rows, concat_rows, star_rows, erase_rows}
-use Rattle.sets.specs.declared.Shape.{Shape}
+use Rattle.sets.specs.declared.operands.Operands.{Operands}
 use Rattle.repeats.specs.Twins.{Twins, TwinTable}
 
 -- rows whose flags two tests say alike
@@ -69,49 +68,47 @@ module _ (m na nb : ℕ) (A B : Automaton ℕ) (d c : ℕ) where
   all_alike u v ea eb star r h = λ q l f. ea q l
   all_alike u v ea eb erase r h = (u, v, λ q l f. ea q l)
 
-pub twin_step : (s : Shape) (a b : List ℕ) (d c : ℕ) → Fits s a b → Twins s a b d c → (r : List ℕ) → RowFits (operation_of s.op) s.na s.nb r → (rows_for s a b).step r d ≡ (rows_for s a b).step r c
-twin_step s a b d c F W r h =
-    alike_step (s.k - 1) s.na s.nb (left_of s a) (right_of s b) d c (operation_of s.op) r
-    (all_alike (s.k - 1) s.na s.nb (left_of s a) (right_of s b) d c (λ e. omega (arith, W.low)) (λ e. omega (arith, W.high))
-    (λ q g. table_step s.ba s.na s.k a F.left q d g (omega (arith, W.low)) ∙ W.left q g ∙ sym (table_step s.ba s.na s.k a F.left q c g (omega (arith, W.high))))
-    (λ q g. table_step s.bb s.nb s.k b F.right q d g (omega (arith, W.low)) ∙ W.right q g ∙ sym (table_step s.bb s.nb s.k b F.right q c g (omega (arith, W.high))))
-    (operation_of s.op) r h)
+pub twin_step : (s : Operands) (d c : ℕ) → Twins s d c → (r : List ℕ) → RowFits (operation_of s.op) s.left.states s.right.states r → (rows_for s).step r d ≡ (rows_for s).step r c
+twin_step s d c W r h =
+    let m = s.left.columns - 1 in
+    alike_step m s.left.states s.right.states (left_of s) (right_of s) d c (operation_of s.op) r
+    (all_alike m s.left.states s.right.states (left_of s) (right_of s) d c (λ e. omega (arith, W.low)) (λ e. omega (arith, W.high)) W.left W.right (operation_of s.op) r h)
 
 -- By the mark an erase leads every row to the empty one.
-pub mark_step : (s : Shape) (a b : List ℕ) (r r' : List ℕ) (c : ℕ) → operation_of s.op ≡ erase → c ≡ s.k - 1 → (rows_for s a b).step r c ≡ (rows_for s a b).step r' c
+pub mark_step : (s : Operands) (r r' : List ℕ) (c : ℕ) → operation_of s.op ≡ erase → c ≡ s.left.columns - 1 → (rows_for s).step r c ≡ (rows_for s).step r' c
 unfolding erase_rows
-mark_step s a b r r' c o e = rw (o, eq-eqb c (s.k - 1) e)
+mark_step s r r' c o e = rw (o, eq-eqb c (s.left.columns - 1) e)
 
 -- ---- the table of twins
 
 -- The columns before c have their twins, those from c on none.
-pub record TwinsTo (s : Shape) (a b : List ℕ) (l : List (Option ℕ)) (c : ℕ) : Type 0 where
+pub record TwinsTo (s : Operands) (l : List (Option ℕ)) (c : ℕ) : Type 0 where
   pub within : c ≤ 64
   pub long : length l ≡ 64
   pub none : (i : ℕ) → c ≤ i → i < 64 → get_or l i None ≡ None
-  pub some : (i d : ℕ) → i < c → get_or l i None ≡ Some d → (d < i) × Twins s a b d i
+  pub some : (i d : ℕ) → i < c → get_or l i None ≡ Some d → (d < i) × Twins s d i
 
-pub twins_none : (s : Shape) (a b : List ℕ) → TwinsTo s a b (replicate 64 None) 0
-twins_none s a b = record { within = omega arith; long = length-replicate {A = Option ℕ} 64 None; none = λ i h g. get_or-replicate {A = Option ℕ} 64 i None None g; some = λ i d h z. absurd (omega arith) }
+pub twins_none : (s : Operands) → TwinsTo s (replicate 64 None) 0
+twins_none s = record { within = omega arith; long = length-replicate {A = Option ℕ} 64 None; none = λ i h g. get_or-replicate {A = Option ℕ} 64 i None None g; some = λ i d h z. absurd (omega arith) }
 
-pub twins_more : (s : Shape) (a b : List ℕ) (l : List (Option ℕ)) (c : ℕ) (o : Option ℕ) → TwinsTo s a b l c → c < 64 → IfSome o (λ d. (d < c) × Twins s a b d c) → TwinsTo s a b (set l c o) (c + 1)
-twins_more s a b l c o T h new = record {
+pub twins_more : (s : Operands) (l : List (Option ℕ)) (c : ℕ) (o : Option ℕ) → TwinsTo s l c → c < 64 → IfSome o (λ d. (d < c) × Twins s d c) → TwinsTo s (set l c o) (c + 1)
+twins_more s l c o T h new = record {
   within = omega arith;
   long = length-set l c o ∙ T.long;
   none = λ i g x. get_or-set_other l c i o None (λ z. omega arith) ∙ T.none i (omega arith) x;
   some = λ i d g z. go i d g z (lt_cases i c);
 }
   where
-    go : (i d : ℕ) → i < c + 1 → get_or (set l c o) i None ≡ Some d → LtCases i c → (d < i) × Twins s a b d i
+    go : (i d : ℕ) → i < c + 1 → get_or (set l c o) i None ≡ Some d → LtCases i c → (d < i) × Twins s d i
     go i d g z (inl x) = T.some i d x.0 (rw (get_or-set_other l c i o None (λ y. omega (arith, x.0))) at z)
     go i d g z (inr x) =
         let e : i ≡ c = omega (arith, x.0) in
         let y : get_or (set l c o) c None ≡ Some d = rw e at z in
         rw e (rw (rw (get_or-set_same l c o None (omega (arith, T.long))) at y) at new)
 
-pub twins_all : (s : Shape) (a b : List ℕ) (l : List (Option ℕ)) (c : ℕ) → TwinsTo s a b l c → TwinTable s a b l
-twins_all s a b l c T = record { twin = λ i d h z. go i d h z (lt_cases i c) }
+pub twins_all : (s : Operands) (l : List (Option ℕ)) (c : ℕ) → TwinsTo s l c → TwinTable s l
+twins_all s l c T = record { twin = λ i d h z. go i d h z (lt_cases i c) }
   where
-    go : (i d : ℕ) → i < 64 → get_or l i None ≡ Some d → LtCases i c → (d < i) × Twins s a b d i
+    go : (i d : ℕ) → i < 64 → get_or l i None ≡ Some d → LtCases i c → (d < i) × Twins s d i
     go i d h z (inl x) = T.some i d x.0 z
     go i d h z (inr x) = let y : get_or l i None ≡ None = T.none i x.0 h in absurd (cc)

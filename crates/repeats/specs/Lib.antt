@@ -1,3 +1,4 @@
 -- When a transition repeats an earlier one.
 pub mod Twins
 pub mod Repeats
+pub mod Order

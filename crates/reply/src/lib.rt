@@ -11,6 +11,7 @@ use run::Verdict;
 pub const LONGEST: usize = 32;
 
 // A word, a number and the line's end, from the place `at` on. The next place.
+// Stays: a format promises its text only of a write that gives Ok, and a line that has room is always written.
 fn numbered(out: &mut [u8], at: usize, word: &[u8], number: usize) -> usize
     requires { at + (length word.now + 21) ≤ length out.old }
     ensures { PutNumbered out.old at word.now number out.new result }

@@ -1,7 +1,8 @@
 -- What is written for an answer: "writes the card, or the line `refused N line L`, to standard output".
-use Rattle.std.specs.Prelude.{◌≡◌, List, [], ◌∷◌, ◌++◌, ℕ, ◌≤◌, length, take}
+use Rattle.std.specs.Prelude.{◌≡◌, List, [], ◌∷◌, ◌++◌, ℕ, ◌≤◌, Result, Ok, Err, length, take}
 use Rattle.compiler.specs.declared.Compiled.{Compiled}
-use Rattle.compiler.specs.declared.Compiled.TheVariants.{Card, Refused}
+use Rattle.compiler.specs.Refusals.{refused_number, refused_line}
+use Rattle.compiler.specs.declared.Refusal.{Refusal}
 use Rattle.stream.specs.Text.{decimal}
 
 -- "refused ", " line " and the line end
@@ -22,10 +23,10 @@ abbrev pub longest : ℕ
 longest = 64
 
 -- the card, which is the buffer's first bytes, or the refusal's line
-abbrev pub shown : Compiled → List ℕ → List ℕ
-shown (Card length peak) card = take length card
-shown (Refused number line) card = refusal_line number line
+abbrev pub shown : Result Compiled Refusal → List ℕ → List ℕ
+shown (Ok c) card = take c.length card
+shown (Err r) card = refusal_line (refused_number r) (refused_line r)
 
-pub record Shows (a : Compiled) (card out : List ℕ) (r : ℕ) : Type 0 where
+pub record Shows (a : Result Compiled Refusal) (card out : List ℕ) (r : ℕ) : Type 0 where
   pub within : r ≤ length out
   pub is : take r out ≡ shown a card

@@ -1,30 +1,28 @@
-// What the compiling program writes for an answer: the card, or the line `refused N line L`. A part: the caller gives a buffer that the longest line fits.
+// What the compiling program writes for an answer: the card, or the line `refused N line L`.
 #![tactic(auto)]
 
-ghost use Rattle.std.specs.Prelude.{◌≤◌, length};
-ghost use Rattle.report.specs.Shown.{longest, Shows};
+ghost use Rattle.std.specs.Io.KnownBytes.{Appends};
+ghost use Rattle.std.specs.Prelude.{OnOk};
+ghost use Rattle.report.specs.Shown.{shown};
 
-use compiler::Compiled;
+use compiler::{Compiled, Refusal};
+use std::io;
+use std::io::Write;
 
-// The bytes to be written for an answer, in front of `card`, where the card stands already. How many they are.
-pub fn show(answer: Compiled, card: &mut [u8]) -> usize
-    requires { longest ≤ length card.old }
-    ensures { Shows answer card.old card.new result }
+// Writes the card, which is the buffer's first bytes, or the refusal's line.
+pub fn show<W: Write>(
+    answer: Result<Compiled, Refusal>,
+    card: &[u8],
+    output: &mut W,
+) -> io::Result<()>
+    ensures { OnOk result (Appends (W.contents output.old) (W.contents output.new) (shown answer card.now)) }
 {
     match answer {
-        Compiled::Card(length, _) => {
-            if card.len() < length {
-                return card.len();
-            }
-            length
-        }
-        Compiled::Refused(number, line) => {
-            let n = number as usize;
-            let a = stream::put(card, 0, b"refused ");
-            let b = stream::put_number(card, a, n);
-            let c = stream::put(card, b, b" line ");
-            let d = stream::put_number(card, c, line);
-            stream::put(card, d, b"\n")
+        Ok(compiled) => output.write_all(&card[..compiled.length.min(card.len())]),
+        Err(refusal) => {
+            let number = refusal.number();
+            let line = refusal.line();
+            writeln!(output, "refused {number} line {line}")
         }
     }
 }

@@ -4,7 +4,8 @@ ghost use Rattle.rows.specs.Rows.{pair_row};
 ghost use Rattle.rows.specs.Sums.{row_sum};
 
 use crate::chains::Row;
-use crate::{number, sum};
+use crate::sum;
+use octets::number;
 
 #[derive(Clone, Copy)]
 pub struct Pair {

@@ -5,29 +5,22 @@ use mathlib.Core.List.{List}
 use Prim.Native.Nat.{ℕ, ◌<◌}
 use native.Mathlib.Omega.{arith}
 use lib.ListN.{get_or}
-use mir.Syntax.{w64}
-use mir.Val.{Fits}
 use Rattle.automata.specs.Format.{narrow}
 use Rattle.automata.specs.Distance.{distance}
-use Rattle.automata.proofs.Distance.{distance_most}
 use Rattle.card.specs.Layout.{letter_count, mark_at, marks_of, moves_of, machine_of}
-use Rattle.card.proofs.LayoutLaws.{size_is}
 use Rattle.card.specs.Loads.{Loaded}
 use Rattle.card.proofs.Loads.{load_loaded}
 use Rattle.card.specs.Mark.{Mark, is_accepting, is_dead, is_live}
 use Rattle.card.specs.Judge.{owed}
-use Rattle.fields.specs.CardTable.{card_holds, card_table}
-use Rattle.moves.specs.Holds.{Table, Holds}
+use Rattle.fields.specs.CardTable.{card_holds}
+use Rattle.moves.specs.Holds.{Holds}
 use Rattle.levels.specs.Levels.{DistanceExactly, DistancesExactly}
 use Rattle.run.specs.Walk.{Ready, OwedTable}
-use Rattle.run.proofs.WalkLaws.{ready_counted, states_few, mark_room, mark_is}
+use Rattle.run.proofs.WalkLaws.{ready_counted, mark_room, mark_is}
 
 module _ (c : List ℕ) (m n : ℕ) (y : Ready c m n) (ms : List ℕ) (f : ms ≡ marks_of narrow c) (bs : List ℕ) (e : bs ≡ moves_of narrow c) where
   on_card : Loaded narrow c
   on_card = load_loaded narrow c y.loads
-
-  pub table_of : Table 120 m ms bs
-  table_of = card_table c m n (ready_counted c m n y) ms f bs e on_card.inside
 
   holds_of : Holds m ms bs (machine_of narrow c)
   holds_of = card_holds c m n (ready_counted c m n y) ms f bs e on_card.inside
@@ -45,9 +38,3 @@ module _ (c : List ℕ) (m n : ℕ) (y : Ready c m n) (ms : List ℕ) (f : ms �
 
   pub owed_table : (t : List ℕ) → DistancesExactly m ms bs t → OwedTable c n t
   owed_table t D = record { entry = λ q h z. owed_is q (get_or t q 0) h z (D.each q (mark_room c m n y q ms f h) (mark_is c m n y q ms f h ∙ z)) }
-
--- a number of the table is no more than the states
-pub entry_wide : (c : List ℕ) (m n : ℕ) → Ready c m n → (t : List ℕ) → OwedTable c n t → (q : ℕ) → q < n → mark_at narrow c q ≡ 0 → Fits w64 (get_or t q 0)
-entry_wide c m n y t o q h z = record {
-  fits = omega (arith, o.entry q h z, distance_most (letter_count narrow c) (machine_of narrow c) q, size_is narrow c (load_loaded narrow c y.loads).contents, y.states, states_few c m n y);
-}

@@ -1,27 +1,22 @@
--- Runs: past a dead state, the start, one piece more, and the answer at the end.
+-- Runs: past a dead state, and one piece more.
 use mathlib.Core.Path.{◌≡◌, sym, ap, ◌∙◌}
-use mathlib.Core.Logic.{◌≢◌}
 use mathlib.Core.List.{List, []}
 use Prim.Native.Nat.{ℕ, zero, suc, ◌+◌, ◌-◌, ◌≤◌, ◌<◌}
 use native.Mathlib.Omega.{arith}
 use lib.ListN.{length, get_or, drop, drop_of_length-le}
-use borrow.Author.Tests.{eq-eqb, ne_eqb}
 use Rattle.automata.specs.Format.{narrow}
 use Rattle.card.specs.Layout.{mark_at, letters_of}
 use Rattle.card.specs.Alphabet.{column}
-use Rattle.card.specs.Verdict.{allowed, hopeless}
-use Rattle.card.specs.Reply.{answered, refused}
 use Rattle.card.specs.Judge.{none, found}
-use Rattle.card.specs.Run.{going, halted, run_start, run_on, run_reply}
+use Rattle.card.specs.Run.{going, halted, run_on}
 use Rattle.card.proofs.RunLaws.{letter_known, letter_unknown, run_halted}
-use Rattle.std.specs.Prelude.{Option, Some, None, Result, Ok, Err}
+use Rattle.std.specs.Prelude.{Option, Some, None}
 use Rattle.run.specs.declared.Run.{Run as Run'}
 use Rattle.run.specs.declared.Walk.{Walk}
 use Rattle.run.specs.declared.Walk.TheVariants.{Done, Dead, Unknown}
-use Rattle.run.specs.declared.End.TheVariants.{Owing}
 use Rattle.run.specs.Reading.{place_of, run_of}
-use Rattle.run.specs.Walk.{Ready, Underway, KnownTo, Walked, rest, Runs, Tells}
-use Rattle.run.proofs.WalkLaws.{front, letters_many_lem, on_the_way, dead_same}
+use Rattle.run.specs.Walk.{Ready, Underway, KnownTo, Walked, rest, Runs}
+use Rattle.run.proofs.WalkLaws.{front, letters_many_lem, dead_same}
 
 -- ---- past a dead state
 
@@ -50,13 +45,7 @@ module _ (c : List ℕ) (m n : ℕ) (r : Ready c m n) (plan : List ℕ) (from k 
   pub past_end : length plan ≤ k → run_on narrow c (going q l (found d)) (drop from plan) ≡ going q (l + (k - from)) (found d)
   past_end b = let z : drop k plan ≡ [] = drop_of_length-le plan {i = k} b in all ∙ (rw z)
 
--- ---- the start
-
-pub start_dead : (c : List ℕ) → mark_at narrow c 0 ≡ 2 → going 0 0 (found 0) ≡ run_start narrow c
-start_dead c e = rw (eq-eqb (mark_at narrow c 0) 2 e)
-
-pub start_live : (c : List ℕ) → mark_at narrow c 0 ≢ 2 → going 0 0 none ≡ run_start narrow c
-start_live c d = rw (ne_eqb (mark_at narrow c 0) 2 d)
+-- ---- a place, or none
 
 pub never : {A : Type 0} (k : ℕ) → ◌≡◌ {A = Option ℕ} None (Some k) → A
 never k e = cc
@@ -79,21 +68,6 @@ module _ (c plan : List ℕ) (r : Run') where
 
   pub piece_walk : (n : ℕ) (w : Walk) → r.unknown ≡ None → r.dead ≡ None → Walked c n plan r.state w → rest c plan r.letters w ≡ run_on narrow c (run_of r) plan
   piece_walk n w e f u = sym (ap (λ s. run_on narrow c s plan) (piece_live e f) ∙ u.is r.letters)
-
--- ---- the answer
-
-module _ (c : List ℕ) (r : Run') where
-  pub reply_unknown : (k : ℕ) → r.unknown ≡ Some k → refused 27 k ≡ run_reply narrow c (run_of r)
-  reply_unknown k e = rw e
-
-  pub reply_dead : (k : ℕ) → r.unknown ≡ None → r.dead ≡ Some k → answered (hopeless k) ≡ run_reply narrow c (run_of r)
-  reply_dead k e f = rw (e, f)
-
-  pub reply_allowed : r.unknown ≡ None → r.dead ≡ None → mark_at narrow c r.state ≡ 1 → answered allowed ≡ run_reply narrow c (run_of r)
-  reply_allowed e f g = rw (e, f, eq-eqb (mark_at narrow c r.state) 1 g)
-
-  pub reply_owing : (m n : ℕ) → Ready c m n → Underway c n r → r.unknown ≡ None → r.dead ≡ None → mark_at narrow c r.state ≢ 1 → Tells c n r (Ok (Owing r.state))
-  reply_owing m n y u e f g = (u.inside, on_the_way c m n y r.state u.inside g (u.alive f), (rw (e, f, ne_eqb (mark_at narrow c r.state) 1 g)))
 
 -- ---- the cases of a piece
 

@@ -8,7 +8,7 @@ use native.Mathlib.Numerals.{add-one}
 use native.Mathlib.Omega.{arith}
 use lib.ListN.{length, get_or, take, drop, drop_of_length-le}
 use lib.Seq.{drop-cons, get_or-take, get_or-drop}
-use mir.Syntax.{w8, w64}
+use mir.Syntax.{w8}
 use mir.Val.{Fits}
 use borrow.Author.Tests.{eq-eqb, ne_eqb}
 use Rattle.automata.specs.Basics.{LtCases, lt_cases, nat_test, find_le}
@@ -81,17 +81,14 @@ module _ (c : List ℕ) (m n : ℕ) (r : Ready c m n) where
   pub mark_is : (p : ℕ) (ms : List ℕ) → ms ≡ marks_of narrow c → p < n → get_or ms p 0 ≡ mark_at narrow c p
   mark_is p ms e h = ap (λ l. get_or l p 0) e ∙ marks_at narrow c right p (low p h)
 
-  -- a state that neither accepts nor is dead is on the way
-  pub on_the_way : (p : ℕ) → p < n → mark_at narrow c p ≢ 1 → mark_at narrow c p ≢ 2 → mark_at narrow c p ≡ 0
-  on_the_way p h a d = go (mark_at narrow c p) refl (on_card.marked p (low p h))
+  -- a state that is neither unfinished nor accepting is dead
+  pub dead_else : (p : ℕ) → p < n → mark_at narrow c p ≢ 0 → mark_at narrow c p ≢ 1 → 2 ≡ mark_at narrow c p
+  dead_else p h z a = go (mark_at narrow c p) refl (on_card.marked p (low p h))
     where
-      go : (v : ℕ) → mark_at narrow c p ≡ v → Mark (letter_count narrow c) (machine_of narrow c) p v → mark_at narrow c p ≡ 0
+      go : (v : ℕ) → mark_at narrow c p ≡ v → Mark (letter_count narrow c) (machine_of narrow c) p v → 2 ≡ mark_at narrow c p
       go v e (is_accepting x) = absurd (a e)
-      go v e (is_dead x) = absurd (d e)
-      go v e (is_live x w o t) = e
-
-  pub some_state : 0 < n
-  some_state = rw r.states at right.states_some
+      go v e (is_live x w o t) = absurd (z e)
+      go v e (is_dead d) = sym e
 
   -- a dead state stays
   pub dead_same : (p i : ℕ) → p < n → i < m → mark_at narrow c p ≡ 2 → move_at narrow c p i ≡ p

@@ -1,20 +1,15 @@
 -- What the parts of the walk require and say.
-use Rattle.std.specs.Prelude.{Some, None, Result, Ok, Err, ◌≡◌, ◌≢◌, List, ℕ, ◌+◌, ◌≤◌, ◌<◌, length, get_or, drop}
+use Rattle.std.specs.Prelude.{Some, None, ◌≡◌, ◌≢◌, List, ℕ, ◌+◌, ◌≤◌, ◌<◌, length, get_or, drop}
 use Rattle.automata.specs.Format.{narrow}
 use Rattle.card.specs.Layout.{letter_count, state_count, mark_at}
 use Rattle.card.specs.Alphabet.{column}
 use Rattle.card.specs.Load.{load_test}
-use Rattle.card.specs.Verdict.{unfinished}
-use Rattle.card.specs.Reply.{answered, refused}
 use Rattle.card.specs.Judge.{none, found, owed}
-use Rattle.card.specs.Run.{Run, going, halted, run_on, run_reply}
+use Rattle.card.specs.Run.{Run, going, halted, run_on}
 use Rattle.run.specs.declared.Run.{Run as Run'}
 use Rattle.run.specs.declared.Walk.{Walk}
 use Rattle.run.specs.declared.Walk.TheVariants.{Done, Dead, Unknown}
-use Rattle.run.specs.declared.End.{End}
-use Rattle.run.specs.declared.End.TheVariants.{Told, Owing}
-use Rattle.run.specs.declared.UnknownLetter.{UnknownLetter}
-use Rattle.run.specs.Reading.{run_of, verdict_of, unknown_letter}
+use Rattle.run.specs.Reading.{run_of}
 
 -- The card loads, with m letters and n states: what one load establishes.
 pub record Ready (c : List ℕ) (m n : ℕ) : Type 0 where
@@ -64,9 +59,3 @@ pub record Runs (c : List ℕ) (n : ℕ) (s : Run) (r : Run') : Type 0 where
 -- The table has the number of every state whose marks byte is 0.
 pub record OwedTable (c : List ℕ) (n : ℕ) (t : List ℕ) : Type 0 where
   pub entry : (q : ℕ) → q < n → mark_at narrow c q ≡ 0 → get_or t q 0 ≡ owed narrow c q
-
--- What a run says at the plan's end: the refusal, or the verdict, or the state whose number is the verdict's.
-abbrev pub Tells : List ℕ → ℕ → Run' → Result End UnknownLetter → Type 0
-Tells c n r (Err letter) = refused unknown_letter letter.before ≡ run_reply narrow c (run_of r)
-Tells c n r (Ok (Told v)) = answered (verdict_of v) ≡ run_reply narrow c (run_of r)
-Tells c n r (Ok (Owing q)) = (q < n) × (mark_at narrow c q ≡ 0) × (run_reply narrow c (run_of r) ≡ answered (unfinished (owed narrow c q)))

@@ -10,13 +10,12 @@ use borrow.Author.Tests.{eq-eqb, ne_eqb, lt-ltb, le-ltb, le-leb, lt-leb}
 use lib.Dec.{eqb, leb}
 use lib.ListN.{length, take, drop, drop_of_length-le, get_or}
 use lib.Seq.{drop-cons, take_all}
-use Rattle.std.proofs.Common.{◌≢◌, length-drop}
+use Rattle.std.proofs.Common.{length-drop}
 use Rattle.std.specs.Prelude.{count_by, cond, ◌==◌}
 use Rattle.std.proofs.lemmas.List.Recursion.{is_count_by}
-use Rattle.std.specs.List.{AllWithin, HoldsAt}
-use Rattle.std.proofs.lemmas.List.{get_or-drop}
 use Rattle.automata.specs.Booleans.{choose}
-use Rattle.automata.specs.Basics.{LtCases, lt_cases, SameCases, nat_test, same_cases}
+use Rattle.automata.specs.Basics.{LtCases, lt_cases, SameCases, nat_test, same_cases, find}
+use Rattle.octets.proofs.PlaceLaws.{place_within, place_before, place_found}
 use Rattle.automata.specs.Format.{narrow}
 use Rattle.book.specs.Kind.{kind_of, sign_only, letter_kind, open_kind, close_kind, line_end_kind, colon_kind, underscore_kind}
 use Rattle.book.specs.Text.{lines_of, too_deep, count_of, line_test, rising, is_head, letters_of}
@@ -74,22 +73,11 @@ line_from s i w e (suc n) at q p h =
 pub ends_at : (s : List ℕ) (at i : ℕ) → at ≤ i → i ≤ length s → (i < length s → kind_of (get_or s i 0) ≡ line_end_kind) → Plain s at i → Ends s at i
 ends_at s at i h w e p = record { from = h; within = w; lines = λ l. line_from s i w e (i - at) at (omega arith) p l }
 
--- the first line end behind `at`, or none
-module _ (s : List ℕ) (at i : ℕ) (h : at ≤ length s) (p : AllWithin (λ x. x ≢ 10) (drop at s) 0 i) where
-  add_back : (j : ℕ) → at ≤ j → at + (j - at) ≡ j
-  add_back j l = omega arith
-
-  plain_within : Plain s at (at + i)
-  plain_within = record { none = λ j l m e. p (j - at) 0 (omega arith) (omega arith) (sign_only _ 12 (rw (get_or-drop at s (j - at) 0, add_back j l) e)) }
-
-  pub ends_found : i < length (drop at s) → HoldsAt (λ x. x ≡ 10) (drop at s) i → Ends s at (at + i)
-  ends_found l e = ends_at s at (at + i) (omega arith) (omega (arith, length-drop at s)) (λ _. ap kind_of found) plain_within
-    where
-      found : get_or s (at + i) 0 ≡ 10
-      found = rw (← get_or-drop at s i 0) (e 0)
-
-  pub ends_last : i ≡ length (drop at s) → Ends s at (length s)
-  ends_last e = let z : at + i ≡ length s = omega (arith, length-drop at s) in rw (← z) (ends_at s at (at + i) (omega arith) (omega arith) (λ k. absurd (omega arith)) plain_within)
+-- the first line end from `at` on
+pub ends_from : (s : List ℕ) (at e : ℕ) → at ≤ length s → e ≡ at + find nat_test 10 (drop at s) → Ends s at e
+ends_from s at e h q =
+    let w = place_within s at 10 e h q in
+    ends_at s at e w.0 w.1 (λ l. ap kind_of (place_found s at 10 e h q l)) (record { none = λ j l m x. place_before s at 10 e h q j l m (sign_only _ 12 x) })
 
 -- ---- 3 and 4
 

@@ -7,8 +7,5 @@ pub fn line_end(text: &[u8], at: usize) -> usize
     requires { at ≤ length text.now }
     ensures { Ends text.now at result }
 {
-    match text[at..].iter().position(|b| *b == b'\n') {
-        Some(behind) => at + behind,
-        None => text.len(),
-    }
+    octets::place_from(text, at, b'\n')
 }

@@ -1,15 +1,12 @@
 -- Laws of the marks bytes: by the table alone, and that they are those of the restriction to letters.
-use mathlib.Core.Path.{◌≡◌, refl, sym, ap, ◌∙◌}
+use mathlib.Core.Path.{◌≡◌, sym, ap, ◌∙◌}
 use mathlib.Core.Bool.{true, false}
 use mathlib.Core.Logic.{◌⊎◌, inl, inr, ◌≢◌}
 use mathlib.Core.List.{List, [], ◌∷◌}
-use Prim.Native.Nat.{ℕ, suc, ◌+◌, ◌-◌, ◌*◌, ◌<◌}
-use native.Mathlib.Omega.{arith}
-use native.Mathlib.Numerals.{add-one}
-use lib.ListN.{length, get_or, take, drop, length-drop}
-use lib.Seq.{get_or-take, get_or-drop, length-take-le}
+use Prim.Native.Nat.{ℕ, suc, ◌+◌, ◌<◌}
+use lib.ListN.{length, get_or}
 use Rattle.automata.specs.Automaton.{Automaton}
-use Rattle.automata.specs.Basics.{SameCases, same_cases, nat_test, find}
+use Rattle.automata.specs.Basics.{nat_test, find}
 use Rattle.automata.specs.Booleans.{bool_cases}
 use Rattle.automata.specs.Dead.{Dead, dead_stays}
 use Rattle.automata.specs.Live.{live}
@@ -19,48 +16,20 @@ use Rattle.automata.specs.Restrict.{restrict}
 use Rattle.automata.proofs.Restrict.{restrict_canonical}
 use Rattle.automata.specs.Table.{flag_of, table_accepting}
 use Rattle.card.specs.Mark.{marks, mark_by, marks_get_or, marks_length}
-use Rattle.numbering.specs.Arrival.{kept_machine, Ordered}
+use Rattle.numbering.specs.Arrival.{kept_machine, LetterRow, Ordered}
 use Rattle.sections.specs.StateMark.{row_of, StateMark, accepts, stays, leaves}
 use Rattle.sections.specs.Kept.{Kept}
 use Rattle.numbering.proofs.NumberLaws.{row_step}
-use Rattle.numbering.proofs.NumberLaws.{row_of as numbered_row}
-use Rattle.automata.specs.Table.{ClosedTable}
 use Rattle.sections.proofs.RestrictLaws.{L, list_at, order_below, restrict_count, restrict_step, find_there, up}
 
 -- ---- one state
 
-pub flag_set : (x : ℕ) → x ≢ 0 → flag_of x ≡ true
-flag_set x h = go (same_cases nat_test x 0)
-  where
-    go : SameCases nat_test x 0 → flag_of x ≡ true
-    go (inl p) = absurd (h p.0)
-    go (inr p) = rw p.1
+module _ (n m : ℕ) (t : List ℕ) (s : ℕ) (row : List ℕ) (R : LetterRow n m t s row) where
+  pub mark_stays : flag_of (get_or t s 0) ≡ false → ((c : ℕ) → c < length row → get_or row c 0 ≡ s) → StateMark m t s 2
+  mark_stays e u = stays e (λ c b. sym (R.entry c b) ∙ u c (rw R.long b))
 
-pub flag_clear : (x : ℕ) → x ≡ 0 → flag_of x ≡ false
-flag_clear x e = rw e
-
--- the row of state s, as it is read
-abbrev pub part : ℕ → List ℕ → ℕ → List ℕ
-part m t s = take (120 + s * (m + 1) + m - (120 + s * (m + 1))) (drop (120 + s * (m + 1)) t)
-
-module _ (n m : ℕ) (t : List ℕ) (s : ℕ) (C : ClosedTable 120 n (suc m) t) (h : s < n) where
-  row_at : (c : ℕ) → c < m → get_or (part m t s) c 0 ≡ get_or t (row_of m s + c) 0
-  row_at c b =
-      let z : 120 + s * (m + 1) + m - (120 + s * (m + 1)) ≡ m = omega arith in
-      rw (z, get_or-take m (drop (120 + s * (m + 1)) t) c 0 b, get_or-drop (120 + s * (m + 1)) t c 0, add-one m) refl
-
-  long : length (part m t s) ≡ m
-  long =
-      let z : 120 + s * (m + 1) + m - (120 + s * (m + 1)) ≡ m = omega arith in
-      rw z (length-take-le m (drop (120 + s * (m + 1)) t) (omega (arith, length-drop (120 + s * (m + 1)) t, (numbered_row n m t C s h).room)))
-
-  pub mark_stays : get_or t s 0 ≡ 0
-      → ((c : ℕ) → c < length (part m t s) → get_or (part m t s) c 0 ≡ s) → StateMark m t s 2
-  mark_stays e u = stays (flag_clear (get_or t s 0) e) (λ c b. sym (row_at c b) ∙ u c (rw long b))
-
-  pub mark_leaves : get_or t s 0 ≡ 0
-      → (c : ℕ) × (c < length (part m t s)) × (get_or (part m t s) c 0 ≢ s) → StateMark m t s 0
-  mark_leaves e (c, b, d) = let b' : c < m = rw long at b in leaves (flag_clear (get_or t s 0) e) c b' (λ x. d (row_at c b' ∙ x))
+  pub mark_leaves : flag_of (get_or t s 0) ≡ false → (c : ℕ) × (c < length row) × (get_or row c 0 ≢ s) → StateMark m t s 0
+  mark_leaves e (c, b, d) = let b' : c < m = rw R.long at b in leaves e c b' (λ x. d (R.entry c b' ∙ x))
 
 -- ---- the marks bytes of the restriction
 
@@ -85,7 +54,7 @@ module _ (n m : ℕ) (t : List ℕ) (K : Kept n m t) (o : List ℕ) (count : ℕ
     flag = sym (rw (← e) at (up n m t K.closed o count O i h [] tt)) ∙ table_accepting 120 n (suc m) t K.closed s sn
 
     step_s : (c : ℕ) → c < m → A.step s c ≡ get_or t (row_of m s + c) 0
-    step_s c b = rw (add-one m) at (row_step n m t K.closed s sn c b)
+    step_s c b = row_step n m t K.closed s sn c b
 
     -- a state that letters do not leave is dead,
     dead_old : flag_of (get_or t s 0) ≡ false → ((c : ℕ) → c < m → get_or t (row_of m s + c) 0 ≡ s) → Dead m A s

@@ -16,7 +16,7 @@ use Rattle.automata.specs.Rows.{flat}
 use Rattle.automata.specs.Table.{ClosedTable, table_formed}
 use Rattle.card.specs.Number.{Bytes, bytes_of}
 use Rattle.card.proofs.Number.{below_flat}
-use Rattle.numbering.specs.Arrival.{kept_machine, Arranged}
+use Rattle.numbering.specs.Arrival.{kept_machine, row_place, Arranged}
 use Rattle.sections.specs.Laid.{Laid}
 use Rattle.sections.specs.Parts.{row_bytes, move_bytes}
 use Rattle.sections.proofs.LaidLaws.{laid_none, laid_join}
@@ -43,7 +43,7 @@ rows_room m i count h = omega (arith, suc-mul i m, mul-le-mul_right {m = suc i} 
 
 -- where the row of the state that has number i is read
 abbrev pub place_of : ℕ → List ℕ → ℕ → ℕ
-place_of m o i = 120 + get_or o i 0 * (m + 1)
+place_of m o i = row_place m (get_or o i 0)
 
 -- the bytes of the first i rows
 pub rows_upto : ℕ → List ℕ → List ℕ → List ℕ → ℕ → List ℕ

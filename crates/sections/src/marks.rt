@@ -1,13 +1,14 @@
 // The marks bytes: 1 for an accepting state, 2 for a dead one, else 0.
-ghost use Rattle.std.specs.Prelude.{◌≡◌, ◌≢◌, true, false, ℕ, suc, ◌+◌, ◌≤◌, ◌<◌, length, get_or};
-ghost use Rattle.automata.specs.Table.{ClosedTable};
-ghost use Rattle.numbering.specs.Arrival.{Ordered};
+ghost use Rattle.std.specs.Prelude.{◌≡◌, ◌≢◌, true, false, ℕ, ◌+◌, ◌≤◌, ◌<◌, length, get_or};
+ghost use Rattle.moves.specs.Marks.{mark_byte};
 ghost use Rattle.sections.specs.Laid.{Laid};
 ghost use Rattle.sections.specs.Parts.{mark_bytes};
 ghost use Rattle.sections.specs.StateMark.{StateMark};
 ghost use Rattle.sections.specs.Kept.{Kept};
 
 use moves::Mark;
+use numbering::Reached;
+use numbering::kept::KeptMachine;
 
 // Each of these moves leads to state s.
 fn stays(row: &[u8], s: usize) -> bool
@@ -17,32 +18,28 @@ fn stays(row: &[u8], s: usize) -> bool
     row.iter().all(|target| *target as usize == s)
 }
 
-// The marks byte of state s: no two states are equivalent, so a state is dead just when it does not accept and every letter leads back to it.
-fn mark(slot: &[u8], n: usize, m: usize, s: usize) -> u8
-    requires closed_table { ClosedTable 120 n (suc m) slot.now }
-    requires s_lt_n { s < n }
-    ensures { StateMark m slot.now s result }
+// The mark of state s: no two states are equivalent, so a state is dead just when it does not accept and every letter leads back to it.
+fn mark(machine: &KeptMachine, s: usize) -> Mark
+    requires { s < machine.now.states }
+    ensures { StateMark machine.now.letters machine.now.bytes.now s (mark_byte result) }
 {
-    if slot[s] != 0 {
-        return Mark::Accepting as u8;
+    if machine.accepts(s) {
+        return Mark::Accepting;
     }
-    let at = 120 + s * (m + 1);
-    let mark = if stays(&slot[at..at + m], s) {
-        Mark::Dead
-    } else {
-        Mark::Unfinished
-    };
-    mark as u8
+    if stays(machine.row(s), s) {
+        return Mark::Dead;
+    }
+    Mark::Unfinished
 }
 
 // The marks bytes of the numbered states, behind the letters.
-pub fn put_marks(slot: &[u8], n: usize, m: usize, count: usize, order: &[u8; 120], card: &mut [u8])
-    requires kept { Kept n m slot.now }
-    requires ordered { Ordered n m slot.now order.now count }
-    requires count_in_bounds { 12 + m + count ≤ length card.old }
-    ensures { Laid (12 + m) (12 + m + count) (mark_bytes n m slot.now) card.old card.new }
+pub fn put_marks(reached: &Reached, card: &mut [u8])
+    requires kept { Kept reached.now.machine.states reached.now.machine.letters reached.now.machine.bytes.now }
+    requires count_in_bounds { 12 + reached.now.machine.letters + reached.now.numbering.count ≤ length card.old }
+    ensures { Laid (12 + reached.now.machine.letters) (12 + reached.now.machine.letters + reached.now.numbering.count) (mark_bytes reached.now.machine.states reached.now.machine.letters reached.now.machine.bytes.now) card.old card.new }
 {
-    for i in 0..count {
-        card[12 + m + i] = mark(slot, n, m, order[i] as usize);
+    let start = 12 + reached.machine.letters;
+    for i in 0..reached.numbering.count {
+        card[start + i] = mark(&reached.machine, reached.numbering.order[i] as usize).byte();
     }
 }

@@ -5,13 +5,17 @@ use Prim.Native.Nat.{ℕ, ◌+◌, ◌*◌, ◌-◌, ◌/◌, ◌%◌, ◌≤◌
 use native.Mathlib.Omega.{arith}
 use lib.ListN.{length, take, drop}
 use Rattle.automata.specs.Automaton.{Automaton, Over, run, Reachable}
-use Rattle.automata.specs.Table.{table_step}
 use Rattle.rows.specs.Rows.{number_at, row_at}
 use Rattle.rows.proofs.RowLaws.{row_part, row_length}
 use Rattle.flags.proofs.MemberLaws.{lists_taken}
-use Rattle.sets.specs.Fits.{left_of, right_of, rows_for, RowFits, Fits, Source, Listed}
+use Rattle.flags.proofs.TableLaws.{step_target}
+use Rattle.sets.specs.Fits.{left_of, right_of, rows_for, RowFits, Source, Listed}
 use Rattle.sets.specs.Operations.{Operation, pairing, concatenation, star, erase, operation_of, rows_of, pair_rows, concat_rows, star_rows, erase_rows}
-use Rattle.sets.specs.declared.Shape.{Shape}
+use Rattle.sets.specs.declared.operands.Operands.{Operands}
+
+-- a column of the left operand is one of the right
+pub right_column : (s : Operands) (c : ℕ) → c < s.left.columns → c < s.right.columns
+right_column s c h = rw s.fits.same h
 
 number_bytes_lem : (p : ℕ) → p % 256 + 256 * (p / 256) ≡ p
 number_bytes_lem p = omega arith
@@ -35,21 +39,21 @@ module _ (k m na nb : ℕ) (A B : Automaton ℕ) (sa : 1 ≤ na) (sb : 1 ≤ nb)
   run_fits o r [] v h = h
   run_fits o r (c ∷ w) v h = run_fits o ((rows_of o m na A nb B).step r c) w v.1 (step_fits o r c v.0 h)
 
-pub reach_fits : (s : Shape) (a b : List ℕ) → Fits s a b → (r : List ℕ) → Reachable s.k (rows_for s a b) r → RowFits (operation_of s.op) s.na s.nb r
-reach_fits s a b F r (w, o, e) =
-    rw e at (run_fits s.k (s.k - 1) s.na s.nb (left_of s a) (right_of s b) F.left.some F.right.some
-    (λ p c h b. rw (table_step s.ba s.na s.k a F.left p c h b) (F.left.inside p c h b))
-    (λ p c h v. rw (table_step s.bb s.nb s.k b F.right p c h v) (F.right.inside p c h v))
-    (operation_of s.op) (rows_for s a b).start w o
-    (start_fits s.k (s.k - 1) s.na s.nb (left_of s a) (right_of s b) F.left.some F.right.some
-    (λ p c h b. rw (table_step s.ba s.na s.k a F.left p c h b) (F.left.inside p c h b))
-    (λ p c h v. rw (table_step s.bb s.nb s.k b F.right p c h v) (F.right.inside p c h v))
+pub reach_fits : (s : Operands) → (r : List ℕ) → Reachable s.left.columns (rows_for s) r → RowFits (operation_of s.op) s.left.states s.right.states r
+reach_fits s r (w, o, e) =
+    rw e at (run_fits s.left.columns (s.left.columns - 1) s.left.states s.right.states (left_of s) (right_of s) s.left.closed.some s.right.closed.some
+    (λ p c h b. rw (step_target s.left p c h b) (s.left.closed.inside p c h b))
+    (λ p c h v. rw (step_target s.right p c h (right_column s c v)) (s.right.closed.inside p c h (right_column s c v)))
+    (operation_of s.op) (rows_for s).start w o
+    (start_fits s.left.columns (s.left.columns - 1) s.left.states s.right.states (left_of s) (right_of s) s.left.closed.some s.right.closed.some
+    (λ p c h b. rw (step_target s.left p c h b) (s.left.closed.inside p c h b))
+    (λ p c h v. rw (step_target s.right p c h (right_column s c v)) (s.right.closed.inside p c h (right_column s c v)))
     (operation_of s.op)))
 
 -- a row in the buffer is one from which the next is made
-pub row_source : (s : Shape) (rows : List ℕ) (p : ℕ) → p * s.w + s.w ≤ length rows → RowFits (operation_of s.op) s.na s.nb (row_at s.w p rows)
-    → Source s (take (p * s.w + s.w - p * s.w) (drop (p * s.w) rows))
-row_source s rows p h f = rw (row_part s.w p rows) (record { long = row_length s.w p rows h; fits = f })
+pub row_source : (s : Operands) (rows : List ℕ) (p : ℕ) → p * s.width + s.width ≤ length rows → RowFits (operation_of s.op) s.left.states s.right.states (row_at s.width p rows)
+    → Source s (take (p * s.width + s.width - p * s.width) (drop (p * s.width) rows))
+row_source s rows p h f = rw (row_part s.width p rows) (record { long = row_length s.width p rows h; fits = f })
 
 -- the listed states alone, without what stands behind them
 pub listed_taken : (o : Operation) (na nb : ℕ) (r : List ℕ) (held : ℕ) (members : List ℕ) → Listed o na nb r held members → Listed o na nb r (length (take held members)) (take held members)

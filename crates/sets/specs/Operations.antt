@@ -81,6 +81,15 @@ operation_of Join = concatenation
 operation_of Star = star
 operation_of Erase = erase
 
+-- how many machines an operation is of
+abbrev pub operands_of : Code → ℕ
+operands_of Either = 2
+operands_of Both = 2
+operands_of Without = 2
+operands_of Join = 2
+operands_of Star = 1
+operands_of Erase = 1
+
 -- the sets are pairs of states
 abbrev pub is_pairing : Operation → Bool
 is_pairing (pairing o) = true

@@ -1,9 +1,11 @@
 // The sets of an operation on two machines as rows of bytes, an automaton of rows for each operation, as definitions and laws; the operations, and an
-// operation's shape.
+// operation's operands.
 #![tactic(auto)]
 
+pub mod operands;
+
 ghost use Rattle.std.specs.Prelude.{◌≡◌};
-ghost use Rattle.sets.specs.Operations.{operation_of, is_pairing};
+ghost use Rattle.sets.specs.Operations.{operation_of, is_pairing, operands_of};
 
 // `|`, `&`, `-`, concatenation, star and erase.
 #[derive(Clone, Copy, PartialEq, Eq)]
@@ -26,18 +28,14 @@ impl Operation {
             Operation::Join | Operation::Star | Operation::Erase => false,
         }
     }
-}
 
-// The operation, the number of columns, for each operand its number of states and where its transitions begin, the bytes of a row, and the most sets.
-// Star and erase take their one operand twice.
-#[derive(Clone, Copy)]
-pub struct Shape {
-    pub op: Operation,
-    pub k: usize,
-    pub na: usize,
-    pub ba: usize,
-    pub nb: usize,
-    pub bb: usize,
-    pub w: usize,
-    pub limit: usize,
+    // How many machines it is of.
+    pub fn operands(self) -> usize
+        ensures { result ≡ operands_of self }
+    {
+        match self {
+            Operation::Star | Operation::Erase => 1,
+            Operation::Either | Operation::Both | Operation::Without | Operation::Join => 2,
+        }
+    }
 }

@@ -4,19 +4,13 @@ ghost use Rattle.std.specs.Prelude.{◌≡◌, ◌+◌, ◌*◌, ◌<◌, ◌≤
 ghost use Rattle.rows.specs.Rows.{number_at};
 ghost use Rattle.slots.specs.Slot.{Slot, Written, UnpackedAt, Loaded};
 
+use octets::number;
+
 // The numbers of states of the two operands.
 #[derive(Clone, Copy)]
 pub struct Sizes {
     pub left: usize,
     pub right: usize,
-}
-
-// The number in two bytes, low byte first.
-pub fn number(s: &[u8], at: usize) -> usize
-    requires { at + 2 ≤ length s.now }
-    ensures { result ≡ number_at s.now at }
-{
-    rows::number::read(s, at)
 }
 
 // The bytes of src from a place on, as numbers of dst from a place on.
@@ -36,7 +30,7 @@ pub fn unpack(slots: &[u8], at: usize, most: usize, k: usize, out: &mut [u16], t
     requires k_in_bounds { to + (most + number_at (drop at slots.now) 0 * k) ≤ length out.old }
     ensures { UnpackedAt most k (drop at slots.now) out.old out.new to result }
 {
-    let n = number(slots, at);
+    let n = number::read(slots, at);
     widen(slots, at + 2, out, to, most + n * k);
     n
 }

@@ -1,10 +1,14 @@
 -- The keys that classes are split by: acceptance, and where a column leads.
-use mathlib.Core.Path.{◌≡◌}
+use mathlib.Core.Path.{◌≡◌, refl, sym, ap, ◌∙◌}
+use mathlib.Core.Bool.{Bool, true, false}
 use mathlib.Core.List.{List}
 use Prim.Native.Nat.{ℕ, ◌+◌, ◌*◌, ◌<◌}
 use lib.ListN.{length, get_or}
 use lib.Dec.{eqb}
-use Rattle.automata.specs.Partition.{bit}
+use native.Mathlib.Omega.{arith}
+use Rattle.std.specs.List.{HoldsAt}
+use mir.Val.{bool_byte as from_bool}
+use Rattle.moves.specs.Holds.{AcceptKeys}
 
 -- ---- keys of the states below p
 
@@ -15,8 +19,18 @@ pub record KeysUpto (most : ℕ) (f : ℕ → ℕ) (ks : List ℕ) (p : ℕ) : T
 
 -- ---- acceptance
 
-abbrev pub accept_key : List ℕ → ℕ → ℕ
-accept_key ms q = bit (eqb 1 (get_or ms q 0))
+pub accept_keys : (ms ks : List ℕ) → length ks ≡ 120 → ((p : ℕ) → p < length ms → HoldsAt (λ x. x ≡ from_bool (eqb 1 (get_or ms p 0))) ks p) → AcceptKeys ms ks
+accept_keys ms ks l f = record {
+  long = l;
+  sound = λ p q h b e. alike (eqb 1 (get_or ms p 0)) (eqb 1 (get_or ms q 0)) (sym (f p h 0) ∙ e ∙ f q b 0);
+  whole = λ p q h b e. f p h 0 ∙ ap from_bool e ∙ sym (f q b 0);
+}
+  where
+    alike : (a b : Bool) → from_bool a ≡ from_bool b → a ≡ b
+    alike true true e = refl
+    alike true false e = absurd (omega arith)
+    alike false true e = absurd (omega arith)
+    alike false false e = refl
 
 -- ---- a column
 

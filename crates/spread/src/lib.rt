@@ -9,14 +9,14 @@ ghost use Rattle.entries.specs.Classes.{Sized, Refining};
 use entries::table::Table;
 
 // Classes by answer and number, in place of those that some rounds found; where the numbers do not settle, the classes stay.
-pub fn spread(table: &Table, work: &mut [u16])
-    requires sized { Sized table.now work.old }
-    requires refining { Refining table.now work.old 0 }
-    ensures { Refining table.now work.new 0 }
+pub fn spread(table: &Table, classes: &mut [u16], far: &mut [u16], firsts: &mut [u16])
+    requires sized { Sized table.now classes.old far.old firsts.old }
+    requires refining { Refining table.now classes.old 0 }
+    ensures { Refining table.now classes.new 0 }
 {
-    if !change::changes(table, work) {
+    if !change::changes(table, far) {
         return;
     }
-    gather::gather(table, work, 0);
-    gather::gather(table, work, 1);
+    gather::gather(table, classes, far, firsts, false);
+    gather::gather(table, classes, far, firsts, true);
 }

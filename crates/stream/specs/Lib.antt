@@ -2,3 +2,4 @@
 pub mod Text
 pub mod TextLaws
 pub mod Input
+pub mod Failures

@@ -1,7 +1,8 @@
 // What the programs share: a whole input in a lent buffer, and text in one.
 #![tactic(auto)]
 
-ghost use Rattle.std.specs.Prelude.{◌+◌, ◌≤◌, ◌<◌, length, IfOk};
+ghost use Rattle.std.specs.Prelude.{◌+◌, ◌≤◌, ◌<◌, Some, length, IfOk};
+ghost use Rattle.stream.specs.Failures.{failure_text};
 ghost use Rattle.stream.specs.Text.{Put, PutNumber, decimal};
 ghost use Rattle.stream.specs.Input.{IsPrefixLen, ReadsFirst};
 
@@ -19,6 +20,8 @@ pub enum Failure {
 }
 
 impl fmt::Display for Failure {
+    ghost output = { λ failure. Some (failure_text failure) };
+
     fn fmt<W: fmt::Write>(&self, f: &mut fmt::Formatter<W>) -> fmt::Result {
         match self {
             Failure::NotRead => write!(f, "standard input cannot be read"),
@@ -71,14 +74,6 @@ pub fn put_number(out: &mut [u8], at: usize, number: usize) -> usize
     if number < 10 {
         return put_digit(out, at, number as u8);
     }
-    let mut digits = [0u8; 20];
-    let mut k = 20;
-    let mut rest = number;
-    // Stays: the number tells how many digits there are.
-    while rest > 0 {
-        k -= 1;
-        digits[k] = ZERO + (rest % 10) as u8;
-        rest /= 10;
-    }
-    put(out, at, &digits[k..])
+    let mut digits = itoa::Buffer::new();
+    put(out, at, digits.format(number).as_bytes())
 }

@@ -3,8 +3,7 @@ use mathlib.Core.Path.{◌≡◌, sym, ap, ◌∙◌, subst}
 use mathlib.Core.Bool.{Bool, cond}
 use mathlib.Core.Logic.{◌⊎◌, inl, inr}
 use mathlib.Core.List.{List, []}
-use Prim.Native.Nat.{ℕ, suc, ◌+◌, ◌*◌, ◌%◌, ◌≤◌, ◌<◌}
-use native.Mathlib.Nat.{mod-eq_of_lt}
+use Prim.Native.Nat.{ℕ, suc, ◌+◌, ◌*◌, ◌≤◌, ◌<◌}
 use native.Mathlib.Omega.{arith}
 use lib.Dec.{ltb}
 use lib.ListN.{length, get_or, set}
@@ -18,6 +17,7 @@ use Rattle.rows.proofs.HashLaws.{chained_store}
 use Rattle.rows.proofs.RowLaws.{row_within}
 use Rattle.repeats.specs.Repeats.{Earlier}
 use Rattle.turns.specs.Partial.{Partial, Place}
+use Rattle.repeats.specs.declared.Turn.{Turn}
 
 -- what lies before the next place is before this one, or this one
 earlier_split : (p c state column : ℕ) → Earlier p c state (column + 1) → Earlier p c state column ⊎ ((p ≡ state) × (c ≡ column))
@@ -93,62 +93,59 @@ module _ (R : Automaton (List ℕ)) (k w limit : ℕ) where
       other : (i : ℕ) → limit ≤ i → get_or (set table x v) i 0 ≡ get_or table i 0
       other i g = get_or-set_other table x i v 0 (λ z. omega arith)
 
-  module _ (count state column q : ℕ) (rows table heads row : List ℕ) (P : Partial R k w limit count state column rows table heads) (L : Place k count state column q) (e : row ≡ R.step (row_at w state rows) column) where
+  module _ (count : ℕ) (t : Turn) (rows table heads row : List ℕ) (P : Partial R k w limit count t.state t.column rows table heads) (L : Place k count t) (e : row ≡ R.step (row_at w t.state rows) t.column) where
     reach : Reachable k R row
-    reach = subst (Reachable k R) (sym e) (reached_step k R (row_at w state rows) column L.column (P.reached state L.state))
+    reach = subst (Reachable k R) (sym e) (reached_step k R (row_at w t.state rows) t.column L.column (P.reached t.state L.state))
 
-    module _ (j : ℕ) (long : limit + q < length table) (small : j < 65536) where
+    module _ (j : ℕ) (long : limit + t.place < length table) where
       abbrev table' : List ℕ
-      table' = set table (limit + q) (j % 65536)
+      table' = set table (limit + t.place) j
 
-      old : (p c : ℕ) → c < k → Earlier p c state column → get_or table' (limit + (p * k + c)) 0 ≡ get_or table (limit + (p * k + c)) 0
-      old p c b f = get_or-set_other table (limit + q) (limit + (p * k + c)) (j % 65536) 0
-          (λ z. let g = earlier_cell k p c state column b f in omega (arith, L.cell))
+      old : (p c : ℕ) → c < k → Earlier p c t.state t.column → get_or table' (limit + (p * k + c)) 0 ≡ get_or table (limit + (p * k + c)) 0
+      old p c b f = get_or-set_other table (limit + t.place) (limit + (p * k + c)) j 0
+          (λ z. let g = earlier_cell k p c t.state t.column b f in omega (arith, L.cell))
 
-      new : get_or table' (limit + (state * k + column)) 0 ≡ j
-      new = ap (λ (i : ℕ). get_or table' (limit + i) 0) (sym L.cell) ∙ get_or-set_same table (limit + q) (j % 65536) 0 long ∙ mod-eq_of_lt small
+      new : get_or table' (limit + (t.state * k + t.column)) 0 ≡ j
+      new = ap (λ (i : ℕ). get_or table' (limit + i) 0) (sym L.cell) ∙ get_or-set_same table (limit + t.place) j 0 long
 
       -- the row is there already
-      pub partial_found : j < count → row_at w j rows ≡ row → Partial R k w limit count state (column + 1) rows table' heads
+      pub partial_found : j < count → row_at w j rows ≡ row → Partial R k w limit count t.state (t.column + 1) rows table' heads
       partial_found b f = record {
         some = P.some;
         within = P.within;
         start = P.start;
         distinct = P.distinct;
         reached = P.reached;
-        inside = λ p c l g. inside p c l (earlier_split p c state column g);
-        moves = λ p c l g. moves p c l (earlier_split p c state column g);
-        chained = chained_store w count (limit + q) (j % 65536) rows table heads (omega (arith, P.within)) P.chained;
+        inside = λ p c l g. inside p c l (earlier_split p c t.state t.column g);
+        moves = λ p c l g. moves p c l (earlier_split p c t.state t.column g);
+        chained = chained_store w count (limit + t.place) j rows table heads (omega (arith, P.within)) P.chained;
         heads_long = P.heads_long;
       }
         where
-          inside : (p c : ℕ) → c < k → Earlier p c state column ⊎ ((p ≡ state) × (c ≡ column)) → get_or table' (limit + (p * k + c)) 0 < count
+          inside : (p c : ℕ) → c < k → Earlier p c t.state t.column ⊎ ((p ≡ t.state) × (c ≡ t.column)) → get_or table' (limit + (p * k + c)) 0 < count
           inside p c l (inl g) = rw (old p c l g) (P.inside p c l g)
           inside p c l (inr (x, y)) = rw (x, y, new) b
 
-          moves : (p c : ℕ) → c < k → Earlier p c state column ⊎ ((p ≡ state) × (c ≡ column)) → row_at w (get_or table' (limit + (p * k + c)) 0) rows ≡ R.step (row_at w p rows) c
+          moves : (p c : ℕ) → c < k → Earlier p c t.state t.column ⊎ ((p ≡ t.state) × (c ≡ t.column)) → row_at w (get_or table' (limit + (p * k + c)) 0) rows ≡ R.step (row_at w p rows) c
           moves p c l (inl g) = rw (old p c l g) (P.moves p c l g)
           moves p c l (inr (x, y)) = rw (x, y, new) (f ∙ e)
 
-    module _ (long : limit + q < length table) (none : (j : ℕ) → j < count → row_at w j rows ≡ row → ⊥) where
+    module _ (long : limit + t.place < length table) (none : (j : ℕ) → j < count → row_at w j rows ≡ row → ⊥) where
       -- the row is put behind the others
-      pub partial_new : (rows' heads' : List ℕ) → count < limit → limit < 65536 → Appended w count rows row rows' → Chained w (count + 1) rows' table heads' → length heads' ≡ 512
-          → Partial R k w limit (count + 1) state (column + 1) rows' (set table (limit + q) (count % 65536)) heads'
-      partial_new rows' heads' room most A v u = record {
+      pub partial_new : (rows' heads' : List ℕ) → count < limit → Appended w count rows row rows' → Chained w (count + 1) rows' table heads' → length heads' ≡ 512
+          → Partial R k w limit (count + 1) t.state (t.column + 1) rows' (set table (limit + t.place) count) heads'
+      partial_new rows' heads' room A v u = record {
         some = omega arith;
         within = omega arith;
         start = A.before 0 P.some ∙ P.start;
         distinct = λ i j a b. distinct i j a (lt_cases j count) b;
         reached = λ i b. reached i b (lt_cases i count);
-        inside = λ p c l g. inside p c l (earlier_split p c state column g);
-        moves = λ p c l g. moves p c l (earlier_split p c state column g);
-        chained = chained_store w (count + 1) (limit + q) (count % 65536) rows' table heads' (omega arith) v;
+        inside = λ p c l g. inside p c l (earlier_split p c t.state t.column g);
+        moves = λ p c l g. moves p c l (earlier_split p c t.state t.column g);
+        chained = chained_store w (count + 1) (limit + t.place) count rows' table heads' (omega arith) v;
         heads_long = u;
       }
         where
-          small : count < 65536
-          small = omega arith
-
           distinct : (i j : ℕ) → i < j → LtCases j count → j < count + 1 → row_at w i rows' ≡ row_at w j rows' → ⊥
           distinct i j a (inl x) b z = P.distinct i j a x.0 (sym (A.before i (omega arith)) ∙ z ∙ A.before j x.0)
           distinct i j a (inr x) b z =
@@ -161,14 +158,14 @@ module _ (R : Automaton (List ℕ)) (k w limit : ℕ) where
               let y : i ≡ count = omega arith in
               subst (Reachable k R) (sym (ap (λ (n : ℕ). row_at w n rows') y ∙ A.here)) reach
 
-          inside : (p c : ℕ) → c < k → Earlier p c state column ⊎ ((p ≡ state) × (c ≡ column)) → get_or (table' count long small) (limit + (p * k + c)) 0 < count + 1
-          inside p c l (inl g) = let h = P.inside p c l g in rw (old count long small p c l g) (omega arith)
-          inside p c l (inr (x, y)) = rw (x, y, new count long small) (omega arith)
+          inside : (p c : ℕ) → c < k → Earlier p c t.state t.column ⊎ ((p ≡ t.state) × (c ≡ t.column)) → get_or (table' count long) (limit + (p * k + c)) 0 < count + 1
+          inside p c l (inl g) = let h = P.inside p c l g in rw (old count long p c l g) (omega arith)
+          inside p c l (inr (x, y)) = rw (x, y, new count long) (omega arith)
 
-          moves : (p c : ℕ) → c < k → Earlier p c state column ⊎ ((p ≡ state) × (c ≡ column)) → row_at w (get_or (table' count long small) (limit + (p * k + c)) 0) rows' ≡ R.step (row_at w p rows') c
+          moves : (p c : ℕ) → c < k → Earlier p c t.state t.column ⊎ ((p ≡ t.state) × (c ≡ t.column)) → row_at w (get_or (table' count long) (limit + (p * k + c)) 0) rows' ≡ R.step (row_at w p rows') c
           moves p c l (inl g) =
-              rw (old count long small p c l g, A.before (get_or table (limit + (p * k + c)) 0) (P.inside p c l g), A.before p (earlier_below p c state column count L.state g)) (P.moves p c l g)
-          moves p c l (inr (x, y)) = rw (x, y, new count long small, A.here, A.before state L.state) e
+              rw (old count long p c l g, A.before (get_or table (limit + (p * k + c)) 0) (P.inside p c l g), A.before p (earlier_below p c t.state t.column count L.state g)) (P.moves p c l g)
+          moves p c l (inr (x, y)) = rw (x, y, new count long, A.here, A.before t.state L.state) e
 
       -- no room is left for it
       pub partial_full : limit ≤ count → MoreThan k R limit

@@ -4,13 +4,11 @@ use Rattle.std.specs.Prelude.{◌≡◌, List, ℕ, ◌+◌, ◌*◌, ◌≤◌,
 use Rattle.automata.specs.Automaton.{Automaton, Reachable}
 use Rattle.automata.specs.Stage.{MoreThan}
 use Rattle.rows.specs.Rows.{row_at, bit}
-use Rattle.sets.specs.Fits.{Fits}
-use Rattle.sets.specs.declared.Shape.{Shape}
+use Rattle.sets.specs.declared.operands.Operands.{Operands}
 use Rattle.turns.specs.Partial.{Room}
 
 -- all that the exploring asks
-pub record Explores (s : Shape) (a b rows row table : List ℕ) : Type 0 where
-  pub fits : Fits s a b
+pub record Explores (s : Operands) (rows row table : List ℕ) : Type 0 where
   pub room : Room s rows row table
 
 -- The first n rows are the reachable ones, each once, the first the start; the table has their transitions, and a flag for each.

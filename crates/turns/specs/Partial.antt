@@ -4,17 +4,19 @@ use Rattle.automata.specs.Automaton.{Automaton, Reachable}
 use Rattle.automata.specs.Stage.{MoreThan}
 use Rattle.rows.specs.Chains.{Chained}
 use Rattle.rows.specs.Rows.{row_at}
-use Rattle.sets.specs.Fits.{rows_for, Fits}
-use Rattle.sets.specs.declared.Shape.{Shape}
+use Rattle.rows.specs.declared.chains.Found.{Found}
+use Rattle.sets.specs.Fits.{rows_for}
+use Rattle.sets.specs.declared.operands.Operands.{Operands}
 use Rattle.repeats.specs.Repeats.{Earlier}
+use Rattle.repeats.specs.declared.Turn.{Turn}
 
 -- Room for as many rows as the limit says, for one row more, and for their table.
-pub record Room (s : Shape) (rows row table : List ℕ) : Type 0 where
+pub record Room (s : Operands) (rows row table : List ℕ) : Type 0 where
   pub some : 1 ≤ s.limit
   pub small : s.limit < 65536
-  pub rows_long : s.limit * s.w ≤ length rows
-  pub row_long : length row ≡ s.w
-  pub table_long : s.limit + s.limit * s.k ≤ length table
+  pub rows_long : s.limit * s.width ≤ length rows
+  pub row_long : length row ≡ s.width
+  pub table_long : s.limit + s.limit * s.left.columns ≤ length table
 
 -- What holds of the first count rows where the transitions before one place are laid out. Until the flags are, their places keep the rows' links.
 pub record Partial (R : Automaton (List ℕ)) (k w limit count state column : ℕ) (rows table heads : List ℕ) : Type 0 where
@@ -28,27 +30,34 @@ pub record Partial (R : Automaton (List ℕ)) (k w limit count state column : �
   pub chained : Chained w count rows table heads
   pub heads_long : length heads ≡ 512
 
--- the place of a transition that is laid out next
-pub record Place (k count p c q : ℕ) : Type 0 where
-  pub state : p < count
-  pub column : c < k
-  pub cell : q ≡ p * k + c
+-- That holds of the rows found, where the transitions before a turn's are laid out.
+abbrev pub Standing : Automaton (List ℕ) → Operands → Found → Turn → Type 0
+Standing A s f t = Partial A s.left.columns s.width s.limit f.count t.state t.column f.rows.now f.table.now f.heads
+
+-- the place of a transition that is laid out next, among the transitions of rows of k columns
+pub record Place (k count : ℕ) (t : Turn) : Type 0 where
+  pub state : t.state < count
+  pub column : t.column < k
+  pub cell : t.place ≡ t.state * k + t.column
+
+-- One more transition is laid out: n rows are found then.
+abbrev pub Laid : Automaton (List ℕ) → Operands → Found → Turn → ℕ → List ℕ → List ℕ → List ℕ → Type 0
+Laid A s f t n rows table heads = (f.count ≤ n) × Partial A s.left.columns s.width s.limit n t.state (t.column + 1) rows table heads
 
 -- One more transition is laid out, or a row is met that no room is left for.
-abbrev pub Turned : Automaton (List ℕ) → ℕ → ℕ → ℕ → ℕ → ℕ → ℕ → List ℕ → List ℕ → List ℕ → Option ℕ → Type 0
-Turned R k w limit count state column rows table heads (Some n) = (count ≤ n) × Partial R k w limit n state (column + 1) rows table heads
-Turned R k w limit count state column rows table heads None = MoreThan k R limit
+abbrev pub Turned : Automaton (List ℕ) → Operands → Found → Turn → Found → Option (Unit {0}) → Type 0
+Turned A s f t g (Some _) = Laid A s f t g.count g.rows.now g.table.now g.heads
+Turned A s f t g None = MoreThan s.left.columns A s.limit
 
 -- all that laying out a transition asks, where the row that it leads to is given
-pub record Laying (s : Shape) (rows row table heads : List ℕ) (count p c q : ℕ) : Type 0 where
-  pub room : Room s rows row table
-  pub within : count ≤ s.limit
-  pub place : Place s.k count p c q
-  pub chained : Chained s.w count rows table heads
+pub record Laying (s : Operands) (f : Found) (row : List ℕ) (t : Turn) : Type 0 where
+  pub room : Room s f.rows.now row f.table.now
+  pub within : f.count ≤ s.limit
+  pub place : Place s.left.columns f.count t
+  pub chained : Chained s.width f.count f.rows.now f.table.now f.heads
 
 -- all that one turn asks
-pub record Turning (s : Shape) (a b rows row table heads : List ℕ) (count p c q : ℕ) : Type 0 where
-  pub fits : Fits s a b
-  pub room : Room s rows row table
-  pub place : Place s.k count p c q
-  pub partial : Partial (rows_for s a b) s.k s.w s.limit count p c rows table heads
+pub record Turning (s : Operands) (f : Found) (row : List ℕ) (t : Turn) : Type 0 where
+  pub room : Room s f.rows.now row f.table.now
+  pub place : Place s.left.columns f.count t
+  pub partial : Standing (rows_for s) s f t

@@ -4,43 +4,41 @@
 
 ghost use Rattle.std.specs.Prelude.{◌≡◌, List, ℕ};
 ghost use Rattle.automata.specs.Automaton.{Automaton};
+ghost use Rattle.rows.specs.Found.{Kept};
 ghost use Rattle.rows.specs.Rows.{row_at};
 ghost use Rattle.rows.specs.Sums.{row_sum};
-ghost use Rattle.turns.specs.Partial.{Laying, Partial, Turned};
+ghost use Rattle.turns.specs.Partial.{Laying, Standing, Turned};
 
+pub use repeats::Turn;
 use rows::chains;
-use rows::chains::Row;
-use sets::Shape;
+use rows::chains::{Found, Row};
+use sets::operands::Operands;
 
-// Lays out the q-th transition, that of the row `state` by the column `column`, where the row that it leads to and that row's sum are given: how many rows
-// are found then, or none where one is met that no room is left for.
+// Lays out a transition, where the row that it leads to and that row's sum are given; none where that is a new row that no room is left for.
 pub fn lay<R: Row + Copy>(
-    s: Shape,
-    rows: &mut [u8],
-    table: &mut [u16],
-    heads: &mut [u16; 512],
-    count: usize,
-    state: usize,
-    column: usize,
-    q: usize,
+    operands: &Operands,
+    found: &mut Found,
+    turn: Turn,
     row: R,
     sum: usize,
-) -> Option<usize>
-    requires laying { Laying s rows.old (R.bytes row) table.old heads.old count state column q }
+) -> Option<()>
+    requires laying { Laying operands.now found.old (R.bytes row) turn }
     requires sum { sum ≡ row_sum 0 (R.bytes row) }
-    ensures turned { (A : Automaton (List ℕ)) → Partial A s.k s.w s.limit count state column rows.old table.old heads.old → R.bytes row ≡ A.step (row_at s.w state rows.old) column → Turned A s.k s.w s.limit count state column rows.new table.new heads.new result }
-    ensures kept { row_at s.w state rows.new ≡ row_at s.w state rows.old }
+    ensures turned { (A : Automaton (List ℕ)) → Standing A operands.now found.old turn → R.bytes row ≡ A.step (row_at operands.now.width turn.state found.old.rows.now) turn.column → Turned A operands.now found.old turn found.new result }
+    ensures row { row_at operands.now.width turn.state found.new.rows.now ≡ row_at operands.now.width turn.state found.old.rows.now }
+    ensures kept { Kept found.old found.new }
 {
     let h = chains::hash(sum);
-    if let Some(j) = chains::find(&rows[..], &table[..], heads, s.w, count, row, h) {
-        table[s.limit + q] = (j % 65536) as u16;
-        return Some(count);
+    let at = operands.limit + turn.place;
+    if let Some(j) = found.find(operands.width, row, h) {
+        found.table[at] = j as u16;
+        return Some(());
     }
-    if count < s.limit {
-        chains::append(rows, s.w, count, row);
-        chains::chain(table, heads, count, h);
-        table[s.limit + q] = (count % 65536) as u16;
-        return Some(count + 1);
+    let j = found.count;
+    if j < operands.limit {
+        found.push(operands.width, row, h);
+        found.table[at] = j as u16;
+        return Some(());
     }
     None
 }

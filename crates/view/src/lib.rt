@@ -24,8 +24,7 @@ pub struct View<'a> {
 pub fn counts(bytes: &[u8]) -> Result<Counts, Fault>
     ensures { numbers_of result ≡ load_numbers (load_of narrow bytes.now) }
 {
-    let card = board::load(bytes)?;
-    Ok(card.layout.counts)
+    board::counts(bytes)
 }
 
 // The caller's bytes stay where they are: the view holds them as they were lent.

@@ -1,5 +1,4 @@
 -- `step` meets its contract: the card's refusal, or a step on a card that was tested.
-use Rattle.std.proofs.Common.{rules}
 use Rattle.std.proofs.lemmas.Result.{err_from_is_err_and}
 use Rattle.board.proofs.EntryLaws.{refused_step}
 use Rattle.board.proofs.step.Goals as goal

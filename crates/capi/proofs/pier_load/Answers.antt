@@ -6,4 +6,4 @@ use Rattle.capi.proofs.pier_load.Goals as goal
 
 pub returns : goal.returns
 returns c =
-    handed_as (λ x. numbers (load_numbers x)) _ _ _ c.loaded.ensures c.load.ensures.loads
+    handed_as (λ x. numbers (load_numbers x)) _ _ _ c.loaded.ensures c.counts.ensures

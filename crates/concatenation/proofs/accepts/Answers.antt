@@ -6,19 +6,19 @@ use Rattle.concatenation.proofs.accepts.Goals as goal
 pub slice_bounds-some_accepting-count : goal.slice_bounds-some_accepting-count
 slice_bounds-some_accepting-count c =
     let args = c.args in
-    omega (arith, concat_long args.s args.a.now args.b.now c.requires.fits c.requires.op_value args.from.now c.requires.source)
+    omega (arith, concat_long args.operands.now c.requires.op_value args.from.now c.requires.source)
 
 pub slice_bounds-some_accepting-start : goal.slice_bounds-some_accepting-start
 slice_bounds-some_accepting-start c =
     let args = c.args in
-    omega (arith, concat_long args.s args.a.now args.b.now c.requires.fits c.requires.op_value args.from.now c.requires.source)
+    omega (arith, concat_long args.operands.now c.requires.op_value args.from.now c.requires.source)
 
 pub some_accepting-requires : goal.some_accepting-requires
 some_accepting-requires c =
     let args = c.args in
-    record { n_in_bounds = omega (arith, c.requires.fits.right.long, c.requires.fits.right.flags); n_in_bounds_2 = concat_flags args.s args.a.now args.b.now c.requires.fits c.requires.op_value args.from.now c.requires.source }
+    omega (arith, args.operands.now.right.closed.long, args.operands.now.right.closed.flags, concat_flags args.operands.now c.requires.op_value args.from.now c.requires.source)
 
 pub returns : goal.returns
 returns c =
     let args = c.args in
-    concat_accepts args.s args.a.now args.b.now c.requires.fits c.requires.op_value args.from.now c.requires.source _ c.some_accepting.ensures
+    concat_accepts args.operands.now c.requires.op_value args.from.now c.requires.source _ _ (concat_flags args.operands.now c.requires.op_value args.from.now c.requires.source) c.some_accepting.ensures

@@ -6,20 +6,20 @@ use Rattle.concatenation.proofs.start.Goals as goal
 
 pub slice_bounds-first_flags-count : goal.slice_bounds-first_flags-count
 slice_bounds-first_flags-count c =
-    omega (arith, c.requires.row_len, concat_room c.args.s c.args.a.now c.args.b.now c.requires.fits c.requires.op_value)
+    omega (arith, c.requires.row_len, concat_room c.args.operands.now c.requires.op_value)
 
 pub slice_bounds-first_flags-start : goal.slice_bounds-first_flags-start
 slice_bounds-first_flags-start c =
-    omega (arith, c.requires.row_len, concat_room c.args.s c.args.a.now c.args.b.now c.requires.fits c.requires.op_value)
+    omega (arith, c.requires.row_len, concat_room c.args.operands.now c.requires.op_value)
 
 pub first_flags-sum-requires : goal.first_flags-sum-requires
 first_flags-sum-requires c =
-    let n = concat_tail c.args.s c.args.a.now c.args.b.now c.requires.fits c.requires.op_value c.args.row.now c.requires.row_len in
-    record { a_nonzero = omega (arith, c.requires.fits.left.some, c.requires.fits.left.long, c.requires.fits.left.flags, c.requires.fits.right.some, c.requires.fits.right.long, c.requires.fits.right.flags); flags_nonzero = (omega (arith, n, c.requires.fits.right.some), omega (arith, n, c.requires.fits.right_small)) }
+    let n = concat_tail c.args.operands.now c.requires.op_value c.args.row.now c.requires.row_len in
+    (omega (arith, n, c.args.operands.now.right.closed.some), omega (arith, n, c.args.operands.now.fits.right_small))
 
 pub write-requires : goal.write-requires
 write-requires c =
-    let room = concat_room c.args.s c.args.a.now c.args.b.now c.requires.fits c.requires.op_value in
+    let room = concat_room c.args.operands.now c.requires.op_value in
     record { i_in_bounds = omega (arith, tail_long c.args.row.now c.first_flags-sum.new.flags (omega (arith, c.requires.row_len, room)) c.first_flags-sum.auto.flags, c.requires.row_len, room); p_bound = omega arith }
 
 pub with_number-requires : goal.with_number-requires
@@ -29,6 +29,6 @@ with_number-requires c =
 pub returns : goal.returns
 returns c =
     let a = c.args in
-    let n = concat_tail a.s a.a.now a.b.now c.requires.fits c.requires.op_value a.row.now c.requires.row_len in
-    let (z, y) = concat_put a.s a.a.now a.b.now c.requires.fits c.requires.op_value a.row.now c.first_flags-sum.new.flags _ 0 _ _ c.requires.row_len c.first_flags-sum.ensures.1 c.write.ensures c.with_number.ensures in
-    (concat_start a.s a.a.now a.b.now c.requires.fits c.requires.op_value _ c.first_flags-sum.new.flags _ n c.first_flags-sum.ensures.0 z, y)
+    let n = concat_tail a.operands.now c.requires.op_value a.row.now c.requires.row_len in
+    let (z, y) = concat_put a.operands.now c.requires.op_value a.row.now c.first_flags-sum.new.flags _ 0 _ _ c.requires.row_len c.first_flags-sum.ensures.1 c.write.ensures c.with_number.ensures in
+    (concat_start a.operands.now c.requires.op_value _ c.first_flags-sum.new.flags _ n c.first_flags-sum.ensures.0 z, y)

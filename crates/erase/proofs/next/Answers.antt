@@ -10,17 +10,17 @@ use Rattle.erase.proofs.next.Goals as goal
 pub lead-requires : goal.lead-requires
 lead-requires c =
     let a = c.args in
-    let closes = erase_closes a.s a.a.now a.b.now c.requires.step.fits c.requires.op_value c.fill.new.self (c.fill.auto.self ∙ c.requires.step.long) in
-    let blank = erase_clear a.s a.a.now a.b.now c.requires.step.fits c.requires.op_value (length a.row.now) _ c.requires.step.long (c.fill.ensures.after (λ y e. e)) in
-    record { closes = closes; c_lt_k = (c.requires.step.column, c.requires.step.fits.left_small); counted = c.requires.lists.counted; row_value = blank }
+    let closes = erase_closes a.operands.now c.requires.op_value c.fill.new.self (c.fill.auto.self ∙ c.requires.step.long) in
+    let blank = erase_clear a.operands.now c.requires.op_value (length a.row.now) _ c.requires.step.long (c.fill.ensures.after (λ y e. e)) in
+    record { closes = closes; c_lt_columns = (c.requires.step.column, c.args.operands.now.fits.left_small); counted = c.requires.lists.counted; row_value = blank }
 
-pub returns-then-c-s : goal.returns-then-c-s
-returns-then-c-s c =
+pub returns-then-operands-c : goal.returns-then-operands-c
+returns-then-operands-c c =
     let a = c.args in
-    (erase_letter a.s a.a.now a.b.now c.requires.step.fits c.requires.op_value a.c c.requires.step.column a.from.now a.members.now (length a.members.now) c.requires.lists _ c.lead.ensures.0 c.if-c-s.true, c.lead.ensures.1.is)
+    (erase_letter a.operands.now c.requires.op_value a.c c.requires.step.column a.from.now a.members.now (length a.members.now) c.requires.lists _ c.lead.ensures.0 (λ e. c.if-operands-c.true (sym e)), c.lead.ensures.1.is)
 
 pub returns : goal.returns
 returns c =
     let a = c.args in
-    let blank = erase_clear a.s a.a.now a.b.now c.requires.step.fits c.requires.op_value (length a.row.now) _ c.requires.step.long (c.fill.ensures.after (λ y e. e)) in
-    (erase_mark a.s a.a.now a.b.now c.requires.step.fits c.requires.op_value a.c c.requires.step.column a.from.now _ blank (omega arith), sym (ap (row_sum 0) blank ∙ sum_none 0 a.s.na))
+    let blank = erase_clear a.operands.now c.requires.op_value (length a.row.now) _ c.requires.step.long (c.fill.ensures.after (λ y e. e)) in
+    (erase_mark a.operands.now c.requires.op_value a.c c.requires.step.column a.from.now _ blank (omega arith), sym (ap (row_sum 0) blank ∙ sum_none 0 a.operands.now.left.states))

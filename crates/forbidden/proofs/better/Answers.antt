@@ -1,17 +1,9 @@
 -- `better` meets its contract.
-use mathlib.Core.Path.{refl}
+use mathlib.Core.Path.{sym}
 use native.Mathlib.Omega.{arith}
-use Rattle.forbidden.specs.Pass.{nearer, nowhere, longer}
+use Rattle.forbidden.specs.Pass.{longer}
 use Rattle.forbidden.proofs.better.Goals as goal
 
-pub returns-then-never-last : goal.returns-then-never-last
-returns-then-never-last c =
-    nowhere c.if-never-last.true refl
-
-pub returns-then-most-length : goal.returns-then-most-length
-returns-then-most-length c =
-    longer (omega arith) c.if-most-length.true refl
-
-pub returns : goal.returns
-returns c =
-    nearer (omega arith) (omega arith) refl refl
+pub returns-then-nearest-length : goal.returns-then-nearest-length
+returns-then-nearest-length c =
+    longer (omega arith) c.in-Some.nearest c.in-Some.is (omega arith) (sym c.in-Some.is)

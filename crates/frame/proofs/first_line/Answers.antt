@@ -13,4 +13,4 @@ returns-in-Ok c =
 
 pub returns-in-Err : goal.returns-in-Err
 returns-in-Err c =
-    rw c.number.ensures (head_stops c.args.text.now _ c.line_end-end.ensures (omega arith) _ _ c.read_head.ensures c.in-Err.is)
+    head_stops c.args.text.now _ c.line_end-end.ensures (omega arith) _ _ c.read_head.ensures c.in-Err.is

@@ -1,10 +1,8 @@
 -- `feed` meets its contract: the bytes so far are taken in.
-use mathlib.Core.Path.{◌≡◌, ◌∙◌}
-use Prim.Native.Nat.{◌-◌}
+use mathlib.Core.Path.{◌∙◌}
 use native.Mathlib.Omega.{arith}
 use borrow.Author.Rules.{rules}
-use Rattle.judging.proofs.PlanLaws.{where_ok}
-use Rattle.judging.proofs.LinesLaws.{upto_none, upto_fits, upto_tests, upto_line, feeds_last, feeds_full, feeds_all}
+use Rattle.judging.proofs.LinesLaws.{upto_none, upto_fits, upto_goes, upto_line, feeds_last, feeds_full, feeds_all}
 use Rattle.judging.proofs.feed.Goals as goal
 
 pub loop-from-init : goal.loop-from-init
@@ -21,7 +19,7 @@ shape_of-out-then-room-lt-LONGEST c =
 
 pub returns-then-room-lt-LONGEST : goal.returns-then-room-lt-LONGEST
 returns-then-room-lt-LONGEST c =
-    feeds_full _ _ _ _ _ _ _ _ _ c.loop-from.invariant.1 (omega (arith, c.requires.2, c.loop-from.invariant.0)) c.if-room-lt-LONGEST.true
+    feeds_full _ _ _ _ _ _ _ _ _ c.loop-from.invariant.1 (omega (arith, c.requires.1, c.loop-from.invariant.0)) c.if-room-lt-LONGEST.true
 
 pub line_end-end-requires : goal.line_end-end-requires
 line_end-end-requires c =
@@ -39,9 +37,9 @@ pub slice_bounds-more-end : goal.slice_bounds-more-end
 slice_bounds-more-end c =
     omega (arith, c.line_end-end.ensures.low, c.line_end-end.ensures.most)
 
-pub more-judging-requires : goal.more-judging-requires
-more-judging-requires c =
-    (upto_tests _ _ _ _ _ _ _ _ _ c.loop-from.invariant.1 _ c.requires.1, c.requires.0, where_ok _ _ (upto_fits _ _ _ _ _ _ _ _ _ c.loop-from.invariant.1 _ _ c.requires.1 (omega arith) c.line_end-end.ensures))
+pub more-run-requires : goal.more-run-requires
+more-run-requires c =
+    (upto_goes _ _ _ _ _ _ _ _ _ c.loop-from.invariant.1 _ c.requires.0, upto_fits _ _ _ _ _ _ _ _ _ c.loop-from.invariant.1 _ _ c.requires.0 (omega arith) c.line_end-end.ensures)
 
 pub shape_of-out-then-end-bytes : goal.shape_of-out-then-end-bytes
 shape_of-out-then-end-bytes c =
@@ -49,23 +47,19 @@ shape_of-out-then-end-bytes c =
 
 pub returns-then-end-bytes : goal.returns-then-end-bytes
 returns-then-end-bytes c =
-    feeds_last _ _ _ _ _ _ _ _ _ c.loop-from.invariant.1 _ c.line_end-end.ensures _ c.more-judging.ensures c.loop-from-test.true (omega (arith, c.if-end-bytes.true))
+    feeds_last _ _ _ _ _ _ _ _ _ c.loop-from.invariant.1 _ c.line_end-end.ensures _ c.more-run.ensures c.loop-from-test.true (omega (arith, c.if-end-bytes.true))
 
 pub answer-requires : goal.answer-requires
 answer-requires c =
-    (c.more-judging.ensures.tests, c.requires.3)
+    c.more-run.ensures.goes
 
 pub line-at-requires : goal.line-at-requires
 line-at-requires c =
     omega (arith, c.loop-from.invariant.1.within, c.if-room-lt-LONGEST.false)
 
-pub next-judging-requires : goal.next-judging-requires
-next-judging-requires c =
-    c.more-judging.ensures.tests
-
 pub overflow_add-from : goal.overflow_add-from
 overflow_add-from c =
-    omega (arith, c.requires.1.fits, c.line_end-end.ensures.most, c.if-end-bytes.false)
+    omega (arith, c.requires.0.fits, c.line_end-end.ensures.most, c.if-end-bytes.false)
 
 pub loop-from-smaller : goal.loop-from-smaller
 loop-from-smaller c =
@@ -73,7 +67,7 @@ loop-from-smaller c =
 
 pub loop-from-preserved : goal.loop-from-preserved
 loop-from-preserved c =
-    (c.line-at.auto.out ∙ c.loop-from.invariant.0, upto_line _ _ _ _ _ _ _ _ _ c.loop-from.invariant.1 _ c.line_end-end.ensures _ c.more-judging.ensures (omega (arith, c.line_end-end.ensures.most, c.if-end-bytes.false)) _ c.answer.ensures _ _ c.line-at.ensures (omega (arith, c.loop-from.invariant.1.within, c.if-room-lt-LONGEST.false, c.line-at.auto.out)) _ c.next-judging.ensures)
+    (c.line-at.auto.out ∙ c.loop-from.invariant.0, upto_line _ _ _ _ _ _ _ _ _ c.loop-from.invariant.1 _ c.line_end-end.ensures _ c.more-run.ensures (omega (arith, c.line_end-end.ensures.most, c.if-end-bytes.false)) _ c.answer.ensures _ _ c.line-at.ensures (omega (arith, c.loop-from.invariant.1.within, c.if-room-lt-LONGEST.false, c.line-at.auto.out)) _ c.begin-run.ensures)
 
 pub shape_of-out : goal.shape_of-out
 shape_of-out c =

@@ -1,6 +1,7 @@
 -- `lines::lines` meets its contract.
 use Rattle.std.proofs.Common.{◌∙◌, refl, arith}
 use Rattle.std.proofs.lemmas.Result.{err_from_is_err_and}
+use Rattle.answers.specs.Scratch.{same_room, room_on}
 use Rattle.lines.proofs.LinesLaws.{reached_start, reached_next, lines_off, lines_end, lent_begun, going}
 use Rattle.lines.proofs.lines.Goals as goal
 
@@ -11,22 +12,22 @@ begin-requires c =
 
 pub loop-book-init : goal.loop-book-init
 loop-book-init c = (
-  record { low≡ = refl; high≡ = refl; registers≡ = refl; stack≡ = refl; rows≡ = refl; table≡ = refl; work≡ = refl; code≡ = refl },
+  record { low≡ = refl; high≡ = refl; registers≡ = refl; stack≡ = refl; scratch≡ = same_room c.args.scratch.now; code≡ = refl },
   reached_start c.args.text.now c.args.letters.now c.args.next _ c.args.low.now c.args.high.now _ c.requires.placed c.begin.ensures c.start-book.ensures,
 )
 
 pub one_line-requires : goal.one_line-requires
 one_line-requires c =
     record {
-      going = going c.args.text.now c.args.letters.now c.args.next c.loop-book.book _ _ _ _ _ _ _ _ c.loop-book.low c.loop-book.high c.loop-book.registers
-          c.loop-book.stack c.loop-book.rows c.loop-book.table c.loop-book.work c.loop-book.code c.requires.placed (lent_begun c.requires.lent c.begin.auto.registers c.begin.auto.stack)
+      going = going c.args.text.now c.args.letters.now c.args.next c.loop-book.book _ _ _ _ _ _ c.loop-book.low c.loop-book.high c.loop-book.registers
+          c.loop-book.stack c.loop-book.scratch c.loop-book.code c.requires.placed (lent_begun c.requires.lent c.begin.auto.registers c.begin.auto.stack)
           c.loop-book.invariant.0 (c.loop-book.invariant.1, c.loop-book-test.true);
       at_in_bounds = c.loop-book-test.true;
     }
 
 pub loop-book-smaller : goal.loop-book-smaller
 loop-book-smaller c =
-    let r = reached_next c.args.text.now c.args.letters.now c.args.next c.loop-book.book _ _ _ c.loop-book.invariant.1 _ _ _ _ c.in_ok-book.ensures c.loop-book-test.true _ refl in
+    let r = reached_next c.args.text.now c.args.letters.now c.args.next c.loop-book.book _ _ _ c.loop-book.invariant.1 _ _ _ _ c.in_ok-book.ensures.line c.loop-book-test.true _ refl in
     omega (arith, r.1, c.loop-book-test.true)
 
 pub loop-book-preserved : goal.loop-book-preserved
@@ -36,19 +37,21 @@ loop-book-preserved c = (
     high≡ = c.one_line.auto.high ∙ c.loop-book.invariant.0.high≡;
     registers≡ = c.one_line.auto.registers ∙ c.loop-book.invariant.0.registers≡;
     stack≡ = c.one_line.auto.stack ∙ c.loop-book.invariant.0.stack≡;
-    rows≡ = c.one_line.auto.rows ∙ c.loop-book.invariant.0.rows≡;
-    table≡ = c.one_line.auto.table ∙ c.loop-book.invariant.0.table≡;
-    work≡ = c.one_line.auto.work ∙ c.loop-book.invariant.0.work≡;
+    scratch≡ = room_on c.args.scratch.now c.loop-book.scratch c.one_line.new.scratch c.loop-book.invariant.0.scratch≡ c.one_line.ensures.room;
     code≡ = c.one_line.auto.code ∙ c.loop-book.invariant.0.code≡;
   },
-  (reached_next c.args.text.now c.args.letters.now c.args.next c.loop-book.book _ _ _ c.loop-book.invariant.1 _ _ _ _ c.in_ok-book.ensures c.loop-book-test.true _ refl).0,
+  (reached_next c.args.text.now c.args.letters.now c.args.next c.loop-book.book _ _ _ c.loop-book.invariant.1 _ _ _ _ c.in_ok-book.ensures.line c.loop-book-test.true _ refl).0,
 )
 
-pub returns-in_err-book : goal.returns-in_err-book
-returns-in_err-book c =
+pub returns-in_err-book-clause-compiled : goal.returns-in_err-book-clause-compiled
+returns-in_err-book-clause-compiled c =
     let p = err_from_is_err_and c.from_residual.result c.from_residual.ensures.1 in
-    rw (p.1, p.2) (lines_off c.args.text.now c.args.letters.now c.args.next c.loop-book.book _ _ _ c.loop-book.invariant.1 _ _ _ _ c.in_err-book.ensures c.loop-book-test.true _ refl)
+    rw (p.1, p.2) (lines_off c.args.text.now c.args.letters.now c.args.next c.loop-book.book _ _ _ c.loop-book.invariant.1 _ _ _ _ c.in_err-book.ensures.line c.loop-book-test.true _ refl)
 
-pub returns : goal.returns
-returns c =
+pub returns-clause-compiled : goal.returns-clause-compiled
+returns-clause-compiled c =
     lines_end c.args.text.now c.args.letters.now c.args.next c.loop-book.book _ _ _ c.loop-book.invariant.1 (omega arith)
+
+pub returns-clause-room : goal.returns-clause-room
+returns-clause-room c =
+    c.loop-book.invariant.0.scratch≡

@@ -7,7 +7,9 @@ use Rattle.lines.proofs.lines.Given as goal
 
 abbrev pub invariant-loop-book : goal.invariant-loop-book
 invariant-loop-book l =
-    Lengths l.initial.low l.initial.high l.initial.registers l.initial.stack l.initial.rows l.initial.table l.initial.work l.initial.code l.low l.high l.registers l.stack l.rows l.table l.work l.code × Reached l.text l.letters l.next l.book l.low l.high l.registers
+    Lengths l.initial.low l.initial.high l.initial.registers l.initial.stack l.initial.scratch l.initial.code
+    l.low l.high l.registers l.stack l.scratch l.code
+    × Reached l.text l.letters l.next l.book l.low l.high l.registers
 
 abbrev pub decreases-loop-book : goal.decreases-loop-book
 decreases-loop-book l =

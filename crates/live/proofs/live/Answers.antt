@@ -1,19 +1,19 @@
 -- `live` meets its contract.
-use mathlib.Core.Path.{◌≡◌, ap}
+use mathlib.Core.Path.{◌≡◌, ap, ◌∙◌}
 use mathlib.Core.Bool.{not}
 use Prim.Native.Nat.{◌+◌}
 use native.Mathlib.Omega.{arith}
-use Rattle.live.proofs.LiveLaws.{live_start, live_next_lem, live_full, live_still}
+use Rattle.live.proofs.LiveLaws.{flags_of, live_start, live_next_lem, live_full, live_still}
 use Rattle.live.proofs.live.Goals as goal
 use Rattle.live.proofs.live.Goals.{then-not-descend-2-via-then-not-descend-2, then-not-descend-2-via-else-not-descend-2+then-not-ascend}
 
 pub returns-then-not-descend : goal.returns-then-not-descend
 returns-then-not-descend c =
-    live_still _ _ _ _ _ _ _ _ (live_start _ _ _ _ _ c.accepting.ensures) c.descend.ensures (ap not c.if-not-descend.true)
+    live_still _ _ _ _ _ _ _ _ (live_start _ _ _ _ _ (flags_of 120 _ _ (c.accepting.ensures.long ∙ c.told-flags) c.accepting.ensures.told)) c.descend.ensures (ap not c.if-not-descend.true)
 
 pub loop-init : goal.loop-init
 loop-init c =
-    live_next_lem _ _ _ _ _ _ _ _ (live_start _ _ _ _ _ c.accepting.ensures) c.descend.ensures
+    live_next_lem _ _ _ _ _ _ _ _ (live_start _ _ _ _ _ (flags_of 120 _ _ (c.accepting.ensures.long ∙ c.told-flags) c.accepting.ensures.told)) c.descend.ensures
 
 pub returns-then-not-descend-2 : goal.returns-then-not-descend-2
 returns-then-not-descend-2 c = elim c.then-not-descend-2.branch [

@@ -11,13 +11,13 @@ pub returns-then-parts-n : goal.returns-then-parts-n
 returns-then-parts-n c =
     let t = c.args.states.table in
     let i = c.loop-count.invariant in
-    let h = refined_grows _ _ _ t _ _ _ _ i.upto _ _ _ i.states c.refine-parts.ensures.0 in
-    stretch_late _ _ _ t _ _ _ _ (classes_stay _ _ _ t _ _ _ _ i.upto _ _ _ i.states c.if-c-states.true c.refine-parts.ensures.0) _ i.begun (λ e. c.if-parts-count.false (omega (arith, e, h, i.upto.more)))
+    let h = refined_grows _ _ _ t _ _ _ _ i.upto _ _ c.refine-parts.ensures.0 in
+    stretch_late _ _ _ t _ _ _ _ (classes_stay _ _ _ t _ _ _ _ i.upto _ _ c.if-c-states.true c.refine-parts.ensures.0) _ i.begun (λ e. c.if-parts-count.false (omega (arith, e, h, i.upto.more)))
 
 pub loop-count-smaller-then-c-states : goal.loop-count-smaller-then-c-states
 loop-count-smaller-then-c-states c =
     let i = c.loop-count.invariant in
-    let h = refined_grows _ _ _ c.args.states.table _ _ _ _ i.upto _ _ _ i.states c.refine-parts.ensures.0 in
+    let h = refined_grows _ _ _ c.args.states.table _ _ _ _ i.upto _ _ c.refine-parts.ensures.0 in
     elim c.if-parts-count.branch [
       | then-parts-count w ↦ omega (arith, w.c-is, w.if-parts-count.true)
       | else-parts-count+else-left-eq0 w ↦ omega (arith, w.c-is, w.if-parts-count.false, h)
@@ -31,14 +31,14 @@ loop-count-preserved-then-c-states c =
         states = i.states;
         columns = omega (arith, w.c-is);
         begun = i.begun;
-        upto = rw w.c-is (classes_next _ _ _ c.args.states.table _ _ _ _ i.upto _ _ _ i.states c.if-c-states.true c.refine-parts.ensures.0);
+        upto = rw w.c-is (classes_next _ _ _ c.args.states.table _ _ _ _ i.upto _ _ c.if-c-states.true c.refine-parts.ensures.0);
         keys = c.refine-parts.ensures.1;
       }
       | else-parts-count+else-left-eq0 w ↦ record {
         states = i.states;
         columns = omega (arith, w.c-is);
         begun = i.begun;
-        upto = rw w.c-is (classes_stay _ _ _ c.args.states.table _ _ _ _ i.upto _ _ _ i.states c.if-c-states.true c.refine-parts.ensures.0);
+        upto = rw w.c-is (classes_stay _ _ _ c.args.states.table _ _ _ _ i.upto _ _ c.if-c-states.true c.refine-parts.ensures.0);
         keys = c.refine-parts.ensures.1;
       }
     ]

@@ -17,19 +17,14 @@ shape_of-replies-then-room-lt3 c =
 
 pub returns-then-room-lt3 : goal.returns-then-room-lt3
 returns-then-room-lt3 c =
-    judges_full _ _ _ _ _ _ _ c.loop-from.invariant c.args.card.now.loads (upto_full _ _ _ _ _ _ _ c.loop-from.invariant c.if-room-lt3.true)
+    judges_full _ _ _ _ _ _ _ c.loop-from.invariant c.args.judge.now.walker.card.loads (upto_full _ _ _ _ _ _ _ c.loop-from.invariant c.if-room-lt3.true)
 
 pub line_end-end-requires : goal.line_end-end-requires
 line_end-end-requires c =
     c.loop-from.invariant.inside
 
-pub judge_line-requires : goal.judge_line-requires
-judge_line-requires c =
-    let p = c.requires in
-    (p.0, c.line_end-end.ensures.low, c.line_end-end.ensures.most, p.1)
-
-pub put_answer-requires : goal.put_answer-requires
-put_answer-requires c =
+pub put-requires : goal.put-requires
+put-requires c =
     upto_fits _ _ _ _ _ _ _ c.loop-from.invariant c.if-room-lt3.false
 
 pub overflow_add-count : goal.overflow_add-count
@@ -51,7 +46,7 @@ loop-from-smaller-then-end-plans c =
 
 pub loop-from-preserved-then-end-plans : goal.loop-from-preserved-then-end-plans
 loop-from-preserved-then-end-plans c =
-    upto_line _ _ _ _ _ _ _ c.loop-from.invariant c.loop-from-test.true _ c.line_end-end.ensures c.judge_line.result c.judge_line.ensures (upto_more _ _ _ _ _ _ _ c.loop-from.invariant c.if-room-lt3.false) _ c.put_answer.ensures c.if-end-plans.true
+    upto_line _ _ _ _ _ _ _ c.loop-from.invariant c.loop-from-test.true _ c.line_end-end.ensures c.judge_line.result c.judge_line.ensures (upto_more _ _ _ _ _ _ _ c.loop-from.invariant c.if-room-lt3.false) _ c.put.ensures c.if-end-plans.true
 
 pub loop-from-smaller : goal.loop-from-smaller
 loop-from-smaller c =
@@ -59,7 +54,7 @@ loop-from-smaller c =
 
 pub loop-from-preserved : goal.loop-from-preserved
 loop-from-preserved c =
-    upto_end _ _ _ _ _ _ _ c.loop-from.invariant c.loop-from-test.true _ c.line_end-end.ensures c.judge_line.result c.judge_line.ensures (upto_more _ _ _ _ _ _ _ c.loop-from.invariant c.if-room-lt3.false) _ c.put_answer.ensures c.if-end-plans.false
+    upto_end _ _ _ _ _ _ _ c.loop-from.invariant c.loop-from-test.true _ c.line_end-end.ensures c.judge_line.result c.judge_line.ensures (upto_more _ _ _ _ _ _ _ c.loop-from.invariant c.if-room-lt3.false) _ c.put.ensures c.if-end-plans.false
 
 pub shape_of-replies : goal.shape_of-replies
 shape_of-replies c =
@@ -67,4 +62,4 @@ shape_of-replies c =
 
 pub returns : goal.returns
 returns c =
-    judges_all _ _ _ _ _ _ _ c.loop-from.invariant c.args.card.now.loads c.loop-from-test.false
+    judges_all _ _ _ _ _ _ _ c.loop-from.invariant c.args.judge.now.walker.card.loads c.loop-from-test.false

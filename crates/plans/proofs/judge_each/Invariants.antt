@@ -7,7 +7,7 @@ use Rattle.plans.proofs.judge_each.Given as goal
 
 abbrev pub invariant-loop-from : goal.invariant-loop-from
 invariant-loop-from l =
-    Upto (bytes_of l.card) l.plans l.initial.replies l.count l.at l.from l.replies
+    Upto (bytes_of l.judge.walker.card) l.plans l.initial.replies l.count l.at l.from l.replies
 
 abbrev pub decreases-loop-from : goal.decreases-loop-from
 decreases-loop-from l =

@@ -10,4 +10,4 @@ returns-in_err-card c =
 
 pub returns : goal.returns
 returns c =
-    rw (← c.in_ok-card.ensures.same) c.judge_each.ensures
+    rw (← c.in_ok-card.ensures.same, ← c.of.ensures) c.judge_each.ensures

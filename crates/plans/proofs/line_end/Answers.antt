@@ -1,12 +1,12 @@
 -- `line_end` meets its contract: no line end was passed.
-use Rattle.plans.proofs.EndLaws.{passed_none, passed_next, ends_here}
+use Rattle.octets.proofs.PlaceLaws.{place_within, place_before, place_found}
 use Rattle.plans.proofs.line_end.Goals as goal
 
-pub loop-i-init : goal.loop-i-init
-loop-i-init c = passed_none _ _
-
-pub returns-then-bytes-i-eq-LINE_END : goal.returns-then-bytes-i-eq-LINE_END
-returns-then-bytes-i-eq-LINE_END c = ends_here _ _ _ c.loop-i.invariant c.loop-i-test.true c.if-bytes-i-eq-LINE_END.true
-
-pub loop-i-preserved : goal.loop-i-preserved
-loop-i-preserved c = passed_next _ _ _ c.loop-i.invariant c.if-bytes-i-eq-LINE_END.false
+pub returns : goal.returns
+returns c =
+    let s = c.args.bytes.now in
+    let at = c.args.from in
+    let e = c.place_from.result in
+    let h = c.requires in
+    let q = c.place_from.ensures in
+    record { low = (place_within s at 10 e h q).0; most = (place_within s at 10 e h q).1; before = place_before s at 10 e h q; end = place_found s at 10 e h q }

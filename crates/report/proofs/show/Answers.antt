@@ -1,16 +1,13 @@
--- `report::show` meets its contract.
-use Rattle.report.proofs.ShowLaws.{shows_card, shows_all, shows_refused}
-use borrow.Author.Rules.{rules}
+-- `report::show` meets its contract: the refusal's line.
+use mathlib.Core.Path.{subst}
+use native.Mathlib.Omega.{arith}
+use Rattle.std.specs.Prelude.{OnOk}
+use Rattle.std.specs.Io.KnownBytes.{Appends}
+use Rattle.report.proofs.ShowLaws.{shows_refused}
 use Rattle.report.proofs.show.Goals as goal
 
-pub returns-then-card-length : goal.returns-then-card-length
-returns-then-card-length c =
-    shows_all c.args.answer _ _ _ c.in-Card.is c.if-card-length.true
-
-pub returns-else-card-length : goal.returns-else-card-length
-returns-else-card-length c =
-    shows_card c.args.answer _ _ _ c.in-Card.is c.if-card-length.false
-
-pub returns-in-Refused : goal.returns-in-Refused
-returns-in-Refused c =
-    shows_refused c.args.answer _ _ _ c.in-Refused.is _ _ c.put-a.ensures _ _ c.put_number-b.ensures _ _ c.put-c.ensures _ _ c.put_number-d.ensures _ _ c.put.ensures (search rules)
+pub returns-in-Err : goal.returns-in-Err
+returns-in-Err g c =
+    subst (λ t. OnOk c.writeln.result (Appends (g.W.Write.contents c.args.output.now) (g.W.Write.contents c.writeln.new.self) t))
+    (shows_refused c.args.answer c.args.card.now c.in-Err.refusal c.number-number.result c.line-line.result c.in-Err.is c.number-number.ensures c.line-line.ensures (omega (arith, c.number-number.type_inv)) (omega (arith, c.line-line.type_inv)))
+    c.writeln.ensures.bytes

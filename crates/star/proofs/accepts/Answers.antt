@@ -7,9 +7,9 @@ use Rattle.star.proofs.accepts.Goals as goal
 pub bounds-from-na : goal.bounds-from-na
 bounds-from-na c =
     let args = c.args in
-    omega (arith, c.requires.source.long, star_width args.s args.a.now args.b.now c.requires.fits c.requires.op_value)
+    omega (arith, c.requires.source.long, star_width args.operands.now c.requires.op_value)
 
 pub returns : goal.returns
 returns c =
     let args = c.args in
-    star_accepts args.s args.a.now args.b.now c.requires.fits c.requires.op_value args.from.now _ refl
+    star_accepts args.operands.now c.requires.op_value args.from.now _ refl

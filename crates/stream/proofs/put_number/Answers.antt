@@ -1,9 +1,13 @@
-use Rattle.std.proofs.Common.{arith}
-use Rattle.stream.proofs.DigitLaws.{written_more, digits_put}
+-- `stream::put_number` meets its contract: the library's digits.
+use Rattle.std.proofs.Common.{◌≡◌, ap, arith, length}
+use Rattle.std.specs.Fmt as F
+use Rattle.stream.proofs.DigitLaws.{few, number_put}
 use Rattle.stream.proofs.put_number.Goals as goal
 
-pub loop-rest-preserved : goal.loop-rest-preserved
-loop-rest-preserved c = written_more _ _ _ _ c.loop-rest.invariant c.ranges.number.fits c.loop-rest-test.true
+pub put-requires : goal.put-requires
+put-requires c = omega (arith, ap length c.format.ensures.text, few c.args.number c.ranges.number.fits, c.requires)
 
 pub returns : goal.returns
-returns c = digits_put _ _ _ _ c.loop-rest.invariant _ _ _ _ c.put.ensures (omega arith) (omega arith)
+returns c =
+    let e : c.as_bytes.result.now ≡ F.decimal c.args.number = grind arith in
+    number_put _ _ _ _ _ _ c.ranges.number.fits e c.put.ensures

@@ -8,17 +8,14 @@ find-requires-clause-h_value g c = (hash_is _ c.args.sum _ c.requires.sum c.hash
 
 pub returns-in-Some-clause-turned : goal.returns-in-Some-clause-turned
 returns-in-Some-clause-turned g c =
-    let a = c.args in
-    λ A P e. lay_found a.s a.rows.now (g.R.Row.bytes a.row) a.table.now a.heads.now a.count a.state a.column a.q c.requires.laying A P e _ _ c.find.ensures c.in-Some.is
+    let a = c.args in λ A P e. lay_found a.operands.now a.found.now (g.R.Row.bytes a.row) a.turn c.requires.laying A P e c.in-Some.j c.in-Some.ensures.0 c.in-Some.ensures.1
 
-pub returns-then-count-s-clause-turned : goal.returns-then-count-s-clause-turned
-returns-then-count-s-clause-turned g c =
+pub returns-then-j-operands-clause-turned : goal.returns-then-j-operands-clause-turned
+returns-then-j-operands-clause-turned g c =
     let a = c.args in
     let h = hash_is _ a.sum _ c.requires.sum c.hash-h.ensures.0 in
-    λ A P e.
-    lay_new a.s a.rows.now (g.R.Row.bytes a.row) a.table.now a.heads.now a.count a.state a.column a.q c.requires.laying A P e _ c.find.ensures c.in_default.is c.if-count-s.true _ c.append.ensures _ h c.hash-h.ensures.1 _ _ c.chain.ensures.0 c.chain.ensures.1
+    λ A P e. lay_new a.operands.now a.found.now (g.R.Row.bytes a.row) a.turn c.requires.laying A P e c.in_default.ensures c.if-j-operands.true _ h c.hash-h.ensures.1 _ c.push.ensures.pushed
 
 pub returns-clause-turned : goal.returns-clause-turned
 returns-clause-turned g c =
-    let a = c.args in
-    λ A P e. lay_full a.s a.rows.now (g.R.Row.bytes a.row) a.table.now a.heads.now a.count a.state a.column a.q c.requires.laying A P e _ c.find.ensures c.in_default.is c.if-count-s.false
+    let a = c.args in λ A P e. lay_full a.operands.now a.found.now (g.R.Row.bytes a.row) a.turn c.requires.laying A P e c.in_default.ensures c.if-j-operands.false

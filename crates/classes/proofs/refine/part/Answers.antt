@@ -3,6 +3,6 @@ use native.Mathlib.Omega.{arith}
 use Rattle.classes.proofs.RefineLaws.{side_low}
 use Rattle.classes.proofs.refine.part.Goals as goal
 
-pub overflow_cast-work : goal.overflow_cast-work
-overflow_cast-work c =
-    omega (arith, c.side.ensures, side_low c.args.table.now _ c.first_other-other.ensures c.loop-p.p c.loop-p-test.true, c.requires.few)
+pub overflow_cast-classes : goal.overflow_cast-classes
+overflow_cast-classes c =
+    omega (arith, c.side.ensures, side_low c.args.table.now _ c.first_other-other.ensures c.loop-p.p c.loop-p-test.true, c.requires.1)

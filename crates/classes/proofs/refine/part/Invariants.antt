@@ -7,4 +7,4 @@ use Rattle.classes.proofs.refine.part.Given as goal
 
 abbrev pub invariant-loop-p : goal.invariant-loop-p
 invariant-loop-p l =
-    (q : ℕ) → q < l.p → get_or l.work q 0 ≡ side_of l.table l.other q
+    (q : ℕ) → q < l.p → get_or l.classes q 0 ≡ side_of l.table l.other q

@@ -2,6 +2,6 @@
 use Rattle.classes.proofs.RefineLaws.{refine_starts}
 use Rattle.classes.proofs.refine.refine.Goals as goal
 
-pub loop-most-init : goal.loop-most-init
-loop-most-init c =
-    refine_starts c.requires _ c.part.ensures
+pub rounds-requires-clause-refining : goal.rounds-requires-clause-refining
+rounds-requires-clause-refining c =
+    refine_starts _ _ c.part.ensures

@@ -1,7 +1,8 @@
 -- `round` meets its contract. The loop: the states below p are placed and their leaders counted.
 use mathlib.Core.Path.{refl}
 use native.Mathlib.Omega.{arith}
-use Rattle.entries.specs.Classes.{next, leaders}
+use Rattle.entries.specs.Entries.{class_of}
+use Rattle.entries.specs.Classes.{leaders}
 use Rattle.classes.proofs.RefineLaws.{round_starts, leaders_le}
 use Rattle.classes.proofs.refine.round.Goals as goal
 
@@ -12,4 +13,4 @@ loop-p-init c =
 
 pub overflow_add-count : goal.overflow_add-count
 overflow_add-count c =
-    omega (arith, c.place-count.ensures.one, c.loop-p.invariant.1, leaders_le (next c.args.table.now.states c.loop-p.work) c.loop-p.p)
+    record { fits = omega (arith, c.loop-p.invariant.1, leaders_le (class_of c.loop-p.next) c.loop-p.p, c.loop-p-test.true, c.requires.sized.few) }

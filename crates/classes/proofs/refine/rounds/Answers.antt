@@ -1,20 +1,16 @@
 -- `rounds` meets its contract. The loop: equivalent states are in one class; the number of classes grows with each turn.
 use native.Mathlib.Omega.{arith}
-use Rattle.classes.proofs.RefineLaws.{refine_begun, refine_ends, refine_grows, refine_turns, turned_done, turned_way, refine_many}
+use Rattle.classes.proofs.RefineLaws.{refine_ends, refine_grows, refine_turns, turned_done, turned_way, refine_many}
 use Rattle.classes.proofs.refine.rounds.Goals as goal
-
-pub round-parts-requires : goal.round-parts-requires
-round-parts-requires c =
-    refine_begun c.requires.sized _ _ c.loop.auto.work c.loop.invariant.1
 
 pub returns-then-parts-count : goal.returns-then-parts-count
 returns-then-parts-count c =
-    turned_done _ _ _ (refine_ends c.requires.sized _ _ _ _ c.loop.auto.work c.loop.invariant.1 c.round-parts.ensures c.if-parts-count.true)
+    turned_done _ _ _ (refine_ends _ _ _ _ _ c.loop.invariant.1 c.round-parts.ensures (omega (arith, c.loop.auto.classes, c.requires.sized.classes_long)) c.if-parts-count.true)
 
 pub loop-preserved : goal.loop-preserved
 loop-preserved c = (
-  omega (arith, c.loop.invariant.0, refine_grows c.requires.sized _ _ _ _ c.loop.auto.work c.loop.invariant.1 c.round-parts.ensures c.if-parts-count.false),
-  refine_turns c.requires.sized _ _ _ _ c.loop.auto.work c.loop.invariant.1 c.round-parts.ensures _ c.adopt.ensures,
+  omega (arith, c.loop.invariant.0, refine_grows _ _ _ _ _ c.loop.invariant.1 c.round-parts.ensures c.if-parts-count.false),
+  rw c.copy_from_slice.ensures.after (refine_turns _ _ _ _ _ c.loop.invariant.1 c.round-parts.ensures),
 )
 
 pub returns : goal.returns

@@ -5,4 +5,4 @@ use Rattle.classes.proofs.refine.rounds.Given as goal
 
 abbrev pub invariant-loop : goal.invariant-loop
 invariant-loop l =
-    (l.counter ≤ l.count) × Refining l.table l.work l.count
+    (l.counter ≤ l.count) × Refining l.table l.classes l.count

@@ -4,4 +4,4 @@ use Rattle.evaluate.proofs.run.run.Given as goal
 
 abbrev pub invariant-loop-c : goal.invariant-loop-c
 invariant-loop-c l =
-    Going l.l l.letters l.first l.second l.code l.initial.registers l.initial.stack l.initial.rows l.initial.table l.initial.work l.registers l.stack l.rows l.table l.work l.sp l.peak l.c-index
+    Going l.l l.letters l.names.low.now l.names.high.now l.code l.initial.registers l.initial.stack l.initial.scratch l.registers l.stack l.scratch l.sp l.peak l.c-index

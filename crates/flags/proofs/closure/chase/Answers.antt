@@ -1,8 +1,8 @@
 -- `chase` meets its contract: each turn sets one flag more.
-use Prim.Native.Nat.{◌-◌, ◌<◌}
 use native.Mathlib.Omega.{arith}
 use Rattle.flags.proofs.ClosureLaws.{unset_less, chase_more, chase_end}
 use Rattle.flags.proofs.FlagLaws.{flag_set}
+use Rattle.flags.proofs.TableLaws.{target_is}
 use Rattle.flags.proofs.closure.chase.Goals as goal
 
 pub loop-row-smaller : goal.loop-row-smaller
@@ -11,9 +11,8 @@ loop-row-smaller c =
 
 pub loop-row-preserved : goal.loop-row-preserved
 loop-row-preserved c =
-    let a = c.args in
-    let h : c.step-q.result < a.n = rw c.step-q.ensures (c.requires.closes.table.inside c.loop-row.q (a.k - 1) c.loop-row.invariant.0.within (omega (arith, c.requires.closes.columns))) in
-    (rw c.flag-all.ensures.0 (chase_more c.loop-row.invariant.0 c.step-q.result c.step-q.ensures h), c.flag-all.ensures.1)
+    let q = target_is c.args.table.now c.loop-row.invariant.0.within (omega (arith, c.requires.closes.columns)) c.target-q.ensures in
+    (rw c.flag-all.ensures.0 (chase_more c.loop-row.invariant.0 c.target-q.result q c.target-q.ensures.inside), c.flag-all.ensures.1)
 
 pub returns : goal.returns
 returns c =

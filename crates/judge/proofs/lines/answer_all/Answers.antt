@@ -8,7 +8,7 @@ loop-from-init g c = (search rules, taken_none _ _ _ _)
 pub feed-fed-requires : goal.feed-fed-requires
 feed-fed-requires g c =
     let v = c.loop-from.invariant in
-    (c.requires.0, taken_counted _ _ _ _ _ _ _ v.1 c.requires.1, omega (arith, v.0, c.requires.2), c.requires.3)
+    (taken_counted _ _ _ _ _ _ _ v.1 c.requires.0, omega (arith, v.0, c.requires.1))
 
 pub loop-from-preserved : goal.loop-from-preserved
 loop-from-preserved g c =

@@ -6,7 +6,7 @@ use Rattle.judge.proofs.lines.answer_all.Given as goal
 abbrev pub invariant-loop-from : goal.invariant-loop-from
 invariant-loop-from g l =
     (length l.out ≡ length l.initial.out)
-    × Taken l.card l.bytes l.initial.state (g.W.Write.contents l.initial.output) l.from l.state (g.W.Write.contents l.output)
+    × Taken l.tested.bytes.now l.bytes l.initial.state (g.W.Write.contents l.initial.output) l.from l.state (g.W.Write.contents l.output)
 
 abbrev pub decreases-loop-from : goal.decreases-loop-from
 decreases-loop-from g l = length l.bytes - l.from

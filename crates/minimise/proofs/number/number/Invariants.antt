@@ -5,7 +5,7 @@ use Rattle.minimise.proofs.number.number.Given as goal
 
 abbrev pub invariant-loop-i : goal.invariant-loop-i
 invariant-loop-i l =
-    Arranged l.table l.most l.i l.m l.work l.slot
+    Arranged l.table l.most l.i l.m l.numbers l.order l.slot
 
 abbrev pub decreases-loop-i : goal.decreases-loop-i
 decreases-loop-i l =

@@ -1,24 +1,17 @@
--- `arrive` meets its contract.
-use Rattle.std.proofs.Common.{arith, refl}
-use Rattle.numbering.proofs.ArrivalLaws.{arrive_old, arrive_new, arrive_room}
+-- `arrive` meets its contract: there is always room.
+use Rattle.std.proofs.Common.{arith, ◌∙◌}
+use Rattle.std.proofs.lemmas.List.{map-id}
+use Rattle.numbering.proofs.ArrivalLaws.{arrived, arrive_fits}
 use Rattle.numbering.proofs.Numbering.arrive.Goals as goal
-use Rattle.numbering.proofs.Numbering.arrive.Goals.{else-x-self-via-then-x-self+else-self-x, else-x-self-via-else-x-self}
-
-pub returns-then-self-x : goal.returns-then-self-x
-returns-then-self-x c = arrive_old c.args.self.now.roll _ _ c.if-x-self.true c.if-self-x.true
-
-pub bounds-self-self : goal.bounds-self-self
-bounds-self-self c =
-    arrive_room c.args.self.now.roll _ _ c.requires refl
-    (λ h e. elim c.else-x-self.branch [ else-x-self-via-then-x-self+else-self-x w ↦ w.if-self-x.false e | else-x-self-via-else-x-self w ↦ absurd (omega (arith, w.if-x-self.false)) ])
 
 pub invariant_of-self : goal.invariant_of-self
 invariant_of-self c = record {
-  roll = (arrive_new c.args.self.now.roll _ _ c.requires refl
-      (λ h e. elim c.else-x-self.branch [ else-x-self-via-then-x-self+else-self-x w ↦ w.if-self-x.false e | else-x-self-via-else-x-self w ↦ absurd (omega (arith, w.if-x-self.false)) ])).roll;
+  roll = (arrived c.args.self.now.roll c.args.s _ _ _ (rw (map-id c.args.self.now.order, map-id c.arrive.new.numbers, map-id c.arrive.new.order) at c.in-Some.ensures.arrived)
+      (c.in-Some.ensures.long.1 ∙ c.args.self.now.roll.order_long) (c.in-Some.ensures.long.0 ∙ c.args.self.now.roll.number_long) _ (omega (arith, c.max-self.ensures))).roll;
 }
 
-pub returns : goal.returns
-returns c =
-    arrive_new c.args.self.now.roll _ _ c.requires refl
-    (λ h e. elim c.else-x-self.branch [ else-x-self-via-then-x-self+else-self-x w ↦ w.if-self-x.false e | else-x-self-via-else-x-self w ↦ absurd (omega (arith, w.if-x-self.false)) ])
+pub invariant_of-self-in_default : goal.invariant_of-self-in_default
+invariant_of-self-in_default c = absurd (omega (arith, arrive_fits c.args.self.now.roll c.args.s c.requires, rw (map-id c.args.self.now.order) at c.in_default.ensures.arrived))
+
+pub returns-in_default : goal.returns-in_default
+returns-in_default c = absurd (omega (arith, arrive_fits c.args.self.now.roll c.args.s c.requires, rw (map-id c.args.self.now.order) at c.in_default.ensures.arrived))

@@ -28,7 +28,7 @@ slice_bounds-letter-end c =
 
 pub letter-requires : goal.letter-requires
 letter-requires c =
-    record { le_most = (c.requires.shelves.states, part_long c.requires); c_le_m = column_most c.args.letters.now c.in-Letter.b _ c.column_of-c.ensures }
+    record { le_most = (c.requires.shelves.states, part_long c.requires); c_le_m = column_most c.args.letters.now c.in-Letter.b _ c.place-c.ensures }
 
 pub overflow_sub-b : goal.overflow_sub-b
 overflow_sub-b c =
@@ -76,7 +76,7 @@ copy-requires-in-Register c =
 
 pub returns-in-Letter : goal.returns-in-Letter
 returns-in-Letter c =
-    brought_letter c.requires _ _ _ c.in-Letter.is c.column_of-c.ensures c.letter.auto.slot c.letter.ensures
+    brought_letter c.requires _ _ _ c.in-Letter.is c.place-c.ensures c.letter.auto.slot c.letter.ensures
 
 pub shape_of-stack-then-b-le77 : goal.shape_of-stack-then-b-le77
 shape_of-stack-then-b-le77 c =

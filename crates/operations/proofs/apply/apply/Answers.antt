@@ -16,11 +16,11 @@ pub stage-requires : goal.stage-requires
 stage-requires c =
     apply_ready c.requires
 
-pub returns-in_err-made : goal.returns-in_err-made
-returns-in_err-made c =
+pub returns-in_err-made-clause-made : goal.returns-in_err-made-clause-made
+returns-in_err-made-clause-made c =
     let p = err_from_is_err_and c.from_residual.result c.from_residual.ensures.1 in
-    rw (p.1, p.2) (apply_stops _ _ _ _ _ _ _ _ c.in_err-made.ensures)
+    rw (p.1, p.2) (apply_stops _ _ _ _ _ _ _ _ c.in_err-made.ensures.done)
 
-pub returns : goal.returns
-returns c =
-    apply_made _ _ _ _ _ _ _ _ c.in_ok-made.ensures
+pub returns-clause-made : goal.returns-clause-made
+returns-clause-made c =
+    apply_made _ _ _ _ _ _ _ _ c.in_ok-made.ensures.done

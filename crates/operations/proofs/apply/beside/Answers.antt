@@ -1,5 +1,6 @@
-use mathlib.Core.Path.{refl, ◌∙◌}
+use mathlib.Core.Path.{◌∙◌}
 use native.Mathlib.Omega.{arith}
+use Rattle.answers.specs.Scratch.{same_room}
 use Rattle.operations.specs.Apply.{lent_columns, double_room, raise_asks, raised, beside_bring, beside_apply, beside_makes}
 use Rattle.operations.proofs.apply.beside.Goals as goal
 
@@ -7,8 +8,8 @@ pub overflow_mul-top : goal.overflow_mul-top
 overflow_mul-top c =
     omega (arith, double_room c.requires.doubling)
 
-pub overflow_add-letters : goal.overflow_add-letters
-overflow_add-letters c =
+pub overflow_add-m : goal.overflow_add-m
+overflow_add-m c =
     omega (arith, lent_columns c.requires.doubling.lent)
 
 pub raise-requires : goal.raise-requires
@@ -25,24 +26,12 @@ overflow_add-top c =
 
 pub apply-requires : goal.apply-requires
 apply-requires c =
-    beside_apply c.requires (raised c.requires.doubling _ c.raise.ensures) c.bring.ensures refl refl refl
+    beside_apply c.requires (raised c.requires.doubling _ c.raise.ensures) c.bring.ensures (same_room c.args.scratch.now)
 
 pub shape_of-stack : goal.shape_of-stack
 shape_of-stack c =
     c.apply.auto.stack ∙ c.bring.auto.stack ∙ c.raise.auto.s
 
-pub shape_of-rows : goal.shape_of-rows
-shape_of-rows c =
-    c.apply.auto.rows
-
-pub shape_of-table : goal.shape_of-table
-shape_of-table c =
-    c.apply.auto.table
-
-pub shape_of-work : goal.shape_of-work
-shape_of-work c =
-    c.apply.auto.work
-
-pub returns : goal.returns
-returns c =
-    beside_makes c.requires c.args.op (raised c.requires.doubling _ c.raise.ensures) c.bring.ensures c.apply.ensures
+pub returns-clause-made : goal.returns-clause-made
+returns-clause-made c =
+    beside_makes c.requires c.args.op (raised c.requires.doubling _ c.raise.ensures) c.bring.ensures c.apply.ensures.made

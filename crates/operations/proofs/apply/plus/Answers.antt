@@ -8,6 +8,6 @@ pub overflow_add-top : goal.overflow_add-top
 overflow_add-top c =
     omega (arith, c.requires.low)
 
-pub returns : goal.returns
-returns c =
-    plus_done c.requires c.in_ok-starred.ensures _ refl _ c.in_ok-joined.ensures refl _ c.max.ensures
+pub returns-clause-made : goal.returns-clause-made
+returns-clause-made c =
+    plus_done c.requires c.in_ok-starred.ensures.made _ refl _ c.in_ok-joined.ensures.made refl _ c.max.ensures

@@ -32,18 +32,6 @@ pub shape_of-stack : goal.shape_of-stack
 shape_of-stack c =
     c.apply.auto.stack ∙ c.raise.auto.s
 
-pub shape_of-rows : goal.shape_of-rows
-shape_of-rows c =
-    c.apply.auto.rows
-
-pub shape_of-table : goal.shape_of-table
-shape_of-table c =
-    c.apply.auto.table
-
-pub shape_of-work : goal.shape_of-work
-shape_of-work c =
-    c.apply.auto.work
-
-pub returns : goal.returns
-returns c =
-    starred c.requires (raised c.requires _ c.raise.ensures) c.apply.ensures
+pub returns-clause-made : goal.returns-clause-made
+returns-clause-made c =
+    starred c.requires (raised c.requires _ c.raise.ensures) c.apply.ensures.made

@@ -3,4 +3,4 @@ use Rattle.repeats.proofs.TwinLaws.{TwinsTo}
 use Rattle.repeats.proofs.columns.twins.Given as goal
 
 abbrev pub invariant-loop-c : goal.invariant-loop-c
-invariant-loop-c l = TwinsTo l.s l.a l.b l.table l.c
+invariant-loop-c l = TwinsTo l.operands l.table l.c

@@ -6,4 +6,5 @@ use Rattle.sections.specs.Parts.{mark_bytes}
 use Rattle.sections.proofs.marks.put_marks.Given as goal
 
 abbrev pub invariant-loop-i : goal.invariant-loop-i
-invariant-loop-i l = Laid (12 + l.m) (12 + l.m + l.i) (tab (λ j. get_or (mark_bytes l.n l.m l.slot) j 0) l.i) l.initial.card l.card
+invariant-loop-i l =
+    Laid l.start (l.start + l.i) (tab (λ j. get_or (mark_bytes l.reached.machine.states l.reached.machine.letters l.reached.machine.bytes.now) j 0) l.i) l.initial.card l.card

@@ -6,4 +6,4 @@ use Rattle.sections.proofs.targets.put_moves.Given as goal
 
 abbrev pub invariant-loop-i : goal.invariant-loop-i
 invariant-loop-i l =
-    Laid l.start (l.start + l.i * l.m) (rows_upto l.m l.slot l.numbering.order l.numbering.number l.i) l.initial.card l.card
+    Laid l.start (l.start + l.i * l.m) (rows_upto l.m l.reached.machine.bytes.now l.reached.numbering.order l.reached.numbering.number l.i) l.initial.card l.card
