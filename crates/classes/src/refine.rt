@@ -111,8 +111,10 @@ pub fn refine(table: &Table, classes: &mut [u16], next: &mut [u16], links: &mut 
     ensures { classes.new ≡ classes_of table.now.columns (machine_of table.now) }
 {
     part(table, classes);
-    if !rounds(table, classes, next, links, FIRST_ROUNDS) {
+    let mut most = FIRST_ROUNDS;
+    // Stays: the rounds are called from one place, so that they are a part of the stage's own function in the machine code.
+    while !rounds(table, classes, next, links, most) {
         spread(table, classes, next, links);
-        rounds(table, classes, next, links, table.states + 1);
+        most = table.states + 1;
     }
 }
