@@ -20,20 +20,20 @@ fn alike(table: &Table, d: usize, c: usize) -> bool
 }
 
 // The first column before column c that is as it in both operands.
-fn first(operands: &Operands, c: usize) -> Option<usize>
-    requires c_bound { c + 1 < operands.now.left.columns }
+fn first(operands: &Operands, c: usize) -> Option<u8>
+    requires c_bound { (c < 64) × (c + 1 < operands.now.left.columns) }
     ensures { IfSome result (λ d. (d < c) × Twins operands.now d c) }
 {
     for d in 0..c {
         if alike(&operands.left, d, c) && alike(&operands.right, d, c) {
-            return Some(d);
+            return Some(d as u8);
         }
     }
     None
 }
 
 // Of each of the first 64 columns the first one before it that is as it. The table is filled where it stands.
-pub fn twins(operands: &Operands, table: &mut [Option<usize>; 64])
+pub fn twins(operands: &Operands, table: &mut [Option<u8>; 64])
     requires table_value { table.old ≡ replicate 64 None }
     ensures { TwinTable operands.now table.new }
 {
@@ -43,8 +43,9 @@ pub fn twins(operands: &Operands, table: &mut [Option<usize>; 64])
 }
 
 // The twin of column c, where one is known.
-pub fn twin(table: &[Option<usize>; 64], c: usize) -> Option<usize>
+pub fn twin(table: &[Option<u8>; 64], c: usize) -> Option<usize>
     ensures { IfSome result (λ d. (c < 64) × (slice_index_or table.now c None ≡ Some d)) }
 {
-    *table.get(c)?
+    let d = (*table.get(c)?)?;
+    Some(d as usize)
 }
