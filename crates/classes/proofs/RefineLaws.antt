@@ -276,11 +276,6 @@ turned_way T v c R h = record {
   way = λ _. (record { led = R.led; coarse = R.coarse; told = R.told; counted = zero-le }, h);
 }
 
--- More rounds than states are enough.
-pub turned_ends : (T : Table) (v : List ℕ) (r : Bool) → Turned T v (T.states + 1) r → v ≡ classes T.columns (machine_of T)
-turned_ends T v true R = R.done refl
-turned_ends T v false R = absurd (omega (arith, (R.way refl).1))
-
 -- no more classes than states
 pub refine_many : (T : Table) (v : List ℕ) (c : ℕ) → Refining T v c → c ≤ T.states
 refine_many T v c R = omega (arith, R.counted, leaders_le (class_of v) T.states)
