@@ -32,5 +32,6 @@ pub fn raise(s: &mut [u8], at: usize, size: usize, most: usize, k: usize)
     ensures { Written s.old s.new (at + size) (fills most k (drop at s.old)) (λ i. get_or s.old (at + i) 0) }
 {
     let len = filled(&s[..], at, most, k);
-    s.copy_within(at..at + len, at + size);
+    let (below, above) = s.split_at_mut(at + size);
+    above[..len].copy_from_slice(&below[at..at + len]);
 }
