@@ -64,5 +64,5 @@ pub fn some_accepting(cells: &[u16], row: &[u8]) -> bool
 {
     row.iter()
         .zip(cells)
-        .any(|(flag, accepting)| *flag != 0 && *accepting != 0)
+        .any(|(flag, accepting)| *accepting != 0 && *flag != 0)
 }
