@@ -10,7 +10,7 @@ use lexer::kinds::Kind;
 pub fn has_letter(letters: &[u8], b: u8) -> bool
     ensures { result ≡ member b letters.now }
 {
-    letters.contains(&b)
+    letters.iter().any(|x| *x == b)
 }
 
 // One code of a program: a letter or a name is known; any other code is no symbol.
