@@ -1,21 +1,17 @@
 // The compiling program: the book from standard input; its card, or the line `refused N line L`, to standard output.
 #![tactic(auto)]
 
-ghost use Rattle.std.specs.Prelude.{OnOk, length};
-ghost use Rattle.automata.specs.Format.{narrow};
-ghost use Rattle.compiler.specs.Outcome.{outcome};
-ghost use Rattle.driver.specs.Entry.{documented, Answers};
-ghost use Rattle.compile.specs.Prints.{Printed, Compiles};
+ghost use Rattle.std.specs.Prelude.{OnOk};
+ghost use Rattle.compile.specs.Prints.{Prints, Printed, Compiles};
 
-use compiler::{Compiled, Refusal};
 use std::io;
 use std::io::{Read, Write};
 use stream::Failure;
 
 // Compiles a text with buffers of its own.
 // Stays: one struct for this program and `delivery_run` has eight fields and eight fills, and each lends the fields one by one: as many lines, and a crate more.
-fn compile(text: &[u8], card: &mut [u8; 3278]) -> Result<Compiled, Refusal>
-    ensures { Answers (outcome narrow documented text.now documented (length card.old)) card.old card.new result }
+fn compile(text: &[u8], card: &mut [u8; 3278]) -> usize
+    ensures { Prints text.now card.old card.new result }
 {
     let mut low = [0u8; 43706];
     let mut high = [0u8; 43706];
@@ -25,7 +21,7 @@ fn compile(text: &[u8], card: &mut [u8; 3278]) -> Result<Compiled, Refusal>
     let mut table = [0u16; 14336];
     let mut work = [0u16; 6720];
     let mut code = [0u8; 32832];
-    driver::compile(
+    let answer = driver::compile(
         text,
         card,
         &mut low[..],
@@ -36,7 +32,8 @@ fn compile(text: &[u8], card: &mut [u8; 3278]) -> Result<Compiled, Refusal>
         &mut table[..],
         &mut work[..],
         &mut code[..],
-    )
+    );
+    report::show(answer, card)
 }
 
 // The longest card has 3,278 bytes.
@@ -44,8 +41,8 @@ fn print<W: Write>(output: &mut W, text: &[u8]) -> io::Result<()>
     ensures { OnOk result (Printed text.now (W.contents output.old) (W.contents output.new)) }
 {
     let mut card = [0u8; 3278];
-    let answer = compile(text, &mut card);
-    report::show(answer, &card, output)
+    let n = compile(text, &mut card);
+    output.write_all(&card[..n])
 }
 
 // A text is read one byte past the longest one, so that a longer one is refused. A read that fails is not the end of the text.

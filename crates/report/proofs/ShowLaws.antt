@@ -1,33 +1,40 @@
 -- What is written, answer by answer.
-use mathlib.Core.Path.{◌≡◌, refl, sym, ap, ap₂, ◌∙◌}
-use mathlib.Core.List.{List, [], ◌++◌}
-use Prim.Native.Nat.{ℕ, ◌^◌, ◌<◌}
+use mathlib.Core.Path.{◌≡◌, sym, ap, ap₂, ◌∙◌}
+use mathlib.Core.List.{List, ◌++◌}
+use Prim.Native.Nat.{ℕ, ◌≤◌, min}
 use native.Mathlib.Omega.{arith}
-use lib.ListN.{length}
-use lib.Seq.{take_all}
-use Rattle.std.proofs.Common.{append_assoc}
-use Rattle.std.specs.Fmt as F
+use lib.ListN.{length, take}
+use Rattle.std.proofs.lemmas.List.{take_min}
+use Rattle.std.specs.Prelude.{Result, Ok, Err}
 use Rattle.compiler.specs.declared.Compiled.{Compiled}
-use Rattle.std.specs.Prelude.{Result, Err}
-use Rattle.compiler.specs.Refusals.{refused_number, refused_line}
 use Rattle.compiler.specs.declared.Refusal.{Refusal}
-use Rattle.stream.specs.Text.{PutNumber, decimal}
-use Rattle.stream.proofs.DigitLaws.{number_put}
-use Rattle.report.specs.Shown.{refused_word, line_word, newline, refusal_line, shown}
+use Rattle.compiler.specs.Refusals.{refused_number, refused_line}
+use Rattle.stream.specs.Text.{Put, PutNumber, decimal}
+use Rattle.stream.specs.TextLaws.{put_put}
+use Rattle.report.specs.Shown.{refused_word, line_word, newline, refusal_line, longest, shown, Shows}
 
--- the library's digits of a number
-digits : (n : ℕ) → n < 2 ^ 64 → F.decimal n ≡ decimal n
-digits n h =
-    let P : PutNumber [] 0 n (F.decimal n) (length (F.decimal n)) = number_put [] 0 n (F.decimal n) (F.decimal n) (length (F.decimal n)) h refl (record { place = omega arith; is = take_all (length (F.decimal n)) (F.decimal n) (omega arith) }) in
-    sym (take_all (length (F.decimal n)) (F.decimal n) (omega arith)) ∙ P.put.is
+module _ (a : Result Compiled Refusal) (card : List ℕ) where
+  -- the card, or as much of it as the buffer holds
+  pub shows_card : (c : Compiled) → a ≡ Ok c → (r : ℕ) → r ≡ min c.length (length card) → Shows a card card r
+  shows_card c e r m = record { within = omega (arith, m); is = ap (λ n. take n card) m ∙ take_min c.length card ∙ ap (λ x. shown x card) (sym e) }
 
--- word, number, word, line, the line's end
-line_is : (n l : ℕ) → n < 2 ^ 64 → l < 2 ^ 64 → refused_word ++ (F.decimal n ++ (line_word ++ (F.decimal l ++ newline))) ≡ refusal_line n l
-line_is n l g h = rw (digits n g, digits l h) (joins refused_word (decimal n) line_word (decimal l) newline)
-  where
-    joins : (a b c d e : List ℕ) → a ++ (b ++ (c ++ (d ++ e))) ≡ (((a ++ b) ++ c) ++ d) ++ e
-    joins a b c d e = sym (append_assoc a b (c ++ (d ++ e))) ∙ sym (append_assoc (a ++ b) c (d ++ e)) ∙ sym (append_assoc ((a ++ b) ++ c) d e)
+  -- word, number, word, line, the line's end
+  pub shows_refused : (x : Refusal) → a ≡ Err x → (number line : ℕ) → number ≡ refused_number x → line ≡ refused_line x
+      → (b : List ℕ) (q : ℕ) → Put card 0 refused_word b q → (c : List ℕ) (s : ℕ) → PutNumber b q number c s
+      → (d : List ℕ) (t : ℕ) → Put c s line_word d t → (f : List ℕ) (v : ℕ) → PutNumber d t line f v → (out : List ℕ) (r : ℕ) → Put f v newline out r → longest ≤ length out → Shows a card out r
+  shows_refused x e number line i j b q p₁ c s p₂ d t p₃ f v p₄ out r p₅ h = record {
+    within = omega (arith, p₁.place, p₂.most, p₃.place, p₄.most, p₅.place);
+    is = whole.is ∙ ap₂ refusal_line i j ∙ ap (λ x. shown x card) (sym e);
+  }
+    where
+      two : Put card 0 (refused_word ++ decimal number) c s
+      two = put_put card 0 refused_word b q (decimal number) c s p₁ p₂.put
 
-pub shows_refused : (a : Result Compiled Refusal) (card : List ℕ) (x : Refusal) (n l : ℕ) → a ≡ Err x → n ≡ refused_number x → l ≡ refused_line x → n < 2 ^ 64 → l < 2 ^ 64
-    → refused_word ++ (F.decimal n ++ (line_word ++ (F.decimal l ++ newline))) ≡ shown a card
-shows_refused a card x n l e i j g h = line_is n l g h ∙ ap₂ refusal_line i j ∙ ap (λ a. shown a card) (sym e)
+      three : Put card 0 ((refused_word ++ decimal number) ++ line_word) d t
+      three = put_put card 0 (refused_word ++ decimal number) c s line_word d t two p₃
+
+      four : Put card 0 (((refused_word ++ decimal number) ++ line_word) ++ decimal line) f v
+      four = put_put card 0 ((refused_word ++ decimal number) ++ line_word) d t (decimal line) f v three p₄.put
+
+      whole : Put card 0 (refusal_line number line) out r
+      whole = put_put card 0 (((refused_word ++ decimal number) ++ line_word) ++ decimal line) f v newline out r four p₅

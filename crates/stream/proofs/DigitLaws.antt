@@ -35,5 +35,8 @@ decimal_same n h = let (k, w, e) = decimal_by_steps Digits one more n h in ap (�
 pub few : (n : ℕ) → n < 2 ^ 64 → length (F.decimal n) ≤ 20
 few n h = length-decimal-le 20 n (omega arith) (omega (arith, h)) h
 
+pub few_of : (n : ℕ) (ds : List ℕ) → ds ≡ F.decimal n → n < 2 ^ 64 → length ds ≤ 20
+few_of n ds e h = omega (arith, ap length e, few n h)
+
 pub number_put : (out : List ℕ) (at n : ℕ) (ds out' : List ℕ) (r : ℕ) → n < 2 ^ 64 → ds ≡ F.decimal n → Put out at ds out' r → PutNumber out at n out' r
 number_put out at n ds out' r h e p = record { most = omega (arith, p.place, ap length e, few n h); put = put_as out at ds (decimal n) out' r p (e ∙ sym (decimal_same n h)) }

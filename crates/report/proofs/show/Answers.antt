@@ -1,13 +1,12 @@
--- `report::show` meets its contract: the refusal's line.
-use mathlib.Core.Path.{subst}
-use native.Mathlib.Omega.{arith}
-use Rattle.std.specs.Prelude.{OnOk}
-use Rattle.std.specs.Io.KnownBytes.{Appends}
-use Rattle.report.proofs.ShowLaws.{shows_refused}
+-- `report::show` meets its contract.
+use Rattle.report.proofs.ShowLaws.{shows_card, shows_refused}
+use borrow.Author.Rules.{rules}
 use Rattle.report.proofs.show.Goals as goal
 
+pub returns-in-Ok : goal.returns-in-Ok
+returns-in-Ok c =
+    shows_card c.args.answer _ c.in-Ok.compiled c.in-Ok.is _ (search rules)
+
 pub returns-in-Err : goal.returns-in-Err
-returns-in-Err g c =
-    subst (λ t. OnOk c.writeln.result (Appends (g.W.Write.contents c.args.output.now) (g.W.Write.contents c.writeln.new.self) t))
-    (shows_refused c.args.answer c.args.card.now c.in-Err.refusal c.number-number.result c.line-line.result c.in-Err.is c.number-number.ensures c.line-line.ensures (omega (arith, c.number-number.type_inv)) (omega (arith, c.line-line.type_inv)))
-    c.writeln.ensures.bytes
+returns-in-Err c =
+    shows_refused c.args.answer _ c.in-Err.refusal c.in-Err.is _ _ (search rules) (search rules) _ _ c.put-a.ensures _ _ c.put_number-b.ensures _ _ c.put-c.ensures _ _ c.put_number-d.ensures _ _ c.put.ensures (search rules)

@@ -1,11 +1,11 @@
 -- `stream::put_number` meets its contract: the library's digits.
-use Rattle.std.proofs.Common.{◌≡◌, ap, arith, length}
+use Rattle.std.proofs.Common.{◌≡◌, arith}
 use Rattle.std.specs.Fmt as F
-use Rattle.stream.proofs.DigitLaws.{few, number_put}
+use Rattle.stream.proofs.DigitLaws.{few_of, number_put}
 use Rattle.stream.proofs.put_number.Goals as goal
 
 pub put-requires : goal.put-requires
-put-requires c = omega (arith, ap length c.format.ensures.text, few c.args.number c.ranges.number.fits, c.requires)
+put-requires c = omega (arith, few_of _ _ c.format.ensures.text (omega (arith, c.ranges.number.fits)), c.requires)
 
 pub returns : goal.returns
 returns c =
