@@ -1,8 +1,11 @@
 -- `fits` meets its contract: the power so far fits.
 use mathlib.Core.Path.{◌≡◌}
 use native.Mathlib.Omega.{arith}
-use Rattle.arrivals.proofs.PowerLaws.{fits_most, fits_not, power_past}
+use Rattle.arrivals.proofs.PowerLaws.{fits_most, fits_not, power_none, power_past}
 use Rattle.arrivals.proofs.power.fits.Goals as goal
+
+pub returns-then-m-eq0 : goal.returns-then-m-eq0
+returns-then-m-eq0 c = rw c.if-m-eq0.true (fits_most _ (power_none _))
 
 pub returns-in_default : goal.returns-in_default
 returns-in_default c =
