@@ -1,5 +1,5 @@
 -- What the parts of a count require and leave. A row of words is told by its sums, for whatever weights of the states.
-use Rattle.std.specs.Prelude.{◌≡◌, List, ℕ, ◌+◌, ◌*◌, ◌≤◌, ◌<◌, length, get_or}
+use Rattle.std.specs.Prelude.{◌≡◌, List, ℕ, ◌+◌, ◌*◌, ◌^◌, ◌≤◌, ◌<◌, length, get_or}
 use Rattle.arrivals.specs.Weights.{most_words, sum_below, weighed, before, earlier, each}
 
 -- ---- one state
@@ -16,6 +16,17 @@ pub record Passed (moves : List ℕ) (i words : ℕ) (next next' : List ℕ) : T
 
 -- ---- one letter
 
+-- m moves for each of the n states, each to one of them.
+pub record Targets (bs : List ℕ) (m n : ℕ) : Type 0 where
+  pub long : length bs ≡ n * m
+  pub inside : (q : ℕ) → q < length bs → get_or bs q 0 < n
+
+-- The words with a letter more fit.
+pub record Roomy (bs : List ℕ) (m : ℕ) (here next : List ℕ) : Type 0 where
+  pub targets : Targets bs m (length here)
+  pub long : length next ≡ length here
+  pub fits : weighed (before bs m each) here ≤ most_words
+
 -- A letter more: the sums are those of the weights one letter before.
 pub record Advanced (bs : List ℕ) (m : ℕ) (here next next' : List ℕ) : Type 0 where
   pub long : length next' ≡ length next
@@ -27,6 +38,13 @@ pub record Advanced (bs : List ℕ) (m : ℕ) (here next next' : List ℕ) : Typ
 pub record Started (row row' : List ℕ) : Type 0 where
   pub long : length row' ≡ length row
   pub sum : (w : ℕ → ℕ) → weighed w row' ≡ w 0
+
+-- A state at least, and the words of k letters and of fewer fit.
+pub record Startable (bs : List ℕ) (m k : ℕ) (here next : List ℕ) : Type 0 where
+  pub some : 0 < length here
+  pub targets : Targets bs m (length here)
+  pub long : length next ≡ length here
+  pub fits : (j : ℕ) → j ≤ k → m ^ j ≤ most_words
 
 -- The row of the words of k letters from state 0, for n states: the sums are those of the weights k letters before, in state 0.
 pub record Arrived (bs : List ℕ) (m k n : ℕ) (row : List ℕ) : Type 0 where

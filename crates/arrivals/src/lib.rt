@@ -4,12 +4,9 @@
 
 pub mod power;
 
-ghost use Rattle.std.specs.Prelude.{◌≡◌, ℕ, ◌^◌, ◌≤◌, ◌<◌, length};
-ghost use Rattle.moves.specs.Marks.{mark_byte};
-ghost use Rattle.arrivals.specs.Weights.{most_words, weighed, before, each, mark_weight};
-ghost use Rattle.arrivals.specs.Rounds.{Passable, Passed, Advanced, Started, Begun, Arrived, Countable};
-
-use moves::{Mark, StatesTo};
+ghost use Rattle.std.specs.Prelude.{◌≡◌, ◌<◌, length};
+ghost use Rattle.arrivals.specs.Weights.{weighed, mark_weight};
+ghost use Rattle.arrivals.specs.Rounds.{Passable, Passed, Roomy, Advanced, Started, Startable, Begun, Arrived, Countable};
 
 // The words of a state, with a letter more: so many more for each state to which a move of its row leads.
 fn pass_on(row: &[u8], words: u64, next: &mut [u64])
@@ -22,15 +19,15 @@ fn pass_on(row: &[u8], words: u64, next: &mut [u64])
 }
 
 // A letter more: the words of `here` passed on to `next`.
-fn advance<const MOST: usize>(states: StatesTo<MOST>, here: &[u64], next: &mut [u64])
-    requires rows { (length here.now ≡ length states.marks.now) × (length next.old ≡ length here.now) }
-    requires fits { weighed (before states.moves.now states.letters each) here.now ≤ most_words }
-    ensures { Advanced states.entry.moves.now states.entry.letters here.now next.old next.new }
+fn advance(moves: &[u8], m: usize, here: &[u64], next: &mut [u64])
+    requires { Roomy moves.now m here.now next.old }
+    ensures { Advanced moves.now m here.now next.old next.new }
 {
     next.fill(0);
     for (p, words) in here.iter().enumerate() {
         if *words != 0 {
-            pass_on(states.row(p), *words, next);
+            let at = p * m;
+            pass_on(&moves[at..at + m], *words, next);
         }
     }
 }
@@ -45,46 +42,38 @@ fn start(row: &mut [u64])
 }
 
 // The words of no letter or of one, in `here`.
-fn begin<const MOST: usize>(states: StatesTo<MOST>, k: usize, here: &mut [u64], next: &mut [u64])
-    requires rows { (length here.old ≡ length states.marks.now) × (length next.old ≡ length here.old) }
-    requires fits { (k < 2) × ((j : ℕ) → j ≤ k → states.letters ^ j ≤ most_words) }
-    ensures { Begun states.entry.moves.now states.entry.letters k here.old here.new next.new }
+fn begin(moves: &[u8], m: usize, k: usize, here: &mut [u64], next: &mut [u64])
+    requires { Startable moves.now m k here.old next.old × (k < 2) }
+    ensures { Begun moves.now m k here.old here.new next.new }
 {
     if k == 0 {
         start(here);
         return;
     }
     start(next);
-    advance(states, &next[..], here);
+    advance(moves, m, &next[..], here);
 }
 
 // The words of k letters, in `here`: the odd letter first, then two rounds a turn, so that no row is copied.
-pub fn arrive<const MOST: usize>(
-    states: StatesTo<MOST>,
-    k: usize,
-    here: &mut [u64],
-    next: &mut [u64],
-)
-    requires rows { (length here.old ≡ length states.marks.now) × (length next.old ≡ length here.old) }
-    requires fits { (j : ℕ) → j ≤ k → states.letters ^ j ≤ most_words }
-    ensures { Arrived states.entry.moves.now states.entry.letters k (length here.old) here.new }
+pub fn arrive(moves: &[u8], m: usize, k: usize, here: &mut [u64], next: &mut [u64])
+    requires { Startable moves.now m k here.old next.old }
+    ensures { Arrived moves.now m k (length here.old) here.new }
 {
-    begin(states, k % 2, here, next);
+    begin(moves, m, k % 2, here, next);
     for _ in 0..k / 2 {
-        advance(states, &here[..], next);
-        advance(states, &next[..], here);
+        advance(moves, m, &here[..], next);
+        advance(moves, m, &next[..], here);
     }
 }
 
-// How many words lead to states with this mark.
-pub fn total(words: &[u64], marks: &[u8], mark: Mark) -> u64
+// How many words lead to states with this marks byte.
+pub fn total(words: &[u64], marks: &[u8], mark: u8) -> u64
     requires { Countable words.now marks.now }
-    ensures { result ≡ weighed (mark_weight marks.now (mark_byte mark)) words.now }
+    ensures { result ≡ weighed (mark_weight marks.now mark) words.now }
 {
-    let byte = mark.byte();
     let mut sum = 0;
     for (p, count) in words.iter().enumerate() {
-        if marks[p] == byte {
+        if marks[p] == mark {
             sum += *count;
         }
     }

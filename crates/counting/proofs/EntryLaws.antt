@@ -25,7 +25,8 @@ use Rattle.census.specs.EndLaws.{ending}
 use Rattle.census.proofs.EndLaws.{allowed_ending, unfinished_ending, hopeless_ending}
 use Rattle.arrivals.specs.Weights.{most_words, weighed, earlier, each, mark_weight, fits}
 use Rattle.arrivals.specs.WeightLaws.{earlier_each}
-use Rattle.arrivals.specs.Rounds.{Arrived, Countable as Summable}
+use Rattle.moves.specs.Holds.{Table}
+use Rattle.arrivals.specs.Rounds.{Startable, Arrived, Countable as Summable}
 use Rattle.arrivals.proofs.PowerLaws.{fits_true, fits_false, powers_fit}
 use Rattle.counting.specs.Counting.{Countable, sums_of}
 use Rattle.counting.proofs.EndingLaws.{ending_earlier}
@@ -62,8 +63,10 @@ module _ (c : List ℕ) (m n k : ℕ) (here next : List ℕ) (R : Ready c m n) (
     few : (j : ℕ) → j ≤ k → x ^ j ≤ most_words
     few = rw q (powers_fit m k C.few)
 
-    pub startable : ((length here ≡ length ms) × (length next ≡ length here)) × ((j : ℕ) → j ≤ k → x ^ j ≤ most_words)
-    startable = ((C.here_long ∙ sym many, C.next_long ∙ sym C.here_long), few)
+    pub startable : Table 120 x ms bs → Startable bs x k here next
+    startable t =
+        let z : length here ≡ length ms = C.here_long ∙ sym many in
+        record { some = rw z t.some; targets = rw z (record { long = t.long; inside = t.inside }); long = C.next_long ∙ sym C.here_long; fits = few }
 
     module _ (row : List ℕ) (A : Arrived bs x k (length here) row) where
       pub summable : Summable row ms

@@ -31,9 +31,9 @@ fn sums(words: &[u64], marks: &[u8]) -> Census
     requires { Summable words.now marks.now }
     ensures { census_in result ≡ sums_of words.now marks.now }
 {
-    let allowed = arrivals::total(words, marks, Mark::Accepting);
-    let unfinished = arrivals::total(words, marks, Mark::Unfinished);
-    let hopeless = arrivals::total(words, marks, Mark::Dead);
+    let allowed = arrivals::total(words, marks, Mark::Accepting as u8);
+    let unfinished = arrivals::total(words, marks, Mark::Unfinished as u8);
+    let hopeless = arrivals::total(words, marks, Mark::Dead as u8);
     Census {
         allowed,
         unfinished,
@@ -47,7 +47,7 @@ fn count(card: &Card, k: usize, here: &mut [u64], next: &mut [u64]) -> Census
     ensures { census_in result ≡ census narrow (bytes_of card.now) k }
 {
     let states = card.states();
-    arrivals::arrive(states, k, here, next);
+    arrivals::arrive(states.moves, states.letters, k, here, next);
     sums(&here[..], states.marks)
 }
 

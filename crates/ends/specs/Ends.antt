@@ -16,6 +16,15 @@ pub record Filled (n dead here never : ℕ) (old new : List ℕ) : Type 0 where
   pub long : length new ≡ length old
   pub entry : (q : ℕ) → q < n → get_or new q 0 ≡ placed dead here (λ _. never) q
 
+-- The moves by a column of m lead to states; the row of places before has an entry for each state, the one after an entry more for no dead state.
+pub record Stepping (moves : List ℕ) (m n column dead : ℕ) (row next : List ℕ) : Type 0 where
+  pub known : column < m
+  pub table : length moves ≡ n * m
+  pub inside : (q : ℕ) → q < n → get_or moves (q * m + column) 0 < n
+  pub most : dead ≤ n
+  pub before : n ≤ length row
+  pub after : n < length next
+
 -- the place of state q's next state
 abbrev pub next_place : List ℕ → ℕ → ℕ → List ℕ → ℕ → ℕ
 next_place moves m column before q = get_or before (get_or moves (q * m + column) 0) 0

@@ -3,9 +3,9 @@
 #![tactic(auto)]
 
 ghost use Rattle.std.specs.Prelude.{◌≤◌, ◌<◌, length};
-ghost use Rattle.ends.specs.Ends.{DeadState, Filled, Stepped};
+ghost use Rattle.ends.specs.Ends.{DeadState, Filled, Stepping, Stepped};
 
-use moves::{Mark, StatesTo};
+use moves::Mark;
 
 // The first dead state, or the number of states.
 // Stays: a place, and no Option: a row has an entry more for it, which each letter writes without a test; of an Option its one caller would make this place again.
@@ -29,21 +29,22 @@ pub fn fill(ends: &mut [usize], n: usize, dead: usize, here: usize, never: usize
 
 // One letter more, by its column: the dead state is dead here, each other one where the next state is. The places before are those of the word behind the letter;
 // the last place of the next states is handed back.
-pub fn step<const MOST: usize>(
-    states: StatesTo<MOST>,
+pub fn step(
+    moves: &[u8],
+    m: usize,
+    n: usize,
     column: usize,
     dead: usize,
     before: &[usize],
     after: &mut [usize],
     here: usize,
 ) -> usize
-    requires known { (column < states.letters) × (dead ≤ length states.marks.now) }
-    requires rows { (length states.marks.now ≤ length before.now) × (length states.marks.now < length after.old) }
-    ensures { Stepped states.entry.moves.now states.entry.letters (length states.entry.marks.now) column dead here before.now after.old after.new result }
+    requires { Stepping moves.now m n column dead before.now after.old }
+    ensures { Stepped moves.now m n column dead here before.now after.old after.new result }
 {
     let mut last = 0;
-    for q in 0..states.len() {
-        let end = before[states.target(q, column)];
+    for q in 0..n {
+        let end = before[moves[q * m + column] as usize];
         after[q] = end;
         last = last.max(end);
     }

@@ -18,7 +18,9 @@ use Rattle.card.specs.Loads.{Loaded}
 use Rattle.card.proofs.Loads.{load_loaded}
 use Rattle.card.specs.Judge.{card_allows}
 use Rattle.factor.specs.Factor.{Inside, at}
-use Rattle.ends.specs.Ends.{DeadState, Filled, Stepped}
+use Rattle.moves.specs.Holds.{Table}
+use Rattle.moves.specs.TableLaws.{move_inside}
+use Rattle.ends.specs.Ends.{DeadState, Filled, Stepping, Stepped}
 use Rattle.fields.specs.Counts.{Counted}
 use Rattle.std.specs.Prelude.{Option, Some, None}
 use Rattle.run.specs.Walk.{Ready, ColumnTable}
@@ -122,11 +124,15 @@ module _ (c : List ℕ) (m n : ℕ) (table plan : List ℕ) (d never i : ℕ) (o
       states : length ms ≡ n
       states = ap length f ∙ marks_of_length narrow c (loaded c m n table plan S).contents ∙ S.ready.states
 
-      pub under_known : (k < x) × (d ≤ length ms)
-      under_known = (rw q under_column, omega (arith, U.first.most, ap length f))
-
-      pub under_rows : (length ms ≤ length (take (length old) old)) × (length ms < length (take (length after) after))
-      under_rows = rw (take-length old, take-length after) (omega (arith, states, U.rows.0), omega (arith, states, U.rows.1))
+      pub under_stepping : Table 120 x ms bs → (w : ℕ) → w ≡ length ms → Stepping bs x w k d (take (length old) old) (take (length after) after)
+      under_stepping t w z = rw (take-length old, take-length after, z) (record {
+        known = rw q under_column;
+        table = t.long;
+        inside = λ p h. move_inside _ _ _ _ t p k h (rw q under_column);
+        most = omega (arith, U.first.most, ap length f);
+        before = omega (arith, states, U.rows.0);
+        after = omega (arith, states, U.rows.1);
+      })
 
       module _ (new : List ℕ) (last : ℕ) (T₀ : Stepped bs x (length ms) k d (i - 1) (take (length old) old) (take (length after) after) new last) where
         T : Stepped bs x (length ms) k d (i - 1) old after new last

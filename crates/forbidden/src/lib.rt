@@ -58,16 +58,19 @@ fn pass<'a>(
     ensures { Searched (bytes_of walker.now.card) plan.now result }
 {
     let states = walker.card.states();
+    let moves = states.moves;
+    let m = states.letters;
+    let n = states.len();
     let dead = ends::dead_state(states.marks);
     if dead == 0 {
         return Some(EMPTY);
     }
     let never = plan.len() + 1;
-    ends::fill(before, states.len(), dead, plan.len(), never);
+    ends::fill(before, n, dead, plan.len(), never);
     let mut best = None;
     for i in (0..plan.len()).rev() {
         let column = walker.columns[plan[i] as usize] as usize;
-        let last = ends::step(states, column, dead, before, after, i);
+        let last = ends::step(moves, m, n, column, dead, before, after, i);
         swap(&mut before, &mut after);
         best = better(best, i, last, never);
     }

@@ -16,7 +16,7 @@ use Rattle.automata.specs.Machine.{Machine, Equivalent, Reduced}
 use Rattle.automata.specs.Refinement.{Settled, settled_equivalent, coarse_apart}
 use Rattle.moves.specs.Holds.{Table, Holds, AcceptKeys}
 use Rattle.sweeps.specs.Change.{Alike}
-use Rattle.splits.specs.Splits.{Named, owned, Split, Refined}
+use Rattle.splits.specs.Splits.{Named, owned, Split, Columns, Refined}
 use Rattle.partition.specs.Classes.{ReducedExactly, Classed, Stretch, ClassesExactly}
 use Rattle.splits.proofs.ClassLaws.{none_linked, owned_le, owned_all, owned_some, owned_mono, owned_same}
 use Rattle.moves.specs.TableLaws.{move_inside}
@@ -52,6 +52,9 @@ pub refined_low : (m n c : ℕ) (bs cs ns : List ℕ) (r : ℕ) → Refined m bs
 refined_low m n c bs cs ns r u = omega (arith, u.count, owned_le ns n)
 
 module _ (m : ℕ) (ms bs : List ℕ) (t : Table 120 m ms bs) where
+  pub columns_of : (n c : ℕ) → n ≡ length ms → c < m → Columns m n c bs
+  columns_of n c e h = rw e (record { some = t.some; most = t.states_most; column = h; long = t.long; inside = t.inside })
+
   module _ (cs : List ℕ) (k before c : ℕ) (u : ClassesUpto m ms bs cs k before c) where
     refined_keeps : (ns : List ℕ) (r : ℕ) → Refined m bs (length ms) c cs ns r → (p : ℕ) → p < length ms → get_or cs p 0 ≡ p → get_or ns p 0 ≡ p
     refined_keeps ns r s p a x =

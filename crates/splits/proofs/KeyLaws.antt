@@ -2,11 +2,10 @@
 use mathlib.Core.Path.{◌≡◌, refl, sym, ap, ◌∙◌}
 use mathlib.Core.Bool.{Bool, true, false}
 use mathlib.Core.List.{List}
-use Prim.Native.Nat.{ℕ, ◌+◌, ◌*◌, ◌<◌}
+use Prim.Native.Nat.{ℕ, ◌+◌, ◌*◌, ◌≤◌, ◌<◌}
 use lib.ListN.{length, get_or}
 use lib.Dec.{eqb}
 use native.Mathlib.Omega.{arith}
-use Rattle.std.specs.List.{HoldsAt}
 use mir.Val.{bool_byte as from_bool}
 use Rattle.moves.specs.Holds.{AcceptKeys}
 
@@ -19,11 +18,14 @@ pub record KeysUpto (most : ℕ) (f : ℕ → ℕ) (ks : List ℕ) (p : ℕ) : T
 
 -- ---- acceptance
 
-pub accept_keys : (ms ks : List ℕ) → length ks ≡ 120 → ((p : ℕ) → p < length ms → HoldsAt (λ x. x ≡ from_bool (eqb 1 (get_or ms p 0))) ks p) → AcceptKeys ms ks
-accept_keys ms ks l f = record {
-  long = l;
-  sound = λ p q h b e. alike (eqb 1 (get_or ms p 0)) (eqb 1 (get_or ms q 0)) (sym (f p h 0) ∙ e ∙ f q b 0);
-  whole = λ p q h b e. f p h 0 ∙ ap from_bool e ∙ sym (f q b 0);
+abbrev pub accept_key : List ℕ → ℕ → ℕ
+accept_key ms q = from_bool (eqb 1 (get_or ms q 0))
+
+pub accept_done : (ms ks : List ℕ) (p : ℕ) → length ms ≤ p → KeysUpto 120 (accept_key ms) ks p → AcceptKeys ms ks
+accept_done ms ks p l u = record {
+  long = u.long;
+  sound = λ q r h b e. alike (eqb 1 (get_or ms q 0)) (eqb 1 (get_or ms r 0)) (sym (u.key q (omega arith)) ∙ e ∙ u.key r (omega arith));
+  whole = λ q r h b e. u.key q (omega arith) ∙ ap from_bool e ∙ sym (u.key r (omega arith));
 }
   where
     alike : (a b : Bool) → from_bool a ≡ from_bool b → a ≡ b

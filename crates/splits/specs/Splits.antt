@@ -38,6 +38,14 @@ pub record Split (n : ℕ) (ks cs ns : List ℕ) (r : ℕ) : Type 0 where
   pub joins : (p q : ℕ) → p < n → q < n → get_or cs p 0 ≡ get_or cs q 0 → get_or ks p 0 ≡ get_or ks q 0 → get_or ns p 0 ≡ get_or ns q 0
   pub count : r ≡ owned ns n
 
+-- Column c of n rows of m moves, each to one of n states.
+pub record Columns (m n c : ℕ) (bs : List ℕ) : Type 0 where
+  pub some : 1 ≤ n
+  pub most : n ≤ 120
+  pub column : c < m
+  pub long : length bs ≡ n * m
+  pub inside : (q : ℕ) → q < length bs → get_or bs q 0 < n
+
 -- The key of a state is the class that column c leads to.
 pub record ColumnKeys (m : ℕ) (bs : List ℕ) (n c : ℕ) (cs ks : List ℕ) : Type 0 where
   pub long : length ks ≡ 120

@@ -4,9 +4,9 @@
 
 ghost use Rattle.std.specs.Prelude.{◌≡◌, ◌≤◌, ◌<◌, length};
 ghost use Rattle.moves.specs.Holds.{AcceptKeys};
-ghost use Rattle.splits.specs.Splits.{Links, Found, Named, Split, ColumnKeys, Refined};
+ghost use Rattle.splits.specs.Splits.{Links, Found, Named, Split, Columns, ColumnKeys, Refined};
 
-use moves::States;
+use moves::Mark;
 
 // Along the links from `start`, the first state with the key, or the last one.
 fn find(keys: &[u8; 120], link: &[u8; 120], start: usize, key: u8, n: usize) -> usize
@@ -50,30 +50,45 @@ pub fn split(n: usize, keys: &[u8; 120], classes: &mut [u8; 120]) -> usize
 }
 
 // Of each state whether it accepts.
-pub fn accept_keys(states: States, keys: &mut [u8; 120])
-    requires { length keys.old ≡ 120 }
-    ensures { AcceptKeys states.entry.marks.now keys.new }
+pub fn accept_keys(marks: &[u8], keys: &mut [u8; 120])
+    requires { (length marks.now ≤ 120) × (length keys.old ≡ 120) }
+    ensures { AcceptKeys marks.now keys.new }
 {
-    states.accepting(keys);
+    for (p, mark) in marks.iter().enumerate() {
+        keys[p] = u8::from(Mark::Accepting as u8 == *mark);
+    }
 }
 
 // Of each state the class that column c leads to.
-fn column_keys(states: States, c: usize, classes: &[u8; 120], keys: &mut [u8; 120])
-    requires { (c < states.letters) × (length keys.old ≡ 120) }
-    ensures { ColumnKeys states.entry.letters states.entry.moves.now (length states.entry.marks.now) c classes.now keys.new }
+fn column_keys(
+    moves: &[u8],
+    m: usize,
+    n: usize,
+    c: usize,
+    classes: &[u8; 120],
+    keys: &mut [u8; 120],
+)
+    requires { Columns m n c moves.now × (length keys.old ≡ 120) }
+    ensures { ColumnKeys m moves.now n c classes.now keys.new }
 {
-    for p in 0..states.len() {
-        keys[p] = classes[states.target(p, c)];
+    for p in 0..n {
+        keys[p] = classes[moves[p * m + c] as usize];
     }
 }
 
 // Splits each class by where column c leads.
-pub fn refine(states: States, c: usize, keys: &mut [u8; 120], classes: &mut [u8; 120]) -> usize
-    requires column { c < states.letters }
-    requires classes { (length classes.old ≡ 120) × Named classes.old (length states.marks.now) }
+pub fn refine(
+    moves: &[u8],
+    m: usize,
+    n: usize,
+    c: usize,
+    keys: &mut [u8; 120],
+    classes: &mut [u8; 120],
+) -> usize
+    requires columns { Columns m n c moves.now × (length classes.old ≡ 120) × Named classes.old n }
     requires keys_len { length keys.old ≡ 120 }
-    ensures { Refined states.entry.letters states.entry.moves.now (length states.entry.marks.now) c classes.old classes.new result × (length keys.new ≡ 120) }
+    ensures { Refined m moves.now n c classes.old classes.new result × (length keys.new ≡ 120) }
 {
-    column_keys(states, c, classes, keys);
-    split(states.len(), keys, classes)
+    column_keys(moves, m, n, c, classes, keys);
+    split(n, keys, classes)
 }

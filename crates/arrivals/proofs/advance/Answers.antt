@@ -8,21 +8,19 @@ use Rattle.arrivals.proofs.advance.Goals as goal
 use Rattle.arrivals.proofs.advance.Goals.{then-words-ne0, else-words-ne0}
 
 pub loop-p-init : goal.loop-p-init
-loop-p-init g c =
-    advanced_none _ _ _ _ _ c.requires.rows c.requires.fits _ (cleared _ _ (c.fill.ensures.after (λ y e. e)))
-
-pub pass_on-requires : goal.pass_on-requires
-pass_on-requires g c =
-    row_passable _ _ _ _ _ c.requires.rows c.requires.fits _ _ c.loop-p.invariant c.loop-p-test.true _ c.row.ensures
-
-pub loop-p-preserved : goal.loop-p-preserved
-loop-p-preserved g c =
-    rw add-one (elim c.if-words-ne0.branch [
-      | then-words-ne0 w ↦ rw w.next-is (advanced_more _ _ _ _ _ c.requires.rows c.requires.fits _ _ c.loop-p.invariant c.loop-p-test.true _ w.row.ensures _ w.pass_on.ensures)
-      | else-words-ne0 w ↦ rw w.next-is (advanced_idle _ _ _ _ _ c.requires.rows c.requires.fits _ _ c.loop-p.invariant c.loop-p-test.true w.if-words-ne0.false)
-    ])
+loop-p-init c = advanced_none _ _ _ _ c.requires _ (cleared _ _ (c.fill.ensures.after (λ y e. e)))
 
 pub returns : goal.returns
-returns g c =
+returns c =
     let z : c.loop-p.p ≡ length c.args.here.now = omega arith in
-    advanced_done _ _ _ _ _ c.requires.rows c.requires.fits _ _ c.loop-p.invariant z
+    advanced_done _ _ _ _ c.requires _ _ c.loop-p.invariant z
+
+pub pass_on-requires : goal.pass_on-requires
+pass_on-requires c = row_passable _ _ _ _ c.requires _ _ c.loop-p.invariant c.loop-p-test.true
+
+pub loop-p-preserved : goal.loop-p-preserved
+loop-p-preserved c =
+    rw add-one (elim c.if-words-ne0.branch [
+      | then-words-ne0 w ↦ rw w.next-is (advanced_more _ _ _ _ c.requires _ _ c.loop-p.invariant c.loop-p-test.true _ w.pass_on.ensures)
+      | else-words-ne0 w ↦ rw w.next-is (advanced_idle _ _ _ _ c.requires _ _ c.loop-p.invariant c.loop-p-test.true w.if-words-ne0.false)
+    ])

@@ -3,4 +3,4 @@ use Rattle.arrivals.proofs.RoundLaws.{AdvancedTo}
 use Rattle.arrivals.proofs.advance.Given as goal
 
 abbrev pub invariant-loop-p : goal.invariant-loop-p
-invariant-loop-p g l = AdvancedTo l.states.moves.now l.states.letters l.here l.next l.p
+invariant-loop-p l = AdvancedTo l.moves l.m l.here l.next l.p

@@ -5,4 +5,4 @@ use Rattle.arrivals.proofs.RoundLaws.{Going}
 use Rattle.arrivals.proofs.arrive.Given as goal
 
 abbrev pub invariant-loop : goal.invariant-loop
-invariant-loop g l = Going l.states.moves.now l.states.letters l.k (length l.states.marks.now) l.here l.next (l.end - l.counter)
+invariant-loop l = Going l.moves l.m l.k (length l.initial.here) l.here l.next (l.end - l.counter)

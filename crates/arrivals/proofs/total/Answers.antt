@@ -8,9 +8,9 @@ use Rattle.arrivals.proofs.total.Goals as goal
 
 pub overflow_add-sum : goal.overflow_add-sum
 overflow_add-sum c =
-    omega (arith, c.loop-p.invariant, total_fits _ _ c.byte-byte.result c.requires _ c.loop-p-test.true)
+    omega (arith, c.loop-p.invariant, total_fits _ _ c.args.mark c.requires _ c.loop-p-test.true)
 
 pub returns : goal.returns
 unfolding weighed
 returns c =
-    let z : c.loop-p.p ≡ length c.args.words.now = omega arith in rw (← z, ← c.byte-byte.ensures) c.loop-p.invariant
+    let z : c.loop-p.p ≡ length c.args.words.now = omega arith in rw (← z) c.loop-p.invariant

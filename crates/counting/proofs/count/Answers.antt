@@ -1,6 +1,5 @@
 -- `count` meets its contract: the row of arrivals has the sums of the answer.
 use mathlib.Core.Path.{◌∙◌}
-use native.Mathlib.Omega.{arith}
 use Rattle.counting.proofs.EntryLaws.{startable, summable, counted}
 use Rattle.run.specs.Cards.{ready_of}
 use Rattle.counting.proofs.count.Goals as goal
@@ -8,7 +7,7 @@ use Rattle.counting.proofs.count.Goals as goal
 pub arrive-requires : goal.arrive-requires
 arrive-requires c =
     let s = c.states-states.ensures in
-    (omega arith, startable _ _ _ _ _ _ (ready_of c.args.card.now) c.requires _ s.letters _ _ s.marks s.moves)
+    startable _ _ _ _ _ _ (ready_of c.args.card.now) c.requires _ s.letters _ _ s.marks s.moves c.states-states.result.table
 
 pub sums-requires : goal.sums-requires
 sums-requires c =

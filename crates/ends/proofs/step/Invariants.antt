@@ -3,4 +3,4 @@ use Rattle.ends.proofs.EndsLaws.{SteppedTo}
 use Rattle.ends.proofs.step.Given as goal
 
 abbrev pub invariant-loop-q : goal.invariant-loop-q
-invariant-loop-q g l = SteppedTo l.states.moves.now l.states.letters l.column l.before l.initial.after l.after l.last l.q
+invariant-loop-q l = SteppedTo l.moves l.m l.column l.before l.initial.after l.after l.last l.q

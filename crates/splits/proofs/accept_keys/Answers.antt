@@ -1,7 +1,6 @@
--- `accept_keys` meets its contract.
-use mathlib.Core.Path.{◌∙◌}
-use Rattle.splits.proofs.KeyLaws.{accept_keys}
+-- `accept_keys` meets its contract: the states passed have their keys.
+use Rattle.splits.proofs.KeyLaws.{accept_done}
 use Rattle.splits.proofs.accept_keys.Goals as goal
 
 pub returns : goal.returns
-returns c = accept_keys _ _ (c.accepting.ensures.long ∙ c.requires) c.accepting.ensures.told
+returns c = accept_done _ _ _ c.loop-p-test.false c.loop-p.invariant

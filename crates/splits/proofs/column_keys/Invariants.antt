@@ -3,4 +3,4 @@ use Rattle.splits.proofs.KeyLaws.{KeysUpto, column_key}
 use Rattle.splits.proofs.column_keys.Given as goal
 
 abbrev pub invariant-loop-p : goal.invariant-loop-p
-invariant-loop-p l = KeysUpto 120 (column_key l.states.letters l.states.moves.now l.c l.classes) l.keys l.p
+invariant-loop-p l = KeysUpto 120 (column_key l.m l.moves l.c l.classes) l.keys l.p
