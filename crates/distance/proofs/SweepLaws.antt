@@ -47,11 +47,17 @@ module _ (S : Stepping) (l : List ℕ) (N : Numbers S l) (p x : ℕ) (h : p < S.
       backed = laws.lowered_backed S.states S.states S.letters S.key S.step (far l) (far (set l p x)) p x (ap suc (get_or-set_same l p x 0 (omega (arith, N.long))))
           (λ q d. ap suc (get_or-set_other l p q x 0 d)) (omega (arith, b)) N.backed u.least.met;
     };
+    yes = λ z. (x, refl, b, shown u.least.met);
     no = λ z. absurd (true≢false z);
   }
+    where
+      -- the number is less than that of a change which is not known
+      shown : (suc x ≡ S.states) ⊎ ((c : ℕ) × (c < S.letters) × (after S.key S.step (far l) p c ≡ x)) → (c : ℕ) × (c < S.letters) × (after S.key S.step (far l) p c ≡ x)
+      shown (inl e) = absurd (omega (arith, e, b, N.backed.most p h))
+      shown (inr m) = m
 
   pub stays : get_or l p 0 ≤ x → Lowered S l l p false
-  stays b = record { numbers = N; no = λ z. (refl, λ c v. omega (arith, b, u.least.low c v)) }
+  stays b = record { numbers = N; yes = λ z. absurd (false≢true z); no = λ z. (refl, λ c v. omega (arith, b, u.least.low c v)) }
 
 -- ---- the sweep up
 

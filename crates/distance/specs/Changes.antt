@@ -1,5 +1,5 @@
 -- What the sweeps are given that find how far a change is, and what they answer: of a machine its answers and moves, of each state its number.
-use Rattle.std.specs.Prelude.{◌≡◌, Bool, true, false, List, ℕ, suc, ◌≤◌, ◌<◌, length, get_or}
+use Rattle.std.specs.Prelude.{◌≡◌, Bool, true, false, List, ℕ, suc, ◌≤◌, ◌<◌, length, get_or, set}
 use Rattle.distance.specs.Distance.{after, Nearest, Backed, Closed}
 
 -- So many states and letters, what each state answers, and where a letter leads.
@@ -27,9 +27,10 @@ pub record Numbers (S : Stepping) (l : List ℕ) : Type 0 where
   pub long : length l ≡ S.states
   pub backed : Backed S.states S.states S.letters S.key S.step (far l)
 
--- State p's number was lowered, or nothing changed and no letter of p shows a nearer change.
+-- State p's number was lowered to what is known behind a letter, kept less 1, or nothing changed and no letter of p shows a nearer change.
 pub record Lowered (S : Stepping) (l l' : List ℕ) (p : ℕ) (r : Bool) : Type 0 where
   pub numbers : Numbers S l'
+  pub yes : r ≡ true → (x : ℕ) × (l' ≡ set l p x) × (x < get_or l p 0) × ((c : ℕ) × (c < S.letters) × (after S.key S.step (far l) p c ≡ x))
   pub no : r ≡ false → (l' ≡ l) × ((c : ℕ) → c < S.letters → far l p ≤ suc (after S.key S.step (far l) p c))
 
 -- A sweep keeps the numbers backed; where it lowers none, they are closed.
