@@ -1,7 +1,8 @@
 // Judging many plans on one card: the columns and the letters owed are found once.
 ghost use Rattle.run.specs.Walk.{OwedTable};
 
-use crate::{Card, Run, UnknownLetter, Verdict, Walker, told};
+use crate::owed::owed_table;
+use crate::{Card, Run, UnknownLetter, Verdict, Walker, reply_by};
 
 // A card with its columns, and of every unfinished state the letters owed.
 #[derive(Drop)]
@@ -25,7 +26,7 @@ impl<'a> Judge<'a> {
     {
         Judge {
             walker: Walker::of(card),
-            owed: levels::distances(card.states()),
+            owed: owed_table(card),
         }
     }
 
@@ -34,6 +35,6 @@ impl<'a> Judge<'a> {
         requires { Underway (bytes_of self.now.walker.card) (states_in self.now.walker.card) run }
         ensures { reply_of result ≡ run_reply narrow (bytes_of self.now.walker.card) (run_of run) }
     {
-        told(&self.walker.card, run, |last| self.owed[last] as usize)
+        reply_by(&self.walker.card, &self.owed, run)
     }
 }

@@ -15,7 +15,7 @@ ghost use Rattle.card.specs.Judge.{owed as owed_of};
 ghost use Rattle.card.specs.Run.{run_start, run_on, run_reply};
 ghost use Rattle.run.specs.Reading.{run_of, reply_of};
 ghost use Rattle.run.specs.Cards.{bytes_of, states_in};
-ghost use Rattle.run.specs.Walk.{Underway, Runs};
+ghost use Rattle.run.specs.Walk.{Underway, OwedTable, Runs};
 
 pub use judge::Judge;
 pub use loaded::Card;
@@ -53,7 +53,7 @@ impl UnknownLetter {
 
 // How a walk ends: at the piece's end, or after some letters, in a dead state or before a letter that is not on the card.
 #[derive(Clone, Copy)]
-enum Walk {
+pub enum Walk {
     Done { state: usize },
     Dead { state: usize, taken: usize },
     Unknown { state: usize, taken: usize },
@@ -120,4 +120,12 @@ pub fn reply(card: &Card, run: Run) -> Result<Verdict, UnknownLetter>
     ensures { reply_of result ≡ run_reply narrow (bytes_of card.now) (run_of run) }
 {
     told(card, run, |last| owed::owed(card, last))
+}
+
+// The same by the card's table of letters owed.
+pub fn reply_by(card: &Card, owed: &[u16; 120], run: Run) -> Result<Verdict, UnknownLetter>
+    requires { OwedTable (bytes_of card.now) (states_in card.now) owed.now × Underway (bytes_of card.now) (states_in card.now) run }
+    ensures { reply_of result ≡ run_reply narrow (bytes_of card.now) (run_of run) }
+{
+    told(card, run, |last| owed[last] as usize)
 }

@@ -1,8 +1,6 @@
--- `of` meets its contract: the distances on the card's table of moves.
-use Rattle.run.proofs.OwedLaws.{owed_table}
-use Rattle.run.specs.Cards.{ready_of}
+-- `of` meets its contract: the table is that of the walker's card.
 use Rattle.run.proofs.judge.Judge.of.Goals as goal
 
 pub invariant_of-result : goal.invariant_of-result
 invariant_of-result c =
-    record { right = rw c.of.ensures (owed_table _ _ _ (ready_of c.args.card.now) _ c.states.ensures.marks _ c.states.ensures.moves _ (rw c.states.ensures.letters at c.distances.ensures)) }
+    record { right = rw c.of.ensures c.owed_table.ensures }
