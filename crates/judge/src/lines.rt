@@ -6,7 +6,7 @@ ghost use Rattle.plans.specs.Plans.{ended};
 ghost use Rattle.judging.specs.Lines.{Counted, Since};
 ghost use Rattle.judge.specs.Lines.{Wrote, Replies};
 
-use judging::{State, Tested, feed, finish, start};
+use judging::{State, Tested, feed};
 use std::io;
 use std::io::{Read, Write};
 use stream::Failure;
@@ -59,13 +59,13 @@ pub fn judge_all<R: Read, W: Write>(
     let mut bytes = [0u8; 65536];
     let mut out = [0u8; 65536];
     let tested = Tested::of(card);
-    let mut state = start(&tested);
+    let mut state = tested.start();
     for _ in 0..READS {
         let Ok(n) = input.read(&mut bytes) else {
             return Err(Failure::NotRead);
         };
         if n == 0 {
-            let last = finish(&tested, state, &mut out);
+            let last = tested.finish(state, &mut out);
             let Ok(()) = output.write_all(&out[..last]) else {
                 return Err(Failure::NotWritten);
             };

@@ -19,16 +19,25 @@ use Rattle.run.specs.declared.Run.{Run as Run'}
 use Rattle.run.specs.declared.Verdict.{Verdict}
 use Rattle.run.specs.declared.UnknownLetter.{UnknownLetter}
 use Rattle.run.specs.declared.loaded.Card.{Card}
-use Rattle.std.specs.Prelude.{Result, Err}
+use Rattle.std.specs.Prelude.{Result, Ok, Err, IfOk}
 use Rattle.loading.specs.declared.Fault.{Fault}
 use Rattle.loading.specs.Faults.{fault_number}
 use Rattle.board.specs.declared.refusals.Refusal.TheVariants.{Card as CardFault}
 use Rattle.run.specs.Reading.{run_of, reply_of}
 use Rattle.run.specs.Cards.{bytes_of, states_in, ready_of}
-use Rattle.run.specs.Walk.{Runs}
+use Rattle.run.specs.Walk.{Runs, ColumnTable, OwedTable}
 use Rattle.run.specs.Pieces.{after_piece, after_reply}
+use Rattle.board.specs.Answers.{loading}
 use Rattle.board.proofs.EntryLaws.{refused_judge, rejected_test, rejected_some}
-use Rattle.judging.specs.Plan.{Goes, Judges, More, Answers}
+use Rattle.judging.specs.Plan.{Loads, Columns, Owed, Goes, Judges, More, Answers}
+
+-- ---- the test
+
+pub loads_of : (c : List ℕ) (r : Result Card Fault) → loading r ≡ load narrow c → IfOk r (λ k. bytes_of k ≡ c) → Loads c r
+loads_of c r e s = record {
+  refused = λ f z. ap loading (sym z) ∙ e;
+  accepted = λ k z. let y : IfOk {E = Fault} (Ok k) (λ k. bytes_of k ≡ c) = rw z at s in y;
+}
 
 -- ---- a card that loads
 
@@ -47,6 +56,12 @@ module _ (k : Card) where
       let y : Runs c n (run_on narrow c (run_of r) v) s = counted (run_on narrow c (run_of r) v) s w in
       record { goes = record { underway = λ _. y.underway }; judges = λ u a. record { after = λ z. after_piece c n u v r s (a.after z) y } }
 
+  pub columns_of : (t : List ℕ) → ColumnTable (letters_of narrow c) t → Columns c t
+  columns_of t w = record { table = λ _. w }
+
+  pub owed_of : (t : List ℕ) → OwedTable c (states_in k) t → Owed c t
+  owed_of t w = record { table = λ _. subst (λ x. OwedTable c x t) (sym (ready_of k).states) w }
+
   pub answers : (r : Run') (a : Result Verdict UnknownLetter) → reply_of a ≡ run_reply narrow c (run_of r) → (u : List ℕ) → Judges c u r → reply_of a ≡ judge narrow c u
   answers r a w u b = after_reply c n (letter_count narrow c) (record { loads = k.loads; letters = refl; states = refl }) u r a (b.after k.loads) w
 
@@ -55,6 +70,12 @@ module _ (k : Card) where
 module _ (c : List ℕ) (f : Fault) (e : rejected (fault_number f) ≡ load narrow c) where
   not_loaded : {A : Type 0} → load_test narrow c ≡ 0 → A
   not_loaded z = absurd (rejected_some c (fault_number f) e (sym (rejected_test c (fault_number f) e).0 ∙ z))
+
+  pub refused_columns : (t : List ℕ) → Columns c t
+  refused_columns t = record { table = λ z. not_loaded z }
+
+  pub refused_owed : (t : List ℕ) → Owed c t
+  refused_owed t = record { table = λ z. not_loaded z }
 
   pub refused_judges : (u : List ℕ) (r : Run') → Judges c u r
   refused_judges u r = record { after = λ z. not_loaded z }

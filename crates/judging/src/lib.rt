@@ -5,10 +5,11 @@
 pub mod plan;
 
 ghost use Rattle.std.specs.Prelude.{[], ◌≤◌, length};
+ghost use Rattle.judging.specs.Plan.{Owed};
 ghost use Rattle.reply.specs.Text.{longest};
 ghost use Rattle.judging.specs.Lines.{Since, Counted, Feeds, Finishes};
 
-pub use plan::Tested;
+pub use plan::{Loaded, Tested};
 use reply::LONGEST;
 use run::Run;
 
@@ -27,11 +28,11 @@ pub struct Fed {
     pub at: usize,
 }
 
-// Before the first byte.
-pub fn start(tested: &Tested) -> State
-    ensures { Since tested.now.bytes.now [] result }
+// Before the first byte. The card is tested, and no table is made.
+pub fn start(card: &[u8]) -> State
+    ensures { Since card.now [] result }
 {
-    let run = tested.begin();
+    let run = Loaded::of(card).begin();
     State { run, open: false }
 }
 
@@ -76,14 +77,14 @@ pub fn feed(tested: &Tested, state: State, bytes: &[u8], out: &mut [u8]) -> Fed
 }
 
 // Bytes after the last line end are one more plan.
-pub fn finish(tested: &Tested, state: State, out: &mut [u8]) -> usize
-    requires { Counted tested.now.bytes.now state 0 × (longest ≤ length out.old) }
-    ensures { Finishes tested.now.bytes.now state out.new result }
+pub fn finish(loaded: &Loaded, owed: &[u16; 120], state: State, out: &mut [u8]) -> usize
+    requires { Counted loaded.now.bytes.now state 0 × (longest ≤ length out.old) × Owed loaded.now.bytes.now owed.now }
+    ensures { Finishes loaded.now.bytes.now state out.new result }
 {
     let run = state.run;
     let open = state.open;
     if open {
-        return reply::line(out, 0, tested.answer(run));
+        return reply::line(out, 0, loaded.answer(owed, run));
     }
     0
 }
