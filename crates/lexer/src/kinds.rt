@@ -32,10 +32,13 @@ pub enum Kind {
 }
 
 // From this byte on all are stray.
-const ASCII_END: usize = 128;
+pub const ASCII_END: usize = 128;
+
+// The kinds of the bytes below it.
+pub type KindTable = [Kind; ASCII_END];
 
 // "The kind of every byte .. is one constant table"; "All bytes from 0x80 up are stray, so the table keeps 128 entries". A mark at each sixteenth.
-static KINDS: [Kind; ASCII_END] = [
+pub static KINDS: KindTable = [
     // 0x00
     Kind::Stray,
     Kind::Stray,
