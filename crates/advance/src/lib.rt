@@ -31,7 +31,7 @@ pub fn advance(
     ensures row { row_at operands.now.width turn.state found.new.rows.now ≡ row_at operands.now.width turn.state found.old.rows.now }
     ensures kept { Kept found.old found.new }
 {
-    if let Some(place) = repeats::earlier(operands, found, members, turn, twin) {
+    if let Some(place) = repeats::earlier(operands, found.all(), members, turn, twin) {
         found.table[operands.limit + turn.place] = found.table[operands.limit + place];
         return Some(());
     }

@@ -7,12 +7,12 @@
 ghost use Rattle.std.specs.Prelude.{◌≡◌, ◌≤◌, false, length};
 ghost use Rattle.rows.specs.Rows.{bit};
 ghost use Rattle.rows.specs.Sums.{row_sum};
-ghost use Rattle.sets.specs.Fits.{ListedFor, Listing, rows_for, Source, Step};
-ghost use Rattle.sets.specs.Operations.{operation_of, is_pairing};
+ghost use Rattle.sets.specs.Fits.{Listed, ListedFor, rows_for, Source, Step};
+ghost use Rattle.sets.specs.Operations.{operation_of, is_pairing, row_width};
 
 use flags::bits;
-use sets::Operation;
 use sets::operands::Operands;
+use sets::{Operation, Shape};
 
 // The first row; its sum.
 pub fn start_row(operands: &Operands, row: &mut [u8]) -> usize
@@ -28,16 +28,17 @@ pub fn start_row(operands: &Operands, row: &mut [u8]) -> usize
 }
 
 // The states of a row, listed; how many there are. A pair's are read where they stand.
-pub fn gather(operands: &Operands, from: &[u8], members: &mut [u16]) -> usize
-    requires source { Source operands.now from.now }
-    requires listing { Listing operands.now members.old }
+pub fn gather(shape: Shape, from: &[u8], members: &mut [u16]) -> usize
+    requires w_value { shape.width ≡ row_width (operation_of shape.op) shape.left shape.right }
+    requires long { length from.now ≡ shape.width }
+    requires listing { (shape.left ≤ length members.old) × (shape.right ≤ length members.old) × (length members.old ≤ 65536) }
     ensures within { result ≤ length members.new }
-    ensures listed { ListedFor operands.now from.now result members.new }
+    ensures listed { Listed (operation_of shape.op) shape.left shape.right from.now result members.new }
 {
-    match operands.op {
+    match shape.op {
         Operation::Either | Operation::Both | Operation::Without => 0,
         Operation::Join => bits::gather(&from[2..], members),
-        Operation::Star | Operation::Erase => bits::gather(&from[..operands.left.states], members),
+        Operation::Star | Operation::Erase => bits::gather(&from[..shape.left], members),
     }
 }
 

@@ -8,6 +8,7 @@ ghost use Rattle.turns.specs.Exploring.{Explores, Answers};
 use repeats::{Turn, columns};
 use rows::chains;
 use rows::chains::Found;
+use sets::Shape;
 use sets::operands::Operands;
 
 // All sets that are reached, each once, with their transitions and flags: how many there are, or none where they are more than the limit.
@@ -32,6 +33,12 @@ pub fn explore(
         count: 0,
     };
     found.push(operands.width, &row[..], chains::hash(sum));
+    let shape = Shape {
+        op: operands.op,
+        left: operands.left.states,
+        right: operands.right.states,
+        width: operands.width,
+    };
     let mut turn = Turn {
         state: 0,
         column: 0,
@@ -40,7 +47,7 @@ pub fn explore(
     let mut held = 0;
     // Stays: a queue, its end moves while it is read.
     while turn.state < found.count {
-        held = readings::list(operands, &found, turn, held, members);
+        held = readings::list(shape, found.all(), turn, held, members);
         let twin = columns::twin(&twins, turn.column);
         advance::advance(operands, &mut found, row, &members[..held], turn, twin)?;
         turn = turn.next(operands.left.columns);

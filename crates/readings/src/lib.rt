@@ -5,32 +5,29 @@
 ghost use Rattle.std.specs.Prelude.{◌≡◌, ◌+◌, ◌*◌, ◌<◌, ◌≤◌, length};
 ghost use Rattle.rows.specs.Found.{Kept};
 ghost use Rattle.rows.specs.Rows.{row_at};
-ghost use Rattle.sets.specs.Fits.{ListedFor, Listing, rows_for, RowFits};
-ghost use Rattle.sets.specs.Operations.{operation_of};
+ghost use Rattle.sets.specs.Fits.{Listed, rows_for};
+ghost use Rattle.sets.specs.Operations.{operation_of, row_width};
 ghost use Rattle.readings.specs.Flagged.{Flagging, Flagged};
 
 use repeats::Turn;
 use rows::chains::Found;
+use sets::Shape;
 use sets::operands::Operands;
 
 // The states of the turn's row, listed, where they are not listed yet for an earlier column; how many there are.
-pub fn list(
-    operands: &Operands,
-    found: &Found,
-    turn: Turn,
-    held: usize,
-    members: &mut [u16],
-) -> usize
-    requires w_in_bounds { (turn.state * operands.now.width + operands.now.width ≤ length found.now.rows.now) × RowFits (operation_of operands.now.op) operands.now.left.states operands.now.right.states (row_at operands.now.width turn.state found.now.rows.now) }
-    requires listing { Listing operands.now members.old }
-    requires listed { 0 < turn.column → ListedFor operands.now (row_at operands.now.width turn.state found.now.rows.now) held members.old }
+pub fn list(shape: Shape, rows: &[u8], turn: Turn, held: usize, members: &mut [u16]) -> usize
+    requires w_value { shape.width ≡ row_width (operation_of shape.op) shape.left shape.right }
+    requires w_in_bounds { turn.state * shape.width + shape.width ≤ length rows.now }
+    requires listing { (shape.left ≤ length members.old) × (shape.right ≤ length members.old) × (length members.old ≤ 65536) }
+    requires listed { 0 < turn.column → Listed (operation_of shape.op) shape.left shape.right (row_at shape.width turn.state rows.now) held members.old }
     ensures within { held ≤ length members.old → result ≤ length members.new }
-    ensures listed { ListedFor operands.now (row_at operands.now.width turn.state found.now.rows.now) result members.new }
+    ensures listed { Listed (operation_of shape.op) shape.left shape.right (row_at shape.width turn.state rows.now) result members.new }
 {
     if 0 < turn.column {
         return held;
     }
-    dispatch::gather(operands, found.row(operands.width, turn.state), members)
+    let at = turn.state * shape.width;
+    dispatch::gather(shape, &rows[at..at + shape.width], members)
 }
 
 // Lays out the flags of the rows.

@@ -10,7 +10,6 @@ ghost use Rattle.repeats.specs.Repeats.{Asking, Repeats};
 ghost use Rattle.repeats.specs.Order.{Follows};
 ghost use Rattle.repeats.specs.Twins.{Twins};
 
-use rows::chains::Found;
 use sets::Operation;
 use sets::operands::Operands;
 
@@ -57,14 +56,14 @@ fn erases(operands: &Operands, state: usize, column: usize) -> bool
 // row; the column before, where the row's states lead alike.
 pub fn earlier(
     operands: &Operands,
-    found: &Found,
+    rows: &[u8],
     members: &[u16],
     turn: Turn,
     twin: Option<usize>,
 ) -> Option<usize>
-    requires asking { Asking operands.now found.now.rows.now (length members.now) members.now turn.state turn.column turn.place }
+    requires asking { Asking operands.now rows.now (length members.now) members.now turn.state turn.column turn.place }
     requires twins { (d : ℕ) → twin ≡ Some d → (d < turn.column) × Twins operands.now d turn.column }
-    ensures { IfSome result (λ r. (r < turn.place) × Repeats operands.now found.now.rows.now turn.state turn.column r) }
+    ensures { IfSome result (λ r. (r < turn.place) × Repeats operands.now rows.now turn.state turn.column r) }
 {
     if let Some(twin) = twin {
         return Some(turn.place - (turn.column - twin));
@@ -75,12 +74,9 @@ pub fn earlier(
     if turn.column == 0 {
         return None;
     }
-    if before::same(
-        operands,
-        turn.column,
-        found.row(operands.width, turn.state),
-        members,
-    ) {
+    let at = turn.state * operands.width;
+    let row = &rows[at..at + operands.width];
+    if before::same(operands, turn.column, row, members) {
         return Some(turn.place - 1);
     }
     None

@@ -52,6 +52,13 @@ pub struct Found<'a> {
 }
 
 impl<'a> Found<'a> {
+    // The bytes of all rows, and what lies behind them.
+    pub fn all(&self) -> &[u8]
+        ensures { result.now ≡ self.now.rows.now }
+    {
+        &self.rows[..]
+    }
+
     // The i-th row of w bytes.
     pub fn row(&self, w: usize, i: usize) -> &[u8]
         requires { i * w + w ≤ length self.now.rows.now }

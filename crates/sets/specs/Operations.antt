@@ -81,6 +81,15 @@ operation_of Join = concatenation
 operation_of Star = star
 operation_of Erase = erase
 
+-- by their numbers: 0 `|`, 1 `&`, 2 `-`, 3 concatenation, 4 star, 5 and above erase
+abbrev pub numbered : ℕ → Code
+numbered zero = Either
+numbered (suc zero) = Both
+numbered (suc (suc zero)) = Without
+numbered (suc (suc (suc zero))) = Join
+numbered (suc (suc (suc (suc zero)))) = Star
+numbered (suc (suc (suc (suc (suc x))))) = Erase
+
 -- how many machines an operation is of
 abbrev pub operands_of : Code → ℕ
 operands_of Either = 2

@@ -22,11 +22,15 @@ loop-turn-init c =
 
 pub list-held-requires-clause-w_in_bounds : goal.list-held-requires-clause-w_in_bounds
 list-held-requires-clause-w_in_bounds c =
-    let a = c.args in let l = c.loop-turn in run_source a.operands.now l.found l.row l.turn l.invariant.0 c.loop-turn-test.true
+    let a = c.args in let l = c.loop-turn in rw c.all.ensures ((run_source a.operands.now l.found l.row l.turn l.invariant.0 c.loop-turn-test.true).0)
+
+pub list-held-requires-clause-listed : goal.list-held-requires-clause-listed
+list-held-requires-clause-listed c =
+    rw c.all.ensures c.loop-turn.invariant.4
 
 pub advance-requires-clause-listed : goal.advance-requires-clause-listed
 advance-requires-clause-listed c =
-    listed_taken _ _ _ _ _ _ c.list-held.ensures.listed
+    listed_taken _ _ _ _ _ _ (rw c.all.ensures at c.list-held.ensures.listed)
 
 pub advance-requires-clause-twins : goal.advance-requires-clause-twins
 advance-requires-clause-twins c =
@@ -42,7 +46,7 @@ loop-turn-preserved c =
       (k.0 ∙ i.0, k.1 ∙ i.1, k.2 ∙ i.2, k.3 ∙ i.3),
       ◌∙◌ {b = length l.row} c.advance.auto.row l.invariant.2,
       ◌∙◌ {b = length l.members} c.list-held.auto.members l.invariant.3,
-      run_listed a.operands.now l.found l.row l.turn l.invariant.0 c.loop-turn-test.true c.next-turn.result c.next-turn.ensures c.advance.new.found c.advance.ensures.row c.list-held.result c.list-held.new.members c.list-held.ensures.listed,
+      run_listed a.operands.now l.found l.row l.turn l.invariant.0 c.loop-turn-test.true c.next-turn.result c.next-turn.ensures c.advance.new.found c.advance.ensures.row c.list-held.result c.list-held.new.members (rw c.all.ensures at c.list-held.ensures.listed),
       c.list-held.ensures.within l.invariant.5,
     )
 

@@ -1,9 +1,14 @@
 -- `list` meets its contract.
-use Rattle.rows.proofs.RowLaws.{row_length}
+use Rattle.std.proofs.Common.{◌∙◌, ap}
+use lib.ListN.{length}
+use Rattle.rows.proofs.RowLaws.{row_part, row_length}
 use Rattle.readings.proofs.list.Goals as goal
 
-pub gather-requires : goal.gather-requires
-gather-requires c =
+pub gather-requires-clause-long : goal.gather-requires-clause-long
+gather-requires-clause-long c =
     let a = c.args in
-    let r = c.requires.w_in_bounds in
-    record { source = rw c.row.ensures (record { long = row_length a.operands.now.width a.turn.state a.found.now.rows.now r.0; fits = r.1 }); listing = c.requires.listing }
+    ap length (row_part a.shape.width a.turn.state a.rows.now) ∙ row_length a.shape.width a.turn.state a.rows.now c.requires.w_in_bounds
+
+pub returns-clause-listed : goal.returns-clause-listed
+returns-clause-listed c =
+    let a = c.args in rw (row_part a.shape.width a.turn.state a.rows.now) at c.gather.ensures.listed
