@@ -98,7 +98,7 @@ fn rounds(
         if parts == count {
             return true;
         }
-        classes.copy_from_slice(next);
+        octets::copy(classes, next);
         count = parts;
     }
     false

@@ -30,7 +30,7 @@ pub fn put_row(out: &mut [u8], pos: usize, row: &[u8]) -> usize
     ensures { Row out.old pos row.now out.new result }
 {
     let end = pos + row.len();
-    out[pos..end].copy_from_slice(row);
+    octets::copy(&mut out[pos..end], row);
     end
 }
 

@@ -27,7 +27,7 @@ fn copy(from: &[u8], to: &mut [u8], at: usize)
     requires at_in_bounds { at + 3362 ≤ length to.old }
     ensures { Written to.old to.new at 3362 (λ i. get_or from.now i 0) }
 {
-    to[at..at + SLOT].copy_from_slice(&from[..SLOT]);
+    octets::copy(&mut to[at..at + SLOT], &from[..SLOT]);
 }
 
 // Keeps the machine in front of the buffer as that of the name.

@@ -1,4 +1,4 @@
-// Bytes as they are read on either side, the compiler's and the board's: the first place of a byte, and numbers of two bytes.
+// Bytes as they are read on either side, the compiler's and the board's: the first place of a byte, and numbers of two bytes; and a copy, of items of any type.
 #![tactic(auto)]
 
 pub mod number;
@@ -19,4 +19,16 @@ pub fn place_from(bytes: &[u8], from: usize, byte: u8) -> usize
     ensures { result ≡ from + find nat_test byte (drop from bytes.now) }
 {
     from + place(&bytes[from..], byte)
+}
+
+// The items of one slice, copied to another one as long.
+// Stays: the library's `copy_from_slice` is a `memmove` in machine code, wherever LLVM doesn't see that the two are apart, and the archive for C would need
+// that name from outside.
+pub fn copy<T: Copy>(to: &mut [T], from: &[T])
+    requires { length to.old ≡ length from.now }
+    ensures { to.new ≡ from.now }
+{
+    for i in 0..from.len() {
+        to[i] = from[i];
+    }
 }

@@ -22,7 +22,7 @@ pub fn copy(src: &[u8], from: usize, dst: &mut [u8], to: usize, most: usize, k: 
     ensures { Written dst.old dst.new to (fills most k (drop from src.now)) (λ i. get_or src.now (from + i) 0) }
 {
     let len = filled(src, from, most, k);
-    dst[to..to + len].copy_from_slice(&src[from..from + len]);
+    octets::copy(&mut dst[to..to + len], &src[from..from + len]);
 }
 
 // The slot that begins at a place, in the next one too; slots are `size` bytes long.
@@ -33,5 +33,5 @@ pub fn raise(s: &mut [u8], at: usize, size: usize, most: usize, k: usize)
 {
     let len = filled(&s[..], at, most, k);
     let (below, above) = s.split_at_mut(at + size);
-    above[..len].copy_from_slice(&below[at..at + len]);
+    octets::copy(&mut above[..len], &below[at..at + len]);
 }

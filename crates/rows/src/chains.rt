@@ -31,7 +31,7 @@ impl<'a> Row for &'a [u8] {
     }
 
     fn put(self, row: &mut [u8]) {
-        row.copy_from_slice(self);
+        octets::copy(row, self);
     }
 }
 

@@ -31,5 +31,5 @@ pub fn put_letters(letters: &[u8], card: &mut [u8])
     requires { 12 + length letters.now ≤ length card.old }
     ensures { Laid 12 (12 + length letters.now) letters.now card.old card.new }
 {
-    card[12..12 + letters.len()].copy_from_slice(letters);
+    octets::copy(&mut card[12..12 + letters.len()], letters);
 }

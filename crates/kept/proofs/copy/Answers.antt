@@ -2,8 +2,8 @@ use Rattle.std.proofs.Common.{◌≡◌, ℕ, ◌+◌, ◌-◌, ◌≤◌, get_o
 use Rattle.slots.specs.Aside.{part_copied}
 use Rattle.kept.proofs.copy.Goals as goal
 
-pub copy_from_slice-requires : goal.copy_from_slice-requires
-copy_from_slice-requires c =
+pub copy-requires : goal.copy-requires
+copy-requires c =
     let a = c.args in
     let n : 3362 ≤ length (drop a.at a.to.now) = omega (arith, length-drop a.at a.to.now) in
     let e : a.at + 3362 - a.at ≡ 3362 = omega arith in
@@ -12,7 +12,7 @@ copy_from_slice-requires c =
 pub returns : goal.returns
 returns c =
     let a = c.args in
-    let W = part_copied a.at (a.at + 3362) a.to.now c.copy_from_slice.new.self a.from.now 0 3362 0 3362 c.copy_from_slice.ensures.after refl refl refl c.requires.at_in_bounds c.requires.in_bounds in
+    let W = part_copied a.at (a.at + 3362) a.to.now c.copy.new.to a.from.now 0 3362 0 3362 c.copy.ensures refl refl refl c.requires.at_in_bounds c.requires.in_bounds in
     record { long = W.long; here = λ i h. W.here i h ∙ ap (λ j. get_or a.from.now j 0) (zero_add i); there = W.there }
   where
     zero_add : (i : ℕ) → 0 + i ≡ i

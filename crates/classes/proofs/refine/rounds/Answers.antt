@@ -10,7 +10,7 @@ returns-then-parts-count c =
 pub loop-preserved : goal.loop-preserved
 loop-preserved c = (
   omega (arith, c.loop.invariant.0, refine_grows _ _ _ _ _ c.loop.invariant.1 c.round-parts.ensures c.if-parts-count.false),
-  rw c.copy_from_slice.ensures.after (refine_turns _ _ _ _ _ c.loop.invariant.1 c.round-parts.ensures),
+  rw c.copy.ensures (refine_turns _ _ _ _ _ c.loop.invariant.1 c.round-parts.ensures),
 )
 
 pub returns : goal.returns
