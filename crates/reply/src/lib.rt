@@ -12,6 +12,8 @@ pub const LONGEST: usize = 32;
 
 // A word, a number and the line's end, from the place `at` on. The next place.
 // Stays: a format promises its text only of a write that gives Ok, and a line that has room is always written.
+// Within its caller the word's length is known, so that it is put by a few moves and no call.
+#[inline(always)]
 fn numbered(out: &mut [u8], at: usize, word: &[u8], number: usize) -> usize
     requires { at + (length word.now + 21) ≤ length out.old }
     ensures { PutNumbered out.old at word.now number out.new result }
