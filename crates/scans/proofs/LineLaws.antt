@@ -132,6 +132,16 @@ module _ (s : List ℕ) (i k : ℕ) (h : i < length s) (q : k ≡ kind_of (get_o
   pub rises_on : (low : ℕ) → k ≡ letter_kind → low < get_or s i 0 → rising (get_or s i 0) (drop (i + 1) s) ≡ rising low (drop i s)
   rises_on low e l = rw (front s i h, kind_is letter_kind e, lt-ltb low (get_or s i 0) l)
 
+-- a byte is passed: `(` is one more there and not too deep, `)` one more there, and nothing else counts
+pub along_next : (s : List ℕ) (i o c o' c' : ℕ) → i < length s → Along s i o c
+    → (get_or s i 0 ≡ 40 → o' ≡ o + 1) → (get_or s i 0 ≡ 40 → o' ≤ c + 4) → ((get_or s i 0 ≡ 40 → ⊥) → o' ≡ o) → (get_or s i 0 ≡ 41 → c' ≡ c + 1) → ((get_or s i 0 ≡ 41 → ⊥) → c' ≡ c) → Along s (i + 1) o' c'
+along_next s i o c o' c' h v p few q r t = go (same_cases nat_test (get_or s i 0) 40) (same_cases nat_test (get_or s i 0) 41)
+  where
+    go : SameCases nat_test (get_or s i 0) 40 → SameCases nat_test (get_or s i 0) 41 → Along s (i + 1) o' c'
+    go (inl x) y = rw (p x.0, t (λ z. omega (arith, x.0, z))) (along_open s i _ h refl v (ap kind_of x.0) (omega (arith, few x.0, p x.0)))
+    go (inr x) (inl y) = rw (q x.0, r y.0) (along_close s i _ h refl v (ap kind_of y.0))
+    go (inr x) (inr y) = rw (q x.0, t y.0) (along_other s i _ h refl v (λ e. x.0 (sign_only _ 2 e)) (λ e. y.0 (sign_only _ 10 e)))
+
 pub shallow : {s : List ℕ} {i o c : ℕ} → Along s i o c → length s ≤ i → too_deep 0 0 s ≡ false
 shallow {s} {i} v h = sym v.deep ∙ rw (drop_of_length-le s {i = i} h)
 

@@ -1,19 +1,36 @@
--- `scans::tests::line_test` meets its contract: each answer is one test.
-use Rattle.std.proofs.Common.{sym, ap, ◌∙◌, arith}
+-- `scans::tests::line_test` meets its contract: along the line, what is left decides as the whole, and so many `_` were passed; each answer is one test.
+use Rattle.std.proofs.Common.{refl, ap, ◌∙◌, arith}
+use Rattle.std.proofs.lemmas.Grind.{common_steps}
+use lib.Seq.{take_all}
 use Rattle.automata.specs.Booleans.{choose}
-use Rattle.scans.proofs.LineLaws.{gaps_counted, test_deep, test_contexts, test_end}
+use Rattle.book.specs.Kind.{kind_of}
+use Rattle.scans.proofs.LineLaws.{along_start, along_over, along_next, shallow, gaps_counted, test_deep, test_contexts, test_end}
 use Rattle.scans.proofs.tests.line_test.Goals as goal
 
-pub returns-then-is_deep : goal.returns-then-is_deep
-returns-then-is_deep c = test_deep _ _ (sym c.is_deep.ensures ∙ c.if-is_deep.true)
+pub loop-b-init : goal.loop-b-init
+loop-b-init c = record { along = along_start _; passed = refl }
+
+pub loop-b-preserved : goal.loop-b-preserved
+loop-b-preserved c =
+    record {
+      along = along_next _ _ _ _ _ _ c.loop-b-test.true c.loop-b.invariant.along (λ e. grind arith) (λ e. grind arith) (λ e. grind arith) (λ e. grind arith) (λ e. grind arith);
+      passed = grind (arith, common_steps);
+    }
+
+pub returns-then-closes-opens : goal.returns-then-closes-opens
+returns-then-closes-opens c = test_deep _ _ (along_over _ _ _ (omega arith) refl c.loop-b.invariant.along (ap kind_of c.if-b-eq40.true) (omega arith))
 
 pub returns-then-gaps-gt4 : goal.returns-then-gaps-gt4
-returns-then-gaps-gt4 c = test_contexts _ _ (sym c.is_deep.ensures ∙ c.if-is_deep.false) (omega (arith, gaps_counted c.args.line.now, c.gaps.ensures))
+returns-then-gaps-gt4 c =
+    let all = take_all c.loop-b.b-index c.args.line.now (omega arith) in
+    test_contexts _ _ (shallow c.loop-b.invariant.along (omega arith)) (omega (arith, gaps_counted c.args.line.now, rw all at c.loop-b.invariant.passed))
 
 pub returns-then-ended : goal.returns-then-ended
 returns-then-ended c =
-    test_end _ _ (sym c.is_deep.ensures ∙ c.if-is_deep.false) (omega (arith, gaps_counted c.args.line.now, c.gaps.ensures)) ∙ ap (λ t. choose t (λ _. 0) (λ _. 5)) c.if-ended.true
+    let all = take_all c.loop-b.b-index c.args.line.now (omega arith) in
+    test_end _ _ (shallow c.loop-b.invariant.along (omega arith)) (omega (arith, gaps_counted c.args.line.now, rw all at c.loop-b.invariant.passed)) ∙ ap (λ t. choose t (λ _. 0) (λ _. 5)) c.if-ended.true
 
 pub returns-else-ended : goal.returns-else-ended
 returns-else-ended c =
-    test_end _ _ (sym c.is_deep.ensures ∙ c.if-is_deep.false) (omega (arith, gaps_counted c.args.line.now, c.gaps.ensures)) ∙ ap (λ t. choose t (λ _. 0) (λ _. 5)) c.if-ended.false
+    let all = take_all c.loop-b.b-index c.args.line.now (omega arith) in
+    test_end _ _ (shallow c.loop-b.invariant.along (omega arith)) (omega (arith, gaps_counted c.args.line.now, rw all at c.loop-b.invariant.passed)) ∙ ap (λ t. choose t (λ _. 0) (λ _. 5)) c.if-ended.false
