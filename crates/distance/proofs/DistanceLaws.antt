@@ -61,6 +61,9 @@ module _ (top : ℕ) (f : ℕ → ℕ) where
   pub near_zero : (m c : ℕ) → c < m → f c ≡ 0 → 0 < top → Nearest top f m 0
   near_zero m c h e z = record { most = z; low = λ j b. zero-le; met = inr (c, h, e) }
 
+  pub near_done : (m c r : ℕ) → c ≡ m → Nearest top f c r → Nearest top f m r
+  near_done m c r e u = rw e at u
+
 -- ---- the number of one state is lowered
 
 module _ (top n k : ℕ) (key : ℕ → ℕ) (step : ℕ → ℕ → ℕ) (far far' : ℕ → ℕ) (p x : ℕ)
@@ -105,6 +108,9 @@ module _ (k : ℕ) (key : ℕ → ℕ) (step : ℕ → ℕ → ℕ) (far : ℕ �
       go : (q c : ℕ) → q < p + 1 → c < k → LtCases q p → far q ≤ suc (after key step far q c)
       go q c b v (inl y) = L.near q c y.0 v
       go q c b v (inr y) = let e : q ≡ p = omega arith in rw e (h c v)
+
+  pub closed_done : (m n : ℕ) → n ≤ m → Closed k key step far m → Closed k key step far n
+  closed_done m n h L = record { near = λ p c b v. L.near p c (omega arith) v }
 
 -- ---- equivalent states have the same number
 
