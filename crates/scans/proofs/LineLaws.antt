@@ -13,6 +13,7 @@ use lib.Seq.{drop-cons, take_all}
 use Rattle.std.proofs.Common.{length-drop}
 use Rattle.std.specs.Prelude.{count_by, cond, ◌==◌}
 use Rattle.std.proofs.lemmas.List.Recursion.{is_count_by}
+use Rattle.std.proofs.lemmas.List.Sums.{count_by_more_yes, count_by_more_no}
 use Rattle.automata.specs.Booleans.{choose}
 use Rattle.automata.specs.Basics.{LtCases, lt_cases, SameCases, nat_test, same_cases, find}
 use Rattle.octets.proofs.PlaceLaws.{place_within, place_before, place_found}
@@ -155,6 +156,14 @@ gap_step b s = go (same_cases nat_test b 95)
 
 pub gaps_counted : (s : List ℕ) → count_of underscore_kind s ≡ count_by (λ b. b == 95) s
 gaps_counted s = is_count_by (count_of underscore_kind) (λ b. b == 95) refl gap_step s
+
+-- a byte is passed: `_` is one more there, and nothing else counts
+pub gaps_next : (s : List ℕ) (i n n' : ℕ) → i < length s → n ≡ count_by (λ b. b == 95) (take i s) → (get_or s i 0 ≡ 95 → n' ≡ n + 1) → ((get_or s i 0 ≡ 95 → ⊥) → n' ≡ n) → n' ≡ count_by (λ b. b == 95) (take (i + 1) s)
+gaps_next s i n n' h v p q = go (same_cases nat_test (get_or s i 0) 95)
+  where
+    go : SameCases nat_test (get_or s i 0) 95 → n' ≡ count_by (λ b. b == 95) (take (i + 1) s)
+    go (inl x) = p x.0 ∙ ap (λ k. k + 1) v ∙ sym (count_by_more_yes (λ b. b == 95) s i 0 h x.1)
+    go (inr x) = q x.0 ∙ v ∙ sym (count_by_more_no (λ b. b == 95) s i 0 h x.1)
 
 pub rises_end : (s : List ℕ) (i low : ℕ) → length s ≤ i → rising low (drop i s) ≡ true
 rises_end s i low h = rw (drop_of_length-le s {i = i} h)

@@ -1,10 +1,9 @@
 -- `scans::tests::line_test` meets its contract: along the line, what is left decides as the whole, and so many `_` were passed; each answer is one test.
 use Rattle.std.proofs.Common.{refl, ap, ◌∙◌, arith}
-use Rattle.std.proofs.lemmas.Grind.{common_steps}
 use lib.Seq.{take_all}
 use Rattle.automata.specs.Booleans.{choose}
 use Rattle.book.specs.Kind.{kind_of}
-use Rattle.scans.proofs.LineLaws.{along_start, along_over, along_next, shallow, gaps_counted, test_deep, test_contexts, test_end}
+use Rattle.scans.proofs.LineLaws.{along_start, along_over, along_next, shallow, gaps_next, gaps_counted, test_deep, test_contexts, test_end}
 use Rattle.scans.proofs.tests.line_test.Goals as goal
 
 pub loop-b-init : goal.loop-b-init
@@ -14,7 +13,7 @@ pub loop-b-preserved : goal.loop-b-preserved
 loop-b-preserved c =
     record {
       along = along_next _ _ _ _ _ _ c.loop-b-test.true c.loop-b.invariant.along (λ e. grind arith) (λ e. grind arith) (λ e. grind arith) (λ e. grind arith) (λ e. grind arith);
-      passed = grind (arith, common_steps);
+      passed = gaps_next _ _ _ _ c.loop-b-test.true c.loop-b.invariant.passed (λ e. grind arith) (λ e. grind arith);
     }
 
 pub returns-then-closes-opens : goal.returns-then-closes-opens
