@@ -66,7 +66,18 @@ fn put_digit(out: &mut [u8], at: usize, digit: u8) -> usize
     at + 1
 }
 
+// A number in decimal digits, whatever it is. A call of its own, so that a number of one digit, which most are, costs none.
+#[inline(never)]
+fn put_digits(out: &mut [u8], at: usize, number: usize) -> usize
+    requires { at + 20 ≤ length out.old }
+    ensures { PutNumber out.old at number out.new result }
+{
+    let mut digits = itoa::Buffer::new();
+    put(out, at, digits.format(number).as_bytes())
+}
+
 // A number in decimal digits. Most have one.
+#[inline(always)]
 pub fn put_number(out: &mut [u8], at: usize, number: usize) -> usize
     requires { at + 20 ≤ length out.old }
     ensures { PutNumber out.old at number out.new result }
@@ -74,6 +85,5 @@ pub fn put_number(out: &mut [u8], at: usize, number: usize) -> usize
     if number < 10 {
         return put_digit(out, at, number as u8);
     }
-    let mut digits = itoa::Buffer::new();
-    put(out, at, digits.format(number).as_bytes())
+    put_digits(out, at, number)
 }

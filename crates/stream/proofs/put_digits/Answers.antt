@@ -1,8 +1,8 @@
--- `stream::put_number` meets its contract: the library's digits.
+-- `stream::put_digits` meets its contract: the library's digits.
 use Rattle.std.proofs.Common.{◌≡◌, arith}
 use Rattle.std.specs.Fmt as F
 use Rattle.stream.proofs.DigitLaws.{few_of, number_put}
-use Rattle.stream.proofs.put_number.Goals as goal
+use Rattle.stream.proofs.put_digits.Goals as goal
 
 pub put-requires : goal.put-requires
 put-requires c = omega (arith, few_of _ _ c.format.ensures.text (omega (arith, c.ranges.number.fits)), c.requires)
