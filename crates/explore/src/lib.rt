@@ -24,7 +24,7 @@ pub fn explore(
     ensures { Answers (rows_for operands.now) operands.now.left.columns operands.now.width operands.now.limit rows.new table.new result }
 {
     let mut twins = [None; 64];
-    columns::twins(operands, &mut twins);
+    columns::byte_twins(operands, &mut twins);
     let sum = dispatch::start_row(operands, row);
     let mut found = Found {
         rows,
@@ -48,7 +48,7 @@ pub fn explore(
     // Stays: a queue, its end moves while it is read.
     while turn.state < found.count {
         held = readings::list(shape, found.all(), turn, held, members);
-        let twin = columns::twin(&twins, turn.column);
+        let twin = columns::byte_twin(&twins, turn.column);
         advance::advance(operands, &mut found, row, &members[..held], turn, twin)?;
         turn = turn.next(operands.left.columns);
     }

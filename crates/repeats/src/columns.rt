@@ -33,7 +33,26 @@ fn first(operands: &Operands, c: usize) -> Option<u8>
 }
 
 // Of each of the first 64 columns the first one before it that is as it. The table is filled where it stands.
-pub fn twins(operands: &Operands, table: &mut [Option<u8>; 64])
+pub fn twins(operands: &Operands, table: &mut [Option<usize>; 64])
+    requires table_value { table.old ≡ replicate 64 None }
+    ensures { TwinTable operands.now table.new }
+{
+    let mut known = [None; 64];
+    byte_twins(operands, &mut known);
+    for c in 0..64 {
+        table[c] = byte_twin(&known, c);
+    }
+}
+
+// The twin of column c, where one is known.
+pub fn twin(table: &[Option<usize>; 64], c: usize) -> Option<usize>
+    ensures { IfSome result (λ d. (c < 64) × (slice_index_or table.now c None ≡ Some d)) }
+{
+    *table.get(c)?
+}
+
+// The same table in bytes: a column below 64 fits one, and a stage has an eighth of the place to clear.
+pub fn byte_twins(operands: &Operands, table: &mut [Option<u8>; 64])
     requires table_value { table.old ≡ replicate 64 None }
     ensures { TwinTable operands.now table.new }
 {
@@ -42,10 +61,49 @@ pub fn twins(operands: &Operands, table: &mut [Option<u8>; 64])
     }
 }
 
-// The twin of column c, where one is known.
-pub fn twin(table: &[Option<u8>; 64], c: usize) -> Option<usize>
+// The twin of column c in a table of bytes, where one is known.
+pub fn byte_twin(table: &[Option<u8>; 64], c: usize) -> Option<usize>
     ensures { IfSome result (λ d. (c < 64) × (slice_index_or table.now c None ≡ Some d)) }
 {
     let d = (*table.get(c)?)?;
     Some(d as usize)
+}
+
+#[cfg(test)]
+mod tests {
+    use super::*;
+    use sets::Operation;
+
+    // Columns 0 and 2 lead both states to the same places, column 1 does not, and the last, which does too, is left alone.
+    #[test]
+    fn twins_are_known(rt: HostRuntime) {
+        let cells = [0u16, 1, 1, 0, 1, 1, 0, 1, 0, 0];
+        let machine = Table {
+            cells: &cells,
+            base: 2,
+            states: 2,
+            columns: 4,
+        };
+        let operands = Operands {
+            op: Operation::Star,
+            left: machine,
+            right: machine,
+            width: 3,
+            limit: 8,
+        };
+        let mut table = [None; 64];
+        twins(&operands, &mut table);
+        for (c, want) in [
+            (0, None),
+            (1, None),
+            (2, Some(0)),
+            (3, None),
+            (63, None),
+            (64, None),
+        ] {
+            assert_eq!(rt; twin(&table, c), want, "at {c}");
+        }
+        table[1] = Some(300);
+        assert_eq!(rt; twin(&table, 1), Some(300));
+    }
 }

@@ -34,7 +34,7 @@ advance-requires-clause-listed c =
 
 pub advance-requires-clause-twins : goal.advance-requires-clause-twins
 advance-requires-clause-twins c =
-    λ d e. let t = rw e at c.twin-twin.ensures in c.twins.ensures.twin c.loop-turn.turn.column d t.0 t.1
+    λ d e. let t = rw e at c.byte_twin-twin.ensures in c.byte_twins.ensures.twin c.loop-turn.turn.column d t.0 t.1
 
 pub loop-turn-preserved : goal.loop-turn-preserved
 loop-turn-preserved c =
